@@ -1,0 +1,22 @@
+use mathlib.Core.Path.{refl, ap, sym}
+use lib.IntN.{ℤ}
+use mir.Facts.{toZ-ofZ}
+use borrow.Author.Needs.{needs}
+use Rattle.bits.specs.Programs.{Out}
+use Rattle.bits.proofs.Codes.{code-fits}
+use Rattle.bits.proofs.reader.Reader.has_start_code.Statement.{statement}
+use Rattle.bits.proofs.reader.Reader.has_start_code.Tie as tie
+
+find-start-code-requires : tie.Need-find-start-code-requires
+find-start-code-requires c κs = search needs
+
+returns : tie.Need-returns
+returns c =
+    let x = c .before in
+    let small = x .find-start-code .ensures .1 .1 in
+    let runs = rw (toZ-ofZ (x .before .before .fits .code)) at (x .find-start-code .ensures .0) in
+    rw (toZ-ofZ (code-fits (x .find-start-code .result .code) small))
+    ((sym (ap (λ (o : Out ℤ). o .value) (runs .is)), refl), small)
+
+pub has-start-code-spec : {M : Type 1} → statement M
+has-start-code-spec = tie.close (tie.spec find-start-code-requires returns)

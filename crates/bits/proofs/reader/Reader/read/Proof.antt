@@ -1,0 +1,85 @@
+use mathlib.Core.Path.{sym, _∙_}
+use native.Mathlib.Omega.{arith}
+use lib.Pow.{pow-pos}
+use denote.Ref.{now}
+use borrow.Author.Tests.{le-leb, lt-leb}
+use Rattle.bits.proofs.Bits.{bits-lt, cut-le, window-bits, window-below}
+use Rattle.bits.proofs.Programs.{served-got, served-next, refused-got, refused-next}
+use Rattle.bits.proofs.Rules.{is-bits, r-done, r-yes, r-no}
+use borrow.Author.Needs.{needs}
+use Rattle.bits.proofs.reader.Reader.read.Statement.{statement}
+use Rattle.bits.proofs.reader.Reader.read.Tie as tie
+
+returns : tie.Need-returns
+returns c =
+    (r-no _ (lt-leb _ _ (c .if1 .taken)) r-done, (pow-pos (c .before .before .args .count), omega arith))
+
+add-to : tie.Need-add-to
+add-to c = search needs
+
+mul-if2 : tie.Need-mul-if2
+mul-if2 c = search needs
+
+returns-2 : tie.Need-returns-2
+returns-2 c =
+    let a = c .before .before .before .args in
+    let past = c .if2 .taken in (
+      r-yes _ (le-leb _ _ (c .before .if1 .left)) (is-bits (sym (refused-got (now (a .s)) (a .self .at .0) (a .count) past)) (sym (refused-next (now (a .s)) (a .self .at .0) (a .count) past))),
+      (pow-pos (a .count), omega arith),
+    )
+
+window-requires : tie.Need-window-requires
+window-requires c κs = search needs
+
+sub-w : tie.Need-sub-w
+sub-w c = search needs
+
+sub-w-2 : tie.Need-sub-w-2
+sub-w-2 c = search needs
+
+shr-w : tie.Need-shr-w
+shr-w c = search needs
+
+shr-value : tie.Need-shr-value
+shr-value c = search needs
+
+shl-value : tie.Need-shl-value
+shl-value c = search needs
+
+sub-value : tie.Need-sub-value
+sub-value c = cut-le _ _
+
+cast-t19 : tie.Need-cast-t19
+cast-t19 c =
+    let a = c .before .before .before .before .args in
+    record { fits = window-below (c .window .result) (a .self .at .0) (a .count) (now (a .s)) (c .window .ensures) (c .before .before .if1 .left) }
+
+returns-3 : tie.Need-returns-3
+returns-3 c =
+    let a = c .before .before .before .before .args in
+    let at = a .self .at .0 in
+    let s = now (a .s) in
+    let small = c .before .before .if1 .left in
+    let inside = c .before .if2 .left in
+    let is = window-bits (c .window .result) at (a .count) s (c .window .ensures) small in (
+      r-yes _ (le-leb _ _ small) (is-bits (is ∙ sym (served-got s at (a .count) inside)) (sym (served-next s at (a .count) inside))),
+      (rw is (bits-lt s at (a .count)), omega arith),
+    )
+
+pub read-spec : {M : Type 1} → statement M
+read-spec =
+    tie.close
+    (tie.spec
+    returns
+    add-to
+    mul-if2
+    returns-2
+    window-requires
+    sub-w
+    sub-w-2
+    shr-w
+    shr-value
+    shl-value
+    sub-value
+    cast-t19
+    returns-3)

@@ -1,0 +1,48 @@
+use mathlib.Core.Path.{sym, _∙_}
+use Prim.Native.Nat.{_+_, _*_, _≤_, _<_}
+use native.Mathlib.Omega.{arith}
+use lib.ListN.{length}
+use denote.Ref.{now}
+use Rattle.bits.proofs.Bits.{one-bit}
+use Rattle.bits.proofs.Programs.{served-got, served-next, refused-got, refused-next}
+use Rattle.bits.proofs.Rules.{is-bits}
+use borrow.Author.Needs.{needs}
+use Rattle.bits.proofs.reader.Reader.read_bit.Statement.{statement}
+use Rattle.bits.proofs.reader.Reader.read_bit.Tie as tie
+
+shared-slice-read-bit : tie.Need-shared-slice-read-bit
+shared-slice-read-bit c = search needs
+
+sub-bit : tie.Need-sub-bit
+sub-bit c = search needs
+
+cast-bit : tie.Need-cast-bit
+cast-bit c = search needs
+
+shr-bit : tie.Need-shr-bit
+shr-bit c = search needs
+
+add-t10 : tie.Need-add-t10
+add-t10 c = search needs
+
+cast-t16 : tie.Need-cast-t16
+cast-t16 c = search needs
+
+returns : tie.Need-returns
+returns c =
+    let a = c .before .before .args in
+    let at = a .self .at .0 in
+    let s = now (a .s) in
+    let inside : at + 1 ≤ length s * 8 = omega arith in
+    (is-bits (one-bit s at ∙ sym (served-got s at 1 inside)) (sym (served-next s at 1 inside)), omega arith)
+
+returns-2 : tie.Need-returns-2
+returns-2 c =
+    let a = c .before .args in
+    let past : length (now (a .s)) * 8 < a .self .at .0 + 1 = omega arith in
+    (is-bits (sym (refused-got (now (a .s)) (a .self .at .0) 1 past)) (sym (refused-next (now (a .s)) (a .self .at .0) 1 past)), omega arith)
+
+pub read-bit-spec : {M : Type 1} → statement M
+read-bit-spec =
+    tie.close
+    (tie.spec shared-slice-read-bit sub-bit cast-bit shr-bit add-t10 cast-t16 returns returns-2)

@@ -1,0 +1,105 @@
+-- The syntax of a bitstream as programs over reads: no stream and no place stands in a program, and `run` is the only one to look at a stream.
+use Prim.Native.Nat.{ℕ, zero, suc}
+use mathlib.Core.Bool.{Bool, true, false, cond, not, _&&_, _||_}
+use mathlib.Core.List.{List}
+use lib.Dec.{leb, eqb}
+use lib.IntN.{ℤ, pos, negsuc}
+use Rattle.laws.specs.Turns.{Turn, again, stop}
+use Rattle.bits.specs.Bits.{has, got, next, found}
+
+pub data Prog (A : Type 0) : Type 0 where
+  done : A → Prog A
+  read : ℕ → (ℕ → Prog A) → Prog A  -- n bits: their value, or 0 and no advance where fewer are left
+  skip : ℕ → Prog A → Prog A  -- n bits on, or none where fewer are left
+  look : ℕ → (Bool → ℕ → Prog A) → Prog A  -- are n bits left, and their value, with no advance
+  start : (ℤ → Prog A) → Prog A  -- on to behind the first start code, whose last byte is given; -1 where there is none
+
+-- what a run gives, and the place where it ends
+pub record Out (A : Type 0) : Type 0 where
+  pub value : A
+  pub at : ℕ
+
+-- a program's run on the stream s from the place a on
+unfoldable pub run : {A : Type 0} → Prog A → List ℕ → ℕ → Out A
+run (done x) s a = record { value = x; at = a }
+run (read n k) s a = run (k (got s a n)) s (next s a n)
+run (skip n p) s a = run p s (next s a n)
+run (look n k) s a = run (k (has s a n) (got s a n)) s a
+run (start k) s a = run (k (found s a .code)) s (found s a .at)
+
+-- whether some read or skip of the run was refused bits
+unfoldable pub short : {A : Type 0} → Prog A → List ℕ → ℕ → Bool
+short (done x) s a = false
+short (read n k) s a = not (has s a n) || short (k (got s a n)) s (next s a n)
+short (skip n p) s a = not (has s a n) || short p s (next s a n)
+short (look n k) s a = short (k (has s a n) (got s a n)) s a
+short (start k) s a = short (k (found s a .code)) s (found s a .at)
+
+-- first p, then f of what p gives
+unfoldable pub bind : {A B : Type 0} → Prog A → (A → Prog B) → Prog B
+bind (done x) f = f x
+bind (read n k) f = read n (λ v. bind (k v) f)
+bind (skip n p) f = skip n (bind p f)
+bind (look n k) f = look n (λ h v. bind (k h v) f)
+bind (start k) f = start (λ c. bind (k c) f)
+
+-- do-notation
+infixl 1 _>>=_
+abbrev pub _>>=_ : {A B : Type 0} → Prog A → (A → Prog B) → Prog B
+_>>=_ = bind
+
+infixl 1 _>>_
+abbrev pub _>>_ : {A B : Type 0} → Prog A → Prog B → Prog B
+p >> q = bind p (λ x. q)
+
+infix 2 if_then_else_
+abbrev pub if_then_else_ : {A : Type 0} → Bool → A → A → A
+if t then x else y = cond t x y
+
+-- n bits
+abbrev pub bits : ℕ → Prog ℕ
+bits n = read n done
+
+abbrev pub skips : ℕ → Prog (Unit {0})
+skips n = skip n (done tt)
+
+-- RULES 1.5: a read takes 0 to 32 bits; more are refused, as bits that are not there
+abbrev pub reads : ℕ → Prog ℕ
+reads n = if leb n 32 then bits n else done 0
+
+-- RULES 1.13: are n bits left, and not all 0? The answer is no for more than 32
+abbrev pub nonZero : ℕ → Prog Bool
+nonZero n = if leb n 32 then look n (λ h v. done (h && not (eqb v 0))) else done false
+
+-- RULES 1.9: the next start code
+abbrev pub nextStartCode : Prog ℤ
+nextStartCode = start done
+
+-- a turn goes on by k, or gives what it stopped with
+abbrev pub turn : {S A : Type 0} → (S → Prog A) → Turn S A → Prog A
+turn k (again x) = k x
+turn k (stop v) = done v
+
+-- turns of f until one stops; with its fuel spent it gives d
+unfoldable pub loop : {S A : Type 0} → ℕ → (S → Prog (Turn S A)) → A → S → Prog A
+loop zero f d x = done d
+loop (suc n) f d x = bind (f x) (turn (loop n f d))
+
+-- more turns than the longest stream has bits: 8 × 16,777,216 + 1
+abbrev pub many : ℕ
+many = 134217729
+
+abbrev pub eqZ : ℤ → ℤ → Bool
+eqZ (pos m) (pos n) = eqb m n
+eqZ (pos m) (negsuc n) = false
+eqZ (negsuc m) (pos n) = false
+eqZ (negsuc m) (negsuc n) = eqb m n
+
+-- RULES 1.11: start codes are passed over up to the first that is c; -1 where there is none
+unfoldable pub findTurn : ℤ → Unit {0} → Prog (Turn (Unit {0}) ℤ)
+findTurn c x = do
+  k ← nextStartCode
+  if eqZ k c || eqZ k (negsuc 0) then done (stop k) else done (again tt)
+
+unfoldable pub findStartCode : ℤ → Prog ℤ
+findStartCode c = loop many (findTurn c) (negsuc 0) tt

@@ -1,0 +1,216 @@
+// Places in a stream, and reads of bits there.
+use crate::position::BitPosition;
+use crate::position::BytePosition;
+use crate::position::bit_of;
+use crate::position::byte_of;
+ghost use mathlib.Core.Path.{_≡_};
+ghost use mathlib.Core.Bool.{Bool};
+ghost use Prim.Native.Nat.{_+_, _-_, _*_, _/_, _^_, _≤_, _<_};
+ghost use lib.ListN.{length, getD};
+ghost use lib.Dec.{leb};
+ghost use Rattle.bits.specs.Bits.{bitsAt, has, boundary};
+ghost use Rattle.bits.specs.Programs.{bits, reads, skips, nonZero};
+ghost use Rattle.bits.specs.Runs.{Runs};
+
+// `at` is the Rust's `bit_index`.
+pub struct Reader {
+    pub at: BitPosition,
+}
+
+pub struct ReadBits {
+    pub reader: Reader,
+    pub value: u32,
+}
+
+pub struct Peeked {
+    pub reader: Reader,
+    pub value: bool,
+}
+
+// A byte of the stream.
+fn byte(s: &[u8], i: usize) -> u64
+    requires { ⌜ i < length (now s) ⌝ }
+    ensures { λ r. ⌜ (r ≡ getD (now (s .entry)) i 0) × (r < 256) ⌝ }
+{
+    s[i] as u64
+}
+
+// A byte of the stream, and 0 past its end.
+fn byte_or_0(s: &[u8], i: usize) -> u64
+    ensures { λ r. ⌜ (r ≡ getD (now (s .entry)) i 0) × (r < 256) ⌝ }
+{
+    if i < s.len() { byte(s, i) } else { 0 }
+}
+
+// Five bytes as one number, the first the highest.
+fn five_bytes(a: u64, b: u64, c: u64, d: u64, e: u64) -> u64
+    requires { ⌜ (a < 256) × (b < 256) × (c < 256) × (d < 256) × (e < 256) ⌝ }
+    ensures { λ r. ⌜ r ≡ a * 4294967296 + b * 16777216 + c * 65536 + d * 256 + e ⌝ }
+{
+    a * 4294967296 + b * 16777216 + c * 65536 + d * 256 + e
+}
+
+// The five bytes from b on as one number: 32 bits lie within them, wherever in the first byte they begin.
+fn window(s: &[u8], b: usize) -> u64
+    requires { ⌜ b ≤ 16777216 ⌝ }
+    ensures { λ r. ⌜ r ≡ bitsAt (now (s .entry)) (b * 8) 40 ⌝ }
+{
+    if b + 5 <= s.len() {
+        return five_bytes(
+            byte(s, b),
+            byte(s, b + 1),
+            byte(s, b + 2),
+            byte(s, b + 3),
+            byte(s, b + 4),
+        );
+    }
+    five_bytes(
+        byte_or_0(s, b),
+        byte_or_0(s, b + 1),
+        byte_or_0(s, b + 2),
+        byte_or_0(s, b + 3),
+        byte_or_0(s, b + 4),
+    )
+}
+
+impl Reader {
+    pub fn new() -> Reader
+        ensures { λ r. ⌜ r .at .0 ≡ 0 ⌝ }
+    {
+        Reader { at: BitPosition(0) }
+    }
+
+    // Whether count more bits are there.
+    pub fn has(self, s: &[u8], count: usize) -> bool
+        requires { ⌜ length (now s) ≤ 16777216 ⌝ }
+        ensures { λ r. ⌜ r ≡ has (now (s .entry)) (self .at .0) count ⌝ }
+    {
+        let at = self.at.0;
+        let end = s.len() * 8;
+        if end < at {
+            return count == 0;
+        }
+        count <= end - at
+    }
+
+    // Whether no bit is left.
+    pub fn has_ended(self, s: &[u8]) -> bool
+        requires { ⌜ length (now s) ≤ 16777216 ⌝ }
+        ensures { λ r. ⌜ r ≡ leb (length (now (s .entry)) * 8) (self .at .0) ⌝ }
+    {
+        let at = self.at.0;
+        s.len() * 8 <= at
+    }
+
+    // Up to 32 bits, the highest first; 0 and no advance where fewer are left.
+    pub fn read(self, s: &[u8], count: usize) -> ReadBits
+        requires { ⌜ self .at .0 ≤ 134217728 ⌝ }
+        requires { ⌜ length (now s) ≤ 16777216 ⌝ }
+        ensures { λ r. ⌜ Runs (reads count) (now (s .entry)) (self .at .0) (r .value) (r .reader .at .0) ⌝ }
+        ensures { λ r. ⌜ (r .value < 2 ^ count) × (r .reader .at .0 ≤ 134217728) ⌝ }
+    {
+        if 32 < count {
+            return ReadBits {
+                reader: self,
+                value: 0,
+            };
+        }
+        let at = self.at.0;
+        let to = at + count;
+        if s.len() * 8 < to {
+            return ReadBits {
+                reader: self,
+                value: 0,
+            };
+        }
+        let w = window(s, at / 8) >> (40 - at % 8 - count);
+        let value = w - ((w >> count) << count);
+        ReadBits {
+            reader: Reader {
+                at: BitPosition(to),
+            },
+            value: value as u32,
+        }
+    }
+
+    // One bit, as `read` gives it for a count of 1.
+    pub fn read_bit(self, s: &[u8]) -> ReadBits
+        requires { ⌜ self .at .0 ≤ 134217728 ⌝ }
+        requires { ⌜ length (now s) ≤ 16777216 ⌝ }
+        ensures { λ r. ⌜ Runs (bits 1) (now (s .entry)) (self .at .0) (r .value) (r .reader .at .0) ⌝ }
+        ensures { λ r. ⌜ (r .value < 2) × (r .reader .at .0 ≤ 134217728) ⌝ }
+    {
+        let at = self.at.0;
+        let b = at / 8;
+        if b < s.len() {
+            let bit = (s[b] >> (7 - at % 8)) % 2;
+            return ReadBits {
+                reader: Reader {
+                    at: BitPosition(at + 1),
+                },
+                value: bit as u32,
+            };
+        }
+        ReadBits {
+            reader: self,
+            value: 0,
+        }
+    }
+
+    // count bits on, or none where fewer are left.
+    pub fn skip(self, s: &[u8], count: usize) -> Reader
+        requires { ⌜ self .at .0 ≤ 134217728 ⌝ }
+        requires { ⌜ length (now s) ≤ 16777216 ⌝ }
+        ensures { λ r. ⌜ Runs (skips count) (now (s .entry)) (self .at .0) tt (r .at .0) ⌝ }
+        ensures { λ r. ⌜ r .at .0 ≤ 134217728 ⌝ }
+    {
+        if self.has(s, count) {
+            let at = self.at.0;
+            return Reader {
+                at: BitPosition(at + count),
+            };
+        }
+        self
+    }
+
+    // Whether count bits are there and not all 0, with no advance.
+    pub fn peek_non_zero(self, s: &[u8], count: usize) -> Peeked
+        requires { ⌜ self .at .0 ≤ 134217728 ⌝ }
+        requires { ⌜ length (now s) ≤ 16777216 ⌝ }
+        ensures { λ r. ⌜ Runs (nonZero count) (now (s .entry)) (self .at .0) (r .value) (r .reader .at .0) ⌝ }
+        ensures { λ r. ⌜ r .reader .at .0 ≡ self .at .0 ⌝ }
+    {
+        let peeked = self.read(s, count);
+        Peeked {
+            reader: self,
+            value: peeked.value != 0,
+        }
+    }
+
+    // To the next byte boundary.
+    pub fn align(self) -> Reader
+        requires { ⌜ self .at .0 ≤ 134217728 ⌝ }
+        ensures { λ r. ⌜ r .at .0 ≡ boundary (self .at .0) * 8 ⌝ }
+        ensures { λ r. ⌜ r .at .0 ≤ 134217728 ⌝ }
+    {
+        Reader {
+            at: bit_of(byte_of(BitPosition(self.at.0 + 7))),
+        }
+    }
+
+    // The byte of the place.
+    pub fn tell(self) -> BytePosition
+        ensures { λ r. ⌜ r .0 ≡ self .at .0 / 8 ⌝ }
+    {
+        byte_of(self.at)
+    }
+
+    // To the beginning of a byte.
+    pub fn seek(self, to: BytePosition) -> Reader
+        requires { ⌜ to .0 ≤ 16777216 ⌝ }
+        ensures { λ r. ⌜ r .at .0 ≡ to .0 * 8 ⌝ }
+        ensures { λ r. ⌜ r .at .0 ≤ 134217728 ⌝ }
+    {
+        Reader { at: bit_of(to) }
+    }
+}

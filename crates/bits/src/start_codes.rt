@@ -1,0 +1,84 @@
+// Start codes: 00 00 01 and the code.
+use crate::position::BytePosition;
+use crate::position::bit_of;
+use crate::reader::Reader;
+ghost use mathlib.Core.Path.{_≡_};
+ghost use Prim.Native.Nat.{_≤_};
+ghost use lib.ListN.{length};
+ghost use lib.IntN.{natAbs};
+ghost use Rattle.bits.specs.Programs.{nextStartCode, findStartCode, run};
+ghost use Rattle.bits.specs.Runs.{Runs};
+
+// code: the byte behind 00 00 01, or -1.
+pub struct StartCode {
+    pub reader: Reader,
+    pub code: i32,
+}
+
+impl Reader {
+    // To behind the next start code.
+    pub fn next_start_code(self, s: &[u8]) -> StartCode
+        requires { ⌜ self .at .0 ≤ 134217728 ⌝ }
+        requires { ⌜ length (now s) ≤ 16777216 ⌝ }
+        ensures { λ r. ⌜ Runs nextStartCode (now (s .entry)) (self .at .0) (r .code) (r .reader .at .0) ⌝ }
+        ensures { λ r. ⌜ (r .reader .at .0 ≤ 134217728) × (natAbs (r .code) ≤ 255) ⌝ }
+    {
+        let mut b = self.align().tell().0;
+        while b + 5 <= s.len() {
+            if s[b] == 0 {
+                if s[b + 1] == 0 {
+                    if s[b + 2] == 1 {
+                        return StartCode {
+                            reader: Reader {
+                                at: bit_of(BytePosition(b + 4)),
+                            },
+                            code: s[b + 3] as i32,
+                        };
+                    }
+                }
+            }
+            b += 1;
+        }
+        StartCode {
+            reader: Reader {
+                at: bit_of(BytePosition(b)),
+            },
+            code: -1,
+        }
+    }
+
+    // To behind the next start code that is `code`; where there is none, to the end.
+    pub fn find_start_code(self, s: &[u8], code: i32) -> StartCode
+        requires { ⌜ self .at .0 ≤ 134217728 ⌝ }
+        requires { ⌜ length (now s) ≤ 16777216 ⌝ }
+        ensures { λ r. ⌜ Runs (findStartCode code) (now (s .entry)) (self .at .0) (r .code) (r .reader .at .0) ⌝ }
+        ensures { λ r. ⌜ (r .reader .at .0 ≤ 134217728) × (natAbs (r .code) ≤ 255) ⌝ }
+    {
+        let mut reader = self;
+        loop {
+            let found = reader.next_start_code(s);
+            let current = found.code;
+            if current == code {
+                return found;
+            }
+            if current == -1 {
+                return found;
+            }
+            reader = found.reader;
+        }
+    }
+
+    // Whether the start code `code` lies ahead: the code, or -1, with no advance.
+    pub fn has_start_code(self, s: &[u8], code: i32) -> StartCode
+        requires { ⌜ self .at .0 ≤ 134217728 ⌝ }
+        requires { ⌜ length (now s) ≤ 16777216 ⌝ }
+        ensures { λ r. ⌜ (r .code ≡ run (findStartCode code) (now (s .entry)) (self .at .0) .value) × (r .reader .at .0 ≡ self .at .0) ⌝ }
+        ensures { λ r. ⌜ natAbs (r .code) ≤ 255 ⌝ }
+    {
+        let found = self.find_start_code(s, code);
+        StartCode {
+            reader: self,
+            code: found.code,
+        }
+    }
+}

@@ -1,0 +1,91 @@
+-- Fuel loops: what a turn does, that fuel beyond what a run needs changes nothing, and the invariant of a while loop that takes these turns.
+use mathlib.Core.Path.{_≡_, refl, sym, ap, _∙_}
+use mathlib.Core.Bool.{true, false≢true}
+use Prim.Native.Nat.{ℕ, zero, suc, _≤_, _<_}
+use native.Mathlib.Omega.{arith}
+use Rattle.laws.specs.Turns.{Turn, again, stop, turns, stops}
+
+module _ {S A : Type 0} (f : S → Turn S A) where
+  -- one turn
+  pub turns-again : (n : ℕ) (d : S → A) (x y : S) → f x ≡ again y → turns (suc n) f d x ≡ turns n f d y
+  unfolding turns
+  turns-again n d x y e = ap (λ (t : Turn S A). elim t [ again z ↦ turns n f d z | stop v ↦ v ]) e
+
+  pub turns-stop : (n : ℕ) (d : S → A) (x : S) (v : A) → f x ≡ stop v → turns (suc n) f d x ≡ v
+  unfolding turns
+  turns-stop n d x v e = ap (λ (t : Turn S A). elim t [ again z ↦ turns n f d z | stop u ↦ u ]) e
+
+  stops-again : (n : ℕ) (x y : S) → f x ≡ again y → stops (suc n) f x ≡ stops n f y
+  unfolding stops
+  stops-again n x y e = ap (λ (t : Turn S A). elim t [ again z ↦ stops n f z | stop v ↦ true ]) e
+
+  stops-stop : (n : ℕ) (x : S) (v : A) → f x ≡ stop v → stops (suc n) f x ≡ true
+  unfolding stops
+  stops-stop n x v e = ap (λ (t : Turn S A). elim t [ again z ↦ stops n f z | stop u ↦ true ]) e
+
+  stops-zero : (x : S) → stops 0 f x ≡ true → ⊥
+  unfolding stops
+  stops-zero x e = false≢true e
+
+  -- two runs from one state that both stop give the same answer, whatever their fuel and what they would give with it spent
+  same-answer : (n m : ℕ) (d e : S → A) (x : S) → stops n f x ≡ true → stops m f x ≡ true → turns n f d x ≡ turns m f e x
+  same-answer zero m d e x p q = absurd (stops-zero x p)
+  same-answer (suc n) zero d e x p q = absurd (stops-zero x q)
+  same-answer (suc n) (suc m) d e x p q = go (f x) refl (λ y. same-answer n m d e y)
+    where
+      go : (t : Turn S A) → f x ≡ t → ((y : S) → stops n f y ≡ true → stops m f y ≡ true → turns n f d y ≡ turns m f e y) → turns (suc n) f d x ≡ turns (suc m) f e x
+      go (again y) r k =
+          turns-again n d x y r ∙ k y (sym (stops-again n x y r) ∙ p) (sym (stops-again m x y r) ∙ q) ∙ sym (turns-again m e x y r)
+      go (stop v) r k = turns-stop n d x v r ∙ sym (turns-stop m e x v r)
+
+  -- a run that stops does so with more fuel, too
+  still-stops : (n m : ℕ) (x : S) → n ≤ m → stops n f x ≡ true → stops m f x ≡ true
+  still-stops zero m x h p = absurd (stops-zero x p)
+  still-stops (suc n) zero x h p = let z : ⊥ = omega arith in absurd z
+  still-stops (suc n) (suc m) x h p = go (f x) refl (λ y. still-stops n m y (omega arith))
+    where
+      go : (t : Turn S A) → f x ≡ t → ((y : S) → stops n f y ≡ true → stops m f y ≡ true) → stops (suc m) f x ≡ true
+      go (again y) r k = stops-again m x y r ∙ k y (sym (stops-again n x y r) ∙ p)
+      go (stop v) r k = stops-stop m x v r
+
+  -- a run that stops before its fuel is spent gives the same with more fuel
+  pub more-fuel : (n m : ℕ) (d e : S → A) (x : S) → n ≤ m → stops n f x ≡ true → turns n f d x ≡ turns m f e x
+  more-fuel n m d e x h p = same-answer n m d e x p (still-stops n m x h p)
+
+  -- a measure that falls at each turn that goes on, as long as P holds, and P is kept
+  module _ (P : S → Type 0) (μ : S → ℕ) (falls : (x y : S) → P x → f x ≡ again y → P y × (μ y < μ x)) where
+    pub ends : (n : ℕ) (x : S) → P x → μ x < n → stops n f x ≡ true
+    ends zero x p h = let z : ⊥ = omega arith in absurd z
+    ends (suc n) x p h = go (f x) refl (λ y. ends n y)
+      where
+        go : (t : Turn S A) → f x ≡ t → ((y : S) → P y → μ y < n → stops n f y ≡ true) → stops (suc n) f x ≡ true
+        go (again y) r k = let w = falls x y p r in stops-again n x y r ∙ k y (w .0) (omega arith)
+        go (stop v) r k = stops-stop n x v r
+
+    -- enough fuel is enough: more changes nothing
+    pub enough-fuel : (n m : ℕ) (d e : S → A) (x : S) → P x → μ x < n → μ x < m → turns n f d x ≡ turns m f e x
+    enough-fuel n m d e x p h k = same-answer n m d e x (ends n x p h) (ends m x p k)
+
+-- The invariant of a while loop: the run from x₀ goes on as the run from x, with fuel for more than `left` turns. `left` is the loop's measure.
+pub record Turning {S A : Type 0} (n : ℕ) (f : S → Turn S A) (d : S → A) (x₀ x : S) (left : ℕ) : Type 0 where
+  pub fuel : ℕ
+  pub enough : left < fuel
+  pub same : turns n f d x₀ ≡ turns fuel f d x
+
+module _ {S A : Type 0} {n : ℕ} {f : S → Turn S A} {d : S → A} where
+  pub turn-start : {x : S} {left : ℕ} → left < n → Turning n f d x x left
+  turn-start h = record { fuel = n; enough = h; same = refl }
+
+  pub turn-on : {x₀ x y : S} {left less : ℕ} → Turning n f d x₀ x left → f x ≡ again y → less < left → Turning n f d x₀ y less
+  turn-on {x₀} {x} {y} {left} {less} t r h = go (t .fuel) (t .enough) (t .same)
+    where
+      go : (k : ℕ) → left < k → turns n f d x₀ ≡ turns k f d x → Turning n f d x₀ y less
+      go zero p q = let z : ⊥ = omega arith in absurd z
+      go (suc k) p q = record { fuel = k; enough = omega arith; same = q ∙ turns-again f k d x y r }
+
+  pub turn-end : {x₀ x : S} {left : ℕ} {v : A} → Turning n f d x₀ x left → f x ≡ stop v → turns n f d x₀ ≡ v
+  turn-end {x₀} {x} {left} {v} t r = go (t .fuel) (t .enough) (t .same)
+    where
+      go : (k : ℕ) → left < k → turns n f d x₀ ≡ turns k f d x → turns n f d x₀ ≡ v
+      go zero p q = let z : ⊥ = omega arith in absurd z
+      go (suc k) p q = q ∙ turns-stop f k d x v r

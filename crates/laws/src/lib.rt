@@ -1,0 +1,23 @@
+// Laws of numbers, lists, loops and tables stand in proofs/, the definitions that they speak of in specs/. The code is two rules on signed numbers.
+ghost use mathlib.Core.Path.{_≡_};
+ghost use Rattle.laws.specs.Signed.{clamp255, half0};
+
+// Brings n into 0..=255.
+pub fn clamp_u8(n: i32) -> u8
+    ensures { λ r. ⌜ r ≡ clamp255 n ⌝ }
+{
+    if n < 0 {
+        return 0;
+    }
+    if n > 255 {
+        return 255;
+    }
+    n as u8
+}
+
+// Half of n, rounded toward zero.
+pub fn half(n: i32) -> i32
+    ensures { λ r. ⌜ r ≡ half0 n ⌝ }
+{
+    n / 2
+}
