@@ -1,12 +1,11 @@
 -- Start codes as signed numbers: their range, and tests of them for equality. Assumes nothing.
-use mathlib.Core.Path.{_≡_, refl, ap, sym, _∙_}
+use mathlib.Core.Path.{_≡_, refl, ap}
 use mathlib.Core.Bool.{Bool, true, false}
 use Prim.Native.Nat.{ℕ, _≤_}
 use native.Mathlib.Omega.{arith}
 use lib.IntN.{ℤ, pos, negsuc, natAbs}
 use mir.Syntax.{w32}
-use mir.Val.{SFits, toZ, ofZ}
-use mir.Facts.{toZ-ofZ}
+use mir.Val.{SFits}
 use lib.Dec.{eqb}
 use borrow.Author.Tests.{eq-eqb, ne-eqb}
 use Rattle.bits.specs.Programs.{eqZ}
@@ -28,7 +27,3 @@ eqZ-no (negsuc m) (negsuc n) g = ne-eqb m n (λ e. g (ap negsuc e))
 pub code-fits : (k : ℤ) → natAbs k ≤ 255 → SFits w32 k
 code-fits (pos n) h = record { sfits = omega arith }
 code-fits (negsuc n) h = record { sfits = omega arith }
-
--- a test on the bits is one on the numbers
-pub same-code : {k c : ℤ} → SFits w32 k → SFits w32 c → ofZ w32 k ≡ ofZ w32 c → k ≡ c
-same-code f g e = sym (toZ-ofZ f) ∙ ap (toZ w32) e ∙ toZ-ofZ g

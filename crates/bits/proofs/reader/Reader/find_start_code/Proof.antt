@@ -8,8 +8,9 @@ use mir.Syntax.{w32}
 use mir.Val.{SFits, toZ, ofZ}
 use mir.Facts.{toZ-ofZ}
 use borrow.Author.Needs.{needs}
+use Rattle.laws.proofs.Ints.{same-bits}
 use Rattle.bits.specs.Programs.{eqZ, findTurn, findStartCode, many}
-use Rattle.bits.proofs.Codes.{eqZ-yes, eqZ-no, code-fits, same-code}
+use Rattle.bits.proofs.Codes.{eqZ-yes, eqZ-no, code-fits}
 use Rattle.bits.proofs.Rules.{Loops, loop-start, loop-on, loop-end, r-call, r-yes, r-no, r-done, r-start-past}
 use Rattle.bits.proofs.reader.Reader.find_start_code.Statement.{statement}
 use Rattle.bits.proofs.reader.Reader.find_start_code.Tie as tie
@@ -44,7 +45,7 @@ returns c =
     let x = c .before .before in
     let fits = x .before .before .before .fits .code in
     let k = x .next-start-code .result .code in
-    let e = same-code (code-fits k (x .next-start-code .ensures .1 .1)) fits (c .if1 .taken) in
+    let e = same-bits w32 (code-fits k (x .next-start-code .ensures .1 .1)) fits (c .if1 .taken) in
     let l = rw (toZ-ofZ fits) at (x .before .loop .inv .1) in (
       loop-end l (r-call _ (x .next-start-code .ensures .0) (r-yes _ (sought k (x .before .before .before .args .code) e) r-done)),
       x .next-start-code .ensures .1,
@@ -56,7 +57,7 @@ returns-2 c =
     let x = c .before .before .before in
     let fits = x .before .before .before .fits .code in
     let k = x .next-start-code .result .code in
-    let e = same-code (code-fits k (x .next-start-code .ensures .1 .1)) (code-fits (negsuc 0) (omega arith)) (c .if2 .taken) in
+    let e = same-bits w32 (code-fits k (x .next-start-code .ensures .1 .1)) (code-fits (negsuc 0) (omega arith)) (c .if2 .taken) in
     let l = rw (toZ-ofZ fits) at (x .before .loop .inv .1) in (
       loop-end l (r-call _ (x .next-start-code .ensures .0) (r-yes _ (none k (x .before .before .before .args .code) e) r-done)),
       x .next-start-code .ensures .1,

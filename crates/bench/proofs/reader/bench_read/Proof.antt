@@ -1,0 +1,89 @@
+use mathlib.Core.Path.{_≡_, refl, sym, ap, _∙_}
+use Prim.Native.Nat.{ℕ, _-_, _%_}
+use native.Mathlib.Omega.{arith}
+use borrow.Author.Needs.{needs}
+use borrow.Author.Tests.{lt-ltb, le-ltb, eq-eqb, ne-eqb}
+use Rattle.bench.specs.Loops.{sumOfReads}
+use Rattle.bench.proofs.Turns.{few, Summing, summing-start, summing-less, summing-on, summing-end}
+use Rattle.bench.proofs.reader.bench_read.Statement.{statement}
+use Rattle.bench.proofs.reader.bench_read.Tie as tie
+
+abbrev Inv-loop : tie.InvT-loop
+Inv-loop bytes count n reader₀ sum₀ reader sum = Summing n bytes (reader .at .0) sum
+
+abbrev μ-loop : tie.MeasureT-loop
+μ-loop bytes count n reader₀ sum₀ reader sum = 134217728 - reader .at .0
+
+returns : tie.Need-returns Inv-loop μ-loop
+unfolding sumOfReads
+returns c = simp (lt-ltb _ _ (c .if1 .taken))
+
+returns-2 : tie.Need-returns-2 Inv-loop μ-loop
+unfolding sumOfReads
+returns-2 c = simp (le-ltb _ _ (c .before .if1 .left), eq-eqb _ _ (c .if2 .taken))
+
+returns-3 : tie.Need-returns-3 Inv-loop μ-loop
+unfolding sumOfReads
+returns-3 c = simp (le-ltb _ _ (c .before .before .if1 .left), ne-eqb _ _ (c .before .if2 .left), lt-ltb _ _ (c .if3 .taken))
+
+new-requires : tie.Need-new-requires Inv-loop μ-loop
+new-requires c κs = search needs
+
+loop-holds : tie.Need-loop-holds Inv-loop μ-loop
+loop-holds c = summing-start _ _ _ (c .new .ensures)
+
+has-requires : tie.Need-has-requires Inv-loop μ-loop
+has-requires c κs = search needs
+
+read-requires : tie.Need-read-requires Inv-loop μ-loop
+read-requires c κs = search needs
+
+cast-sum : tie.Need-cast-sum Inv-loop μ-loop
+cast-sum c = omega (arith, c .struct-known .given)
+
+add-sum : tie.Need-add-sum Inv-loop μ-loop
+add-sum c = omega (arith, c .struct-known .given)
+
+loop-less : tie.Need-loop-less Inv-loop μ-loop
+loop-less c =
+    let r = c .before .before in
+    let s = r .before .before .before .before .before .before .before .before .before in
+    summing-less _ (s .args .bytes .now) _ (r .before .before .before .loop .sum) _ _ (omega arith) (omega arith) (sym (r .before .before .has .ensures) ∙ r .before .if4 .taken) (few (s .args .count) (omega arith) (r .read .ensures .0))
+
+loop-again : tie.Need-loop-again Inv-loop μ-loop
+loop-again c =
+    let r = c .before .before in
+    let l = r .before .before .before in
+    let s = l .before .before .before .before .before .before in
+    summing-on _ _ _ _ _ _ (omega arith) (omega arith) (sym (r .before .before .has .ensures) ∙ r .before .if4 .taken) (few (s .args .count) (omega arith) (r .read .ensures .0)) (omega (arith, c .struct-known .given)) (l .loop .inv)
+
+cast-result : tie.Need-cast-result Inv-loop μ-loop
+cast-result c = omega arith
+
+returns-4 : tie.Need-returns-4 Inv-loop μ-loop
+unfolding sumOfReads
+returns-4 c =
+    let l = c .before .before in
+    let s = l .before .before .before .before .before .before in
+    simp (le-ltb _ _ (l .before .before .before .before .if1 .left), ne-eqb _ _ (l .before .before .before .if2 .left), le-ltb _ _ (l .before .before .if3 .left))
+    (ap (λ (x : ℕ). x % 4294967296) (sym (summing-end (s .args .count) (s .args .bytes .now) _ _ (sym (c .before .has .ensures) ∙ c .if4 .left) (l .loop .inv))))
+
+pub bench-read-spec : {M : Type 1} → statement M
+bench-read-spec =
+    tie.close
+    (tie.spec
+    Inv-loop
+    μ-loop
+    returns
+    returns-2
+    returns-3
+    new-requires
+    loop-holds
+    has-requires
+    read-requires
+    cast-sum
+    add-sum
+    loop-less
+    loop-again
+    cast-result
+    returns-4)

@@ -1,0 +1,71 @@
+-- Each start code is four bytes or more further on, so there are few enough to count.
+use mathlib.Core.Path.{_≡_, sym, ap}
+use Prim.Native.Nat.{ℕ, _+_, _-_, _*_, _≤_}
+use native.Mathlib.Omega.{arith}
+use borrow.Author.Needs.{needs}
+use borrow.Author.Tests.{lt-ltb, le-ltb}
+use lib.IntN.{negsuc}
+use mir.Syntax.{w32}
+use mir.Val.{ofZ}
+use Rattle.laws.proofs.Ints.{same-bits}
+use Rattle.bits.specs.Programs.{Out, many}
+use Rattle.bits.proofs.Codes.{eqZ-yes, eqZ-no, code-fits}
+use Rattle.bits.proofs.Rules.{Loops, loop-start, loop-on, loop-end, r-call, r-yes, r-no, r-done, r-start-past}
+use Rattle.bench.specs.Loops.{countTurn, countCodes, startCodes}
+use Rattle.bench.proofs.reader.bench_start_codes.Statement.{statement}
+use Rattle.bench.proofs.reader.bench_start_codes.Tie as tie
+
+abbrev Inv-loop : tie.InvT-loop
+Inv-loop bytes reader₀ count₀ reader count =
+    (reader .at .0 ≤ 134217728) × (count * 32 ≤ reader .at .0) × Loops many countTurn 0 0 bytes 0 count (reader .at .0) (134217728 - reader .at .0)
+
+abbrev μ-loop : tie.MeasureT-loop
+μ-loop bytes reader₀ count₀ reader count = 134217728 - reader .at .0
+
+returns : tie.Need-returns Inv-loop μ-loop
+unfolding startCodes
+returns c = simp (lt-ltb _ _ (c .if1 .taken))
+
+new-requires : tie.Need-new-requires Inv-loop μ-loop
+new-requires c κs = search needs
+
+loop-holds : tie.Need-loop-holds Inv-loop μ-loop
+loop-holds c = rw (c .new .ensures) (omega arith, omega arith, loop-start (omega arith))
+
+next-start-code-requires : tie.Need-next-start-code-requires Inv-loop μ-loop
+next-start-code-requires c κs = search needs
+
+returns-2 : tie.Need-returns-2 Inv-loop μ-loop
+unfolding startCodes countCodes countTurn
+returns-2 c =
+    let x = c .before .before .before in
+    let k = x .next-start-code .result .code in
+    let e = same-bits w32 (code-fits k (x .next-start-code .ensures .1 .1)) (code-fits (negsuc 0) (omega arith)) (c .if2 .taken) in
+    let l = loop-end (x .before .loop .inv .2) (r-call _ (x .next-start-code .ensures .0) (r-yes _ (eqZ-yes k (negsuc 0) e) r-done)) in
+    simp (le-ltb _ _ (x .before .before .before .if1 .left)) (sym (ap (λ (o : Out ℕ). o .value) (l .is)))
+
+add-count : tie.Need-add-count Inv-loop μ-loop
+add-count c = omega arith
+
+-- the search went on past a code
+past : (c : tie.After-reader Inv-loop μ-loop) → c .before .before .before .before .before .loop .reader .at .0 + 32 ≤ c .before .before .before .before .next-start-code .result .reader .at .0
+past c =
+    let x = c .before .before .before .before in
+    r-start-past (x .next-start-code .ensures .0) (λ e. c .before .if2 .left (ap (ofZ w32) e))
+
+loop-less : tie.Need-loop-less Inv-loop μ-loop
+loop-less c = omega (arith, past c)
+
+loop-again : tie.Need-loop-again Inv-loop μ-loop
+unfolding countTurn
+loop-again c =
+    let x = c .before .before .before .before in
+    let on = eqZ-no (x .next-start-code .result .code) (negsuc 0) (λ e. c .before .if2 .left (ap (ofZ w32) e)) in (
+      x .next-start-code .ensures .1 .0,
+      omega (arith, past c),
+      loop-on (x .before .loop .inv .2) (r-call _ (x .next-start-code .ensures .0) (r-no _ on r-done)) (loop-less c),
+    )
+
+pub bench-start-codes-spec : {M : Type 1} → statement M
+bench-start-codes-spec =
+    tie.close (tie.spec Inv-loop μ-loop returns new-requires loop-holds next-start-code-requires returns-2 add-count loop-less loop-again)

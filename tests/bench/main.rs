@@ -1,0 +1,40 @@
+// Times ours, the static library of crates/bench, and the Rust on the same bytes in one process, one file a part.
+// The answers of a loop must be equal. Of several runs, the Rust's and ours in turn, the best of each counts.
+mod reader;
+
+#[allow(dead_code)]
+#[path = "../../docs/src/crates/native32emu-core/src/mpeg/buffer.rs"]
+mod buffer;
+
+#[allow(dead_code)]
+#[path = "../oracle/random.rs"]
+mod random;
+
+use std::hint::black_box;
+use std::time::Instant;
+
+// What a call gave, and its time in nanoseconds.
+fn timed(call: impl FnOnce() -> u32) -> (u32, f64) {
+    let began = Instant::now();
+    let value = black_box(call());
+    (value, began.elapsed().as_nanos() as f64)
+}
+
+// Prints the time of one of the calls that a loop makes. What `prepare` makes for the Rust is made and dropped outside the time taken.
+fn compare<T>(name: &str, calls: usize, ours: impl Fn() -> u32, prepare: impl Fn() -> T, rust: impl Fn(&mut T) -> u32) {
+    let (mut ours_best, mut rust_best) = (f64::MAX, f64::MAX);
+    for _ in 0..25 {
+        let mut prepared = black_box(prepare());
+        let (rust_value, rust_time) = timed(|| rust(&mut prepared));
+        let (ours_value, ours_time) = timed(&ours);
+        assert_eq!(ours_value, rust_value, "{name}: ours and the Rust give different answers");
+        ours_best = ours_best.min(ours_time);
+        rust_best = rust_best.min(rust_time);
+    }
+    let (a, b) = (ours_best / calls as f64, rust_best / calls as f64);
+    println!("{name:<32} {calls:>8} calls   ours {a:>11.2} ns   rust {b:>11.2} ns   ratio {:.2}", a / b);
+}
+
+fn main() {
+    reader::run();
+}

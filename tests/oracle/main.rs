@@ -1,0 +1,19 @@
+// Writes the lists of the Rust's answers that crates/replay runs ours on, one file a list, into the folder that is named.
+// The Rust is compiled as it stands in docs/src.
+mod list;
+mod random;
+mod reader;
+
+#[allow(dead_code)]
+#[path = "../../docs/src/crates/native32emu-core/src/mpeg/buffer.rs"]
+mod buffer;
+
+fn main() {
+    let folder = std::env::args().nth(1).expect("usage: oracle FOLDER");
+    let lists = [("reader.bin", reader::list())];
+    for (name, bytes) in lists {
+        let path = std::path::Path::new(&folder).join(name);
+        std::fs::write(&path, &bytes).expect("the list is written");
+        println!("{}: {} bytes", path.display(), bytes.len());
+    }
+}
