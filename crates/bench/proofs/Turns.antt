@@ -48,7 +48,7 @@ module _ (n : ℕ) (s : List ℕ) (a sum v e : ℕ) (some : 0 < n) (short : leng
       record {
         most = omega (arith, on, within);
         small = omega (arith, on, l .small);
-        loops = loop-on (l .loops) (r-look (r-yes _ there (r-call _ reads r-done))) summing-less
+        loops = loop-on (l .loops) (r-look (r-yes _ there (r-call _ reads r-done))) summing-less;
       }
 
 pub summing-end : (n : ℕ) (s : List ℕ) (a sum : ℕ) → has s a n ≡ false → Summing n s a sum → run (addReads n) s 0 .value ≡ sum

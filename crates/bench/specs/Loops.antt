@@ -11,8 +11,8 @@ use Rattle.bits.specs.Programs.{Prog, done, look, run, bind, bits, nextStartCod
 -- a read of n bits is added to the sum, while they are there
 unfoldable pub addTurn : ℕ → ℕ → Prog (Turn ℕ ℕ)
 addTurn n sum = look n (λ h v. if h then (do
-    x ← bits n
-    done (again (sum + x))) else done (stop sum))
+  x ← bits n
+  done (again (sum + x))) else done (stop sum))
 
 -- the sum of a stream's reads of n bits
 unfoldable pub addReads : ℕ → Prog ℕ

@@ -1,6 +1,5 @@
 // The bit reader, from a stream's beginning to its end.
 use bits::reader::Reader;
-
 ghost use mathlib.Core.Path.{_≡_};
 ghost use Rattle.bench.specs.Loops.{sumOfReads, startCodes};
 
