@@ -1,0 +1,14 @@
+-- Entries of a code table. Assumes nothing.
+use mathlib.Core.Path.{_≡_, refl}
+use mathlib.Core.Bool.{true, false, false≢true, true≢false}
+use Prim.Native.Nat.{ℕ, zero, suc, _<_}
+use native.Mathlib.Omega.{arith}
+use lib.IntN.{ℤ, pos, negsuc, natAbs}
+use lib.Dec.{leb·zero}
+use lib.Signed.{leZ}
+
+-- an index above 0
+pub above : (z : ℤ) → leZ z (pos 0) ≡ false → (z ≡ pos (natAbs z)) × (0 < natAbs z)
+above (pos zero) e = absurd (true≢false e)
+above (pos (suc n)) e = (refl, omega arith)
+above (negsuc n) e = absurd (true≢false e)

@@ -1,0 +1,142 @@
+-- The walk through a code table along a sequence of bits, as a function; and that the program's walk is the one along the bits of the stream, those past
+-- its end being 0. Assumes nothing.
+use mathlib.Core.Path.{_≡_, refl, ap, sym, subst, _∙_}
+use mathlib.Core.Bool.{Bool, true, false, cond}
+use mathlib.Core.List.{List}
+use Prim.Native.Nat.{ℕ, zero, suc, _+_, _*_, _/_, _%_, _≤_, _<_}
+use native.Mathlib.Decide.{decLt}
+use native.Mathlib.Nat.{zero-div}
+use native.Mathlib.Omega.{arith}
+use lib.ListN.{length, getD, List·getD-eq-default}
+use lib.IntN.{ℤ, pos, natAbs}
+use lib.Signed.{leZ}
+use Rattle.bits.specs.Bits.{bitAt, bitsAt, got, next}
+use Rattle.bits.specs.Programs.{Prog, Out, bits, loop}
+use Rattle.bits.specs.Runs.{Runs}
+use Rattle.bits.proofs.Bits.{bit-lt}
+use Rattle.bits.proofs.Rules.{is-bits, r-call, r-yes, r-no, r-done}
+use Rattle.bits.proofs.Programs.{served-got, served-next, refused-got, refused-next}
+use Rattle.codes.specs.Walk.{walkTurn, walk, vlc}
+use Rattle.codes.specs.Standard.{taken}
+
+-- ---- sequences of bits
+
+-- a sequence of bits, as the numbers that its beginnings make: f n is made by the first n bits, the highest first
+pub record Bits (f : ℕ → ℕ) : Type 0 where
+  pub empty : f 0 ≡ 0
+  pub more : (n : ℕ) → f (suc n) / 2 ≡ f n
+
+-- the bits of the stream s from the place a on
+pub stream-bits : (s : List ℕ) (a : ℕ) → Bits (bitsAt s a)
+unfolding bitsAt
+stream-bits s a = record { empty = refl; more = λ n. omega (arith, bit-lt s (a + n)) }
+
+-- ---- the walk
+
+-- the entry at which a walk ends, and the number of bits that led there
+pub record End : Type 0 where
+  pub place : ℕ
+  pub bits : ℕ
+
+-- the walk from the pair of entries at `at` on, which the first n bits of f led to
+abbrev pub follow : List ℤ → (ℕ → ℕ) → ℕ → ℕ → ℕ → End
+follow ix f zero at n = record { place = 0; bits = n }
+follow ix f (suc fuel) at n =
+    let k = at + f (suc n) % 2 in
+    cond (leZ (getD ix k (pos 0)) (pos 0)) (record { place = k; bits = suc n }) (follow ix f fuel (natAbs (getD ix k (pos 0))) (suc n))
+
+-- each turn takes a bit
+module _ (ix : List ℤ) (f : ℕ → ℕ) where
+  turned : (t : Bool) (k n : ℕ) (rest : End) → suc n ≤ rest .bits → suc n ≤ cond t (record { place = k; bits = suc n }) rest .bits
+  turned true k n rest h = omega arith
+  turned false k n rest h = h
+
+  pub follow-bits : (fuel at n : ℕ) → n ≤ follow ix f fuel at n .bits
+  follow-bits zero at n = omega arith
+  follow-bits (suc fuel) at n =
+      let k = at + f (suc n) % 2 in
+      let z = getD ix k (pos 0) in
+      omega (arith, turned (leZ z (pos 0)) k n (follow ix f fuel (natAbs z) (suc n)) (follow-bits fuel (natAbs z) (suc n)))
+
+  pub follow-some : (fuel at n : ℕ) → 0 < fuel → n < follow ix f fuel at n .bits
+  follow-some zero at n h = omega arith
+  follow-some (suc fuel) at n h =
+      let k = at + f (suc n) % 2 in
+      let z = getD ix k (pos 0) in
+      turned (leZ z (pos 0)) k n (follow ix f fuel (natAbs z) (suc n)) (follow-bits fuel (natAbs z) (suc n))
+
+-- ---- single bits of a stream
+
+past-bit : (s : List ℕ) (k : ℕ) → length s * 8 ≤ k → bitAt s k ≡ 0
+unfolding bitAt
+past-bit s k h = rw (List·getD-eq-default s 0 {n = k / 8} (omega arith), zero-div)
+
+pub past-bits : (s : List ℕ) (a n : ℕ) → length s * 8 ≤ a → bitsAt s a n ≡ 0
+unfolding bitsAt
+past-bits s a zero h = refl
+past-bits s a (suc n) h = omega (arith, past-bits s a n h, past-bit s (a + n) (omega arith))
+
+-- the bit behind n that were read one by one
+module _ (s : List ℕ) (a n : ℕ) where
+  bit-got : got s (taken s a n) 1 ≡ bitsAt s a (suc n) % 2
+  unfolding bitsAt
+  bit-got = go (decLt (a + n) (length s * 8))
+    where
+      go : Dec (a + n < length s * 8) → got s (taken s a n) 1 ≡ (bitsAt s a n * 2 + bitAt s (a + n)) % 2
+      go (yes h) =
+          let e : taken s a n + 0 ≡ a + n = omega arith in
+          served-got s (taken s a n) 1 (omega arith) ∙ omega (arith, ap (bitAt s) e, bit-lt s (a + n))
+      go (no h) = refused-got s (taken s a n) 1 (omega arith) ∙ omega (arith, past-bit s (a + n) (omega arith))
+
+  bit-next : next s (taken s a n) 1 ≡ taken s a (suc n)
+  bit-next = go (decLt (a + n) (length s * 8))
+    where
+      go : Dec (a + n < length s * 8) → next s (taken s a n) 1 ≡ taken s a (suc n)
+      go (yes h) = served-next s (taken s a n) 1 (omega arith) ∙ omega arith
+      go (no h) = refused-next s (taken s a n) 1 (omega arith) ∙ omega arith
+
+-- ---- runs
+
+-- two runs of one program end alike
+pub same-run : {A : Type 0} {p : Prog A} {s : List ℕ} {a : ℕ} {v w : A} {e g : ℕ} → Runs p s a v e → Runs p s a w g → (v ≡ w) × (e ≡ g)
+same-run {A} r q = let o = sym (r .is) ∙ q .is in (ap (λ (x : Out A). x .value) o, ap (λ (x : Out A). x .at) o)
+
+pub runs-as : {A : Type 0} {p : Prog A} {s : List ℕ} {a : ℕ} {v w : A} {e g : ℕ} → Runs p s a v e → v ≡ w → e ≡ g → Runs p s a w g
+runs-as r h k = record { is = r .is ∙ λ i. record { value = h i; at = k i } }
+
+-- ---- the program's walk
+
+module _ (ix : List ℤ) (s : List ℕ) (a : ℕ) where
+  -- from `at` on, behind n bits, a loop of the walk's turns ends with e
+  record Walks (fuel at n : ℕ) (e : End) : Type 0 where
+    runs : Runs (loop fuel (walkTurn ix) 0 at) s (taken s a n) (e .place) (taken s a (e .bits))
+
+  walks : (fuel at n : ℕ) → Walks fuel at n (follow ix (bitsAt s a) fuel at n)
+  unfolding loop walkTurn
+  walks zero at n = record { runs = r-done }
+  walks (suc fuel) at n = go (leZ (getD ix k (pos 0)) (pos 0)) refl (walks fuel (natAbs (getD ix k (pos 0))) (suc n))
+    where
+      k : ℕ
+      k = at + bitsAt s a (suc n) % 2
+
+      bit : Runs (bits 1) s (taken s a n) (bitsAt s a (suc n) % 2) (taken s a (suc n))
+      bit = is-bits (sym (bit-got s a n)) (sym (bit-next s a n))
+
+      go : (t : Bool) → leZ (getD ix k (pos 0)) (pos 0) ≡ t → {rest : End} → Walks fuel (natAbs (getD ix k (pos 0))) (suc n) rest
+          → Walks (suc fuel) at n (cond t (record { place = k; bits = suc n }) rest)
+      go true h r = record { runs = r-call _ (r-call _ bit (r-yes _ h r-done)) r-done }
+      go false h r = record { runs = r-call _ (r-call _ bit (r-no _ h r-done)) (r .runs) }
+
+  -- how the whole walk ends
+  abbrev pub end : End
+  end = follow ix (bitsAt s a) (length ix) 0 0
+
+  pub walk-end : Runs (walk ix) s a (end .place) (taken s a (end .bits))
+  unfolding walk
+  walk-end =
+      let here : taken s a 0 ≡ a = omega arith in
+      subst (λ (p : ℕ). Runs (loop (length ix) (walkTurn ix) 0 0) s p (end .place) (taken s a (end .bits))) here (walks (length ix) 0 0 .runs)
+
+  pub vlc-end : {A : Type 0} (vs : List A) (d : A) → Runs (vlc ix vs d) s a (getD vs (end .place) d) (taken s a (end .bits))
+  unfolding vlc
+  vlc-end vs d = r-call _ walk-end r-done

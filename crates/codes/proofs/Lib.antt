@@ -1,0 +1,11 @@
+pub mod Agreement
+pub mod Begins
+pub mod Entries
+pub mod Figures
+pub mod Follow
+pub mod Good
+pub mod Standard
+pub mod Tested
+pub mod Tree
+pub mod Values
+pub mod Vlc

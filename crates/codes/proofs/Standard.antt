@@ -1,0 +1,86 @@
+-- RULES 2.13: the nine code tables are those of ISO/IEC 11172-2, Annex B. A computed test of each table, and one law for all. Assumes nothing.
+use mathlib.Core.Path.{_≡_, refl, ap}
+use mathlib.Core.List.{List, [], _∷_, List·Memᴰ·head, List·Memᴰ·tail}
+use Prim.Native.Nat.{ℕ, zero, suc, _+_, _*_, _≤_, _<_}
+use native.Mathlib.Nat.{le-of-suc-le-suc, not-suc-le-zero}
+use native.Mathlib.Omega.{arith}
+use lib.Dec.{T, eqb, eqb→eq}
+use lib.ListN.{length, getD}
+use lib.IntN.{ℤ, pos, negsuc}
+use Rattle.bits.specs.Programs.{eqZ}
+use Rattle.bits.specs.Runs.{Runs}
+use Rattle.codes.specs.Walk.{vlc}
+use Rattle.codes.specs.Tables.{macroblockAddressIncrementIndex, macroblockAddressIncrementValue, macroblockTypeIntraIndex, macroblockTypeIntraValue, macroblockTypePredictiveIndex, macroblockTypePredictiveValue, macroblockTypeBIndex, macroblockTypeBValue, codeBlockPatternIndex, codeBlockPatternValue, motionIndex, motionValue, dctSizeLuminanceIndex, dctSizeLuminanceValue, dctSizeChrominanceIndex, dctSizeChrominanceValue, dctCoeffIndex, dctCoeffValue}
+use Rattle.codes.specs.Standard.{Code, _∈_, Stands, macroblockAddressIncrementCodes, macroblockTypeIntraCodes, macroblockTypePredictiveCodes, macroblockTypeBCodes, codeBlockPatternCodes, motionCodes, dctSizeLuminanceCodes, dctSizeChrominanceCodes, dctCoeffCodes}
+use Rattle.codes.proofs.Agreement.{Agrees}
+use Rattle.codes.proofs.Follow.{runs-as}
+use Rattle.codes.proofs.Tested.{agrees-of}
+use Rattle.codes.proofs.Tree.{passes}
+
+eqZ-same : (x y : ℤ) → T (eqZ x y) → x ≡ y
+eqZ-same (pos m) (pos n) t = ap pos (eqb→eq m n t)
+eqZ-same (pos m) (negsuc n) t = absurd t
+eqZ-same (negsuc m) (pos n) t = absurd t
+eqZ-same (negsuc m) (negsuc n) t = ap negsuc (eqb→eq m n t)
+
+-- tables of signed and of unsigned values; what is no code has the value 0
+signed : {ix vs : List ℤ} {idle : ℤ} {codes : List (Code ℤ)} → T (passes eqZ ix vs (pos 0) idle codes) → Agrees ix vs (pos 0) idle codes
+signed {ix} {vs} {idle} {codes} t = agrees-of eqZ eqZ-same ix vs (pos 0) idle codes t
+
+unsigned : {ix : List ℤ} {vs : List ℕ} {idle : ℕ} {codes : List (Code ℕ)} → T (passes eqb ix vs 0 idle codes) → Agrees ix vs 0 idle codes
+unsigned {ix} {vs} {idle} {codes} t = agrees-of eqb eqb→eq ix vs 0 idle codes t
+
+-- Table B.1
+pub agrees-macroblock-address-increment : Agrees macroblockAddressIncrementIndex macroblockAddressIncrementValue (pos 0) (pos 0) macroblockAddressIncrementCodes
+unfolding macroblockAddressIncrementIndex macroblockAddressIncrementValue macroblockAddressIncrementCodes
+agrees-macroblock-address-increment = signed tt
+
+-- Table B.2
+pub agrees-macroblock-type-intra : Agrees macroblockTypeIntraIndex macroblockTypeIntraValue (pos 0) (pos 0) macroblockTypeIntraCodes
+unfolding macroblockTypeIntraIndex macroblockTypeIntraValue macroblockTypeIntraCodes
+agrees-macroblock-type-intra = signed tt
+
+pub agrees-macroblock-type-predictive : Agrees macroblockTypePredictiveIndex macroblockTypePredictiveValue (pos 0) (pos 0) macroblockTypePredictiveCodes
+unfolding macroblockTypePredictiveIndex macroblockTypePredictiveValue macroblockTypePredictiveCodes
+agrees-macroblock-type-predictive = signed tt
+
+pub agrees-macroblock-type-b : Agrees macroblockTypeBIndex macroblockTypeBValue (pos 0) (pos 0) macroblockTypeBCodes
+unfolding macroblockTypeBIndex macroblockTypeBValue macroblockTypeBCodes
+agrees-macroblock-type-b = signed tt
+
+-- Table B.3
+pub agrees-code-block-pattern : Agrees codeBlockPatternIndex codeBlockPatternValue (pos 0) (pos 0) codeBlockPatternCodes
+unfolding codeBlockPatternIndex codeBlockPatternValue codeBlockPatternCodes
+agrees-code-block-pattern = signed tt
+
+-- Table B.4
+pub agrees-motion : Agrees motionIndex motionValue (pos 0) (pos 0) motionCodes
+unfolding motionIndex motionValue motionCodes
+agrees-motion = signed tt
+
+-- Table B.5; at the end of the stream the luminance size is 1 (RULES 2.6)
+pub agrees-dct-size-luminance : Agrees dctSizeLuminanceIndex dctSizeLuminanceValue (pos 0) (pos 1) dctSizeLuminanceCodes
+unfolding dctSizeLuminanceIndex dctSizeLuminanceValue dctSizeLuminanceCodes
+agrees-dct-size-luminance = signed tt
+
+pub agrees-dct-size-chrominance : Agrees dctSizeChrominanceIndex dctSizeChrominanceValue (pos 0) (pos 0) dctSizeChrominanceCodes
+unfolding dctSizeChrominanceIndex dctSizeChrominanceValue dctSizeChrominanceCodes
+agrees-dct-size-chrominance = signed tt
+
+pub agrees-dct-coeff : Agrees dctCoeffIndex dctCoeffValue 0 0 dctCoeffCodes
+unfolding dctCoeffIndex dctCoeffValue dctCoeffCodes
+agrees-dct-coeff = unsigned tt
+
+-- ---- to use them
+
+module _ {A : Type 0} where
+  -- the code in row i
+  pub row : (codes : List (Code A)) (d : Code A) (i : ℕ) → i < length codes → getD codes i d ∈ codes
+  row [] d i h = absurd (not-suc-le-zero h)
+  row (c ∷ codes) d zero h = List·Memᴰ·head refl
+  row (c ∷ codes) d (suc i) h = List·Memᴰ·tail (row codes d i (le-of-suc-le-suc h))
+
+  -- a code that lies inside the stream takes all its bits
+  pub reads-inside : {ix : List ℤ} {vs : List A} {d idle : A} {codes : List (Code A)} → Agrees ix vs d idle codes
+      → (c : Code A) → c ∈ codes → (s : List ℕ) (a : ℕ) → Stands c s a → a + c .bits ≤ length s * 8 → Runs (vlc ix vs d) s a (c .value) (a + c .bits)
+  reads-inside g c m s a h l = runs-as (g .reads c m s a h) refl (omega arith)

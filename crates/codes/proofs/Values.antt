@@ -1,0 +1,13 @@
+-- A bound on every value of a table bounds every code read from it. Assumes nothing.
+use mathlib.Core.List.{List}
+use Prim.Native.Nat.{ℕ, _≤_, zero-le}
+use lib.Dec.{T, leb, leb→le, le→leb}
+use lib.IntN.{ℤ, pos, natAbs}
+use Rattle.laws.proofs.Tables.{every}
+use Rattle.bits.specs.Runs.{Runs}
+use Rattle.codes.specs.Walk.{vlc}
+use Rattle.codes.proofs.Vlc.{vlc-passes}
+
+pub at-most : (n : ℕ) (ix vs : List ℤ) → T (every (λ k z. leb (natAbs z) n) 0 vs) → {s : List ℕ} {a e : ℕ} {v : ℤ}
+    → Runs (vlc ix vs (pos 0)) s a v e → natAbs v ≤ n
+at-most n ix vs all r = leb→le _ _ (vlc-passes ix vs (pos 0) r (λ z. leb (natAbs z) n) (le→leb 0 n zero-le) all)

@@ -1,0 +1,24 @@
+use mir.Facts.{toZ-ofZ}
+use borrow.Author.Needs.{needs, sfits-of}
+use Rattle.bits.proofs.Rules.{r-call, r-done}
+use Rattle.codes.specs.Walk.{vlc}
+use Rattle.codes.proofs.walk.read_vlc.Statement.{statement}
+use Rattle.codes.proofs.walk.read_vlc.Tie as tie
+
+walk-requires : tie.Need-walk-requires
+walk-requires c κs = search needs
+
+mul-found : tie.Need-mul-found
+mul-found c = search needs
+
+shared-slice-copy-out-found : tie.Need-shared-slice-copy-out-found
+shared-slice-copy-out-found c = search needs
+
+returns : tie.Need-returns
+unfolding vlc
+returns c =
+    let x = c .before .before in
+    rw (toZ-ofZ (sfits-of (c .found .given))) (r-call _ (x .walk .ensures .0) r-done, x .walk .ensures .1 .1)
+
+pub read-vlc-spec : {M : Type 1} → statement M
+read-vlc-spec = tie.close (tie.spec walk-requires mul-found shared-slice-copy-out-found returns)

@@ -1,0 +1,7 @@
+pub mod Codes
+pub mod Matrices
+pub mod Rates
+pub mod Rule
+pub mod Standard
+pub mod Tables
+pub mod Walk

@@ -1,0 +1,378 @@
+-- The code tables of ISO/IEC 11172-2, Annex B, as printed: code words beside their values. A word is written with all its digits, and its length before it.
+use Prim.Native.Nat.{ℕ, min, max, _+_, _-_, _*_, _/_, _^_, _≤_}
+use mathlib.Core.Path.{_≡_}
+use mathlib.Core.List.{List, [], _∷_, List·Memᴰ}
+use lib.ListN.{length}
+use lib.IntN.{ℤ, pos, negℤ}
+use Rattle.bits.specs.Bits.{bitsAt}
+
+pub record Code (A : Type 0) : Type 0 where
+  pub bits : ℕ
+  pub word : ℕ
+  pub value : A
+
+abbrev pub code : {A : Type 0} → ℕ → ℕ → A → Code A
+code n w v = record { bits = n; word = w; value = v }
+
+-- a value below 0
+abbrev pub minus : ℕ → ℤ
+minus v = negℤ (pos v)
+
+-- a macroblock_type by the five columns of its row: macroblock_quant, macroblock_motion_forward, macroblock_motion_backward, macroblock_pattern,
+-- macroblock_intra; its value is the sum of the flags (RULES 2.12)
+abbrev pub kind : ℕ → ℕ → ℕ → ℕ → ℕ → ℕ → ℕ → Code ℤ
+kind n w quant forward backward pattern intra = code n w (pos (quant * 16 + forward * 8 + backward * 4 + pattern * 2 + intra))
+
+-- a code of dct_coeff_first: run and level as one number (RULES 2.10)
+abbrev pub pair : ℕ → ℕ → ℕ → ℕ → Code ℕ
+pair n w run level = code n w (run * 256 + level)
+
+-- c is one of the codes printed
+infix 4 _∈_
+abbrev pub _∈_ : {A : Type 0} → Code A → List (Code A) → Type 0
+c ∈ codes = List·Memᴰ c codes
+
+-- the code word of c stands at the place a of s; past the end each bit is 0 (RULES 2.6)
+abbrev pub Stands : {A : Type 0} → Code A → List ℕ → ℕ → Type 0
+Stands c s a = bitsAt s a (c .bits) ≡ c .word
+
+-- the code word of c begins with the n bits that make the number w
+pub record Begins {A : Type 0} (c : Code A) (n w : ℕ) : Type 0 where
+  pub long : n ≤ c .bits
+  pub front : c .word / 2 ^ (c .bits - n) ≡ w
+
+-- some code of the list begins with the n bits that make w, so that after them a code is still possible
+pub record Possible {A : Type 0} (codes : List (Code A)) (n w : ℕ) : Type 0 where
+  pub some : Code A
+  pub printed : some ∈ codes
+  pub begins : Begins some n w
+
+-- where n single bits, read from the place a on, end: n bits on, and no further than the end of the stream
+abbrev pub taken : List ℕ → ℕ → ℕ → ℕ
+taken s a n = min (a + n) (max a (length s * 8))
+
+-- Table B.1: macroblock_address_increment 1 to 33, macroblock_stuffing (34), macroblock_escape (35)
+unfoldable pub macroblockAddressIncrementCodes : List (Code ℤ)
+macroblockAddressIncrementCodes =
+    code 1 0b1 (pos 1) ∷
+    code 3 0b011 (pos 2) ∷
+    code 3 0b010 (pos 3) ∷
+    code 4 0b0011 (pos 4) ∷
+    code 4 0b0010 (pos 5) ∷
+    code 5 0b0001_1 (pos 6) ∷
+    code 5 0b0001_0 (pos 7) ∷
+    code 7 0b0000_111 (pos 8) ∷
+    code 7 0b0000_110 (pos 9) ∷
+    code 8 0b0000_1011 (pos 10) ∷
+    code 8 0b0000_1010 (pos 11) ∷
+    code 8 0b0000_1001 (pos 12) ∷
+    code 8 0b0000_1000 (pos 13) ∷
+    code 8 0b0000_0111 (pos 14) ∷
+    code 8 0b0000_0110 (pos 15) ∷
+    code 10 0b0000_0101_11 (pos 16) ∷
+    code 10 0b0000_0101_10 (pos 17) ∷
+    code 10 0b0000_0101_01 (pos 18) ∷
+    code 10 0b0000_0101_00 (pos 19) ∷
+    code 10 0b0000_0100_11 (pos 20) ∷
+    code 10 0b0000_0100_10 (pos 21) ∷
+    code 11 0b0000_0100_011 (pos 22) ∷
+    code 11 0b0000_0100_010 (pos 23) ∷
+    code 11 0b0000_0100_001 (pos 24) ∷
+    code 11 0b0000_0100_000 (pos 25) ∷
+    code 11 0b0000_0011_111 (pos 26) ∷
+    code 11 0b0000_0011_110 (pos 27) ∷
+    code 11 0b0000_0011_101 (pos 28) ∷
+    code 11 0b0000_0011_100 (pos 29) ∷
+    code 11 0b0000_0011_011 (pos 30) ∷
+    code 11 0b0000_0011_010 (pos 31) ∷
+    code 11 0b0000_0011_001 (pos 32) ∷
+    code 11 0b0000_0011_000 (pos 33) ∷
+    code 11 0b0000_0001_111 (pos 34) ∷
+    code 11 0b0000_0001_000 (pos 35) ∷
+    []
+
+-- Table B.2a: macroblock_type of I pictures
+unfoldable pub macroblockTypeIntraCodes : List (Code ℤ)
+macroblockTypeIntraCodes =
+    kind 1 0b1 0 0 0 0 1 ∷
+    kind 2 0b01 1 0 0 0 1 ∷
+    []
+
+-- Table B.2b: macroblock_type of P pictures
+unfoldable pub macroblockTypePredictiveCodes : List (Code ℤ)
+macroblockTypePredictiveCodes =
+    kind 1 0b1 0 1 0 1 0 ∷
+    kind 2 0b01 0 0 0 1 0 ∷
+    kind 3 0b001 0 1 0 0 0 ∷
+    kind 5 0b0001_1 0 0 0 0 1 ∷
+    kind 5 0b0001_0 1 1 0 1 0 ∷
+    kind 5 0b0000_1 1 0 0 1 0 ∷
+    kind 6 0b0000_01 1 0 0 0 1 ∷
+    []
+
+-- Table B.2c: macroblock_type of B pictures
+unfoldable pub macroblockTypeBCodes : List (Code ℤ)
+macroblockTypeBCodes =
+    kind 2 0b10 0 1 1 0 0 ∷
+    kind 2 0b11 0 1 1 1 0 ∷
+    kind 3 0b010 0 0 1 0 0 ∷
+    kind 3 0b011 0 0 1 1 0 ∷
+    kind 4 0b0010 0 1 0 0 0 ∷
+    kind 4 0b0011 0 1 0 1 0 ∷
+    kind 5 0b0001_1 0 0 0 0 1 ∷
+    kind 5 0b0001_0 1 1 1 1 0 ∷
+    kind 6 0b0000_11 1 1 0 1 0 ∷
+    kind 6 0b0000_10 1 0 1 1 0 ∷
+    kind 6 0b0000_01 1 0 0 0 1 ∷
+    []
+
+-- Table B.3: coded_block_pattern
+unfoldable pub codeBlockPatternCodes : List (Code ℤ)
+codeBlockPatternCodes =
+    code 3 0b111 (pos 60) ∷
+    code 4 0b1101 (pos 4) ∷
+    code 4 0b1100 (pos 8) ∷
+    code 4 0b1011 (pos 16) ∷
+    code 4 0b1010 (pos 32) ∷
+    code 5 0b1001_1 (pos 12) ∷
+    code 5 0b1001_0 (pos 48) ∷
+    code 5 0b1000_1 (pos 20) ∷
+    code 5 0b1000_0 (pos 40) ∷
+    code 5 0b0111_1 (pos 28) ∷
+    code 5 0b0111_0 (pos 44) ∷
+    code 5 0b0110_1 (pos 52) ∷
+    code 5 0b0110_0 (pos 56) ∷
+    code 5 0b0101_1 (pos 1) ∷
+    code 5 0b0101_0 (pos 61) ∷
+    code 5 0b0100_1 (pos 2) ∷
+    code 5 0b0100_0 (pos 62) ∷
+    code 6 0b0011_11 (pos 24) ∷
+    code 6 0b0011_10 (pos 36) ∷
+    code 6 0b0011_01 (pos 3) ∷
+    code 6 0b0011_00 (pos 63) ∷
+    code 7 0b0010_111 (pos 5) ∷
+    code 7 0b0010_110 (pos 9) ∷
+    code 7 0b0010_101 (pos 17) ∷
+    code 7 0b0010_100 (pos 33) ∷
+    code 7 0b0010_011 (pos 6) ∷
+    code 7 0b0010_010 (pos 10) ∷
+    code 7 0b0010_001 (pos 18) ∷
+    code 7 0b0010_000 (pos 34) ∷
+    code 8 0b0001_1111 (pos 7) ∷
+    code 8 0b0001_1110 (pos 11) ∷
+    code 8 0b0001_1101 (pos 19) ∷
+    code 8 0b0001_1100 (pos 35) ∷
+    code 8 0b0001_1011 (pos 13) ∷
+    code 8 0b0001_1010 (pos 49) ∷
+    code 8 0b0001_1001 (pos 21) ∷
+    code 8 0b0001_1000 (pos 41) ∷
+    code 8 0b0001_0111 (pos 14) ∷
+    code 8 0b0001_0110 (pos 50) ∷
+    code 8 0b0001_0101 (pos 22) ∷
+    code 8 0b0001_0100 (pos 42) ∷
+    code 8 0b0001_0011 (pos 15) ∷
+    code 8 0b0001_0010 (pos 51) ∷
+    code 8 0b0001_0001 (pos 23) ∷
+    code 8 0b0001_0000 (pos 43) ∷
+    code 8 0b0000_1111 (pos 25) ∷
+    code 8 0b0000_1110 (pos 37) ∷
+    code 8 0b0000_1101 (pos 26) ∷
+    code 8 0b0000_1100 (pos 38) ∷
+    code 8 0b0000_1011 (pos 29) ∷
+    code 8 0b0000_1010 (pos 45) ∷
+    code 8 0b0000_1001 (pos 53) ∷
+    code 8 0b0000_1000 (pos 57) ∷
+    code 8 0b0000_0111 (pos 30) ∷
+    code 8 0b0000_0110 (pos 46) ∷
+    code 8 0b0000_0101 (pos 54) ∷
+    code 8 0b0000_0100 (pos 58) ∷
+    code 9 0b0000_0011_1 (pos 31) ∷
+    code 9 0b0000_0011_0 (pos 47) ∷
+    code 9 0b0000_0010_1 (pos 55) ∷
+    code 9 0b0000_0010_0 (pos 59) ∷
+    code 9 0b0000_0001_1 (pos 27) ∷
+    code 9 0b0000_0001_0 (pos 39) ∷
+    []
+
+-- Table B.4: motion_horizontal_forward_code and the three others
+unfoldable pub motionCodes : List (Code ℤ)
+motionCodes =
+    code 11 0b0000_0011_001 (minus 16) ∷
+    code 11 0b0000_0011_011 (minus 15) ∷
+    code 11 0b0000_0011_101 (minus 14) ∷
+    code 11 0b0000_0011_111 (minus 13) ∷
+    code 11 0b0000_0100_001 (minus 12) ∷
+    code 11 0b0000_0100_011 (minus 11) ∷
+    code 10 0b0000_0100_11 (minus 10) ∷
+    code 10 0b0000_0101_01 (minus 9) ∷
+    code 10 0b0000_0101_11 (minus 8) ∷
+    code 8 0b0000_0111 (minus 7) ∷
+    code 8 0b0000_1001 (minus 6) ∷
+    code 8 0b0000_1011 (minus 5) ∷
+    code 7 0b0000_111 (minus 4) ∷
+    code 5 0b0001_1 (minus 3) ∷
+    code 4 0b0011 (minus 2) ∷
+    code 3 0b011 (minus 1) ∷
+    code 1 0b1 (pos 0) ∷
+    code 3 0b010 (pos 1) ∷
+    code 4 0b0010 (pos 2) ∷
+    code 5 0b0001_0 (pos 3) ∷
+    code 7 0b0000_110 (pos 4) ∷
+    code 8 0b0000_1010 (pos 5) ∷
+    code 8 0b0000_1000 (pos 6) ∷
+    code 8 0b0000_0110 (pos 7) ∷
+    code 10 0b0000_0101_10 (pos 8) ∷
+    code 10 0b0000_0101_00 (pos 9) ∷
+    code 10 0b0000_0100_10 (pos 10) ∷
+    code 11 0b0000_0100_010 (pos 11) ∷
+    code 11 0b0000_0100_000 (pos 12) ∷
+    code 11 0b0000_0011_110 (pos 13) ∷
+    code 11 0b0000_0011_100 (pos 14) ∷
+    code 11 0b0000_0011_010 (pos 15) ∷
+    code 11 0b0000_0011_000 (pos 16) ∷
+    []
+
+-- Table B.5a: dct_dc_size_luminance
+unfoldable pub dctSizeLuminanceCodes : List (Code ℤ)
+dctSizeLuminanceCodes =
+    code 3 0b100 (pos 0) ∷
+    code 2 0b00 (pos 1) ∷
+    code 2 0b01 (pos 2) ∷
+    code 3 0b101 (pos 3) ∷
+    code 3 0b110 (pos 4) ∷
+    code 4 0b1110 (pos 5) ∷
+    code 5 0b1111_0 (pos 6) ∷
+    code 6 0b1111_10 (pos 7) ∷
+    code 7 0b1111_110 (pos 8) ∷
+    []
+
+-- Table B.5b: dct_dc_size_chrominance
+unfoldable pub dctSizeChrominanceCodes : List (Code ℤ)
+dctSizeChrominanceCodes =
+    code 2 0b00 (pos 0) ∷
+    code 2 0b01 (pos 1) ∷
+    code 2 0b10 (pos 2) ∷
+    code 3 0b110 (pos 3) ∷
+    code 4 0b1110 (pos 4) ∷
+    code 5 0b1111_0 (pos 5) ∷
+    code 6 0b1111_10 (pos 6) ∷
+    code 7 0b1111_110 (pos 7) ∷
+    code 8 0b1111_1110 (pos 8) ∷
+    []
+
+-- Table B.5c and those behind it: dct_coeff_first, run and level, without the sign bit; and the escape. By length, run and level
+unfoldable pub dctCoeffCodes : List (Code ℕ)
+dctCoeffCodes =
+    pair 1 0b1 0 1 ∷
+    pair 3 0b011 1 1 ∷
+    pair 4 0b0100 0 2 ∷
+    pair 4 0b0101 2 1 ∷
+    pair 5 0b0010_1 0 3 ∷
+    pair 5 0b0011_1 3 1 ∷
+    pair 5 0b0011_0 4 1 ∷
+    pair 6 0b0001_10 1 2 ∷
+    pair 6 0b0001_11 5 1 ∷
+    pair 6 0b0001_01 6 1 ∷
+    pair 6 0b0001_00 7 1 ∷
+    pair 7 0b0000_110 0 4 ∷
+    pair 7 0b0000_100 2 2 ∷
+    pair 7 0b0000_111 8 1 ∷
+    pair 7 0b0000_101 9 1 ∷
+    code 6 0b0000_01 0xffff ∷
+    pair 8 0b0010_0110 0 5 ∷
+    pair 8 0b0010_0001 0 6 ∷
+    pair 8 0b0010_0101 1 3 ∷
+    pair 8 0b0010_0100 3 2 ∷
+    pair 8 0b0010_0111 10 1 ∷
+    pair 8 0b0010_0011 11 1 ∷
+    pair 8 0b0010_0010 12 1 ∷
+    pair 8 0b0010_0000 13 1 ∷
+    pair 10 0b0000_0010_10 0 7 ∷
+    pair 10 0b0000_0011_00 1 4 ∷
+    pair 10 0b0000_0010_11 2 3 ∷
+    pair 10 0b0000_0011_11 4 2 ∷
+    pair 10 0b0000_0010_01 5 2 ∷
+    pair 10 0b0000_0011_10 14 1 ∷
+    pair 10 0b0000_0011_01 15 1 ∷
+    pair 10 0b0000_0010_00 16 1 ∷
+    pair 12 0b0000_0001_1101 0 8 ∷
+    pair 12 0b0000_0001_1000 0 9 ∷
+    pair 12 0b0000_0001_0011 0 10 ∷
+    pair 12 0b0000_0001_0000 0 11 ∷
+    pair 12 0b0000_0001_1011 1 5 ∷
+    pair 12 0b0000_0001_0100 2 4 ∷
+    pair 12 0b0000_0001_1100 3 3 ∷
+    pair 12 0b0000_0001_0010 4 3 ∷
+    pair 12 0b0000_0001_1110 6 2 ∷
+    pair 12 0b0000_0001_0101 7 2 ∷
+    pair 12 0b0000_0001_0001 8 2 ∷
+    pair 12 0b0000_0001_1111 17 1 ∷
+    pair 12 0b0000_0001_1010 18 1 ∷
+    pair 12 0b0000_0001_1001 19 1 ∷
+    pair 12 0b0000_0001_0111 20 1 ∷
+    pair 12 0b0000_0001_0110 21 1 ∷
+    pair 13 0b0000_0000_1101_0 0 12 ∷
+    pair 13 0b0000_0000_1100_1 0 13 ∷
+    pair 13 0b0000_0000_1100_0 0 14 ∷
+    pair 13 0b0000_0000_1011_1 0 15 ∷
+    pair 13 0b0000_0000_1011_0 1 6 ∷
+    pair 13 0b0000_0000_1010_1 1 7 ∷
+    pair 13 0b0000_0000_1010_0 2 5 ∷
+    pair 13 0b0000_0000_1001_1 3 4 ∷
+    pair 13 0b0000_0000_1001_0 5 3 ∷
+    pair 13 0b0000_0000_1000_1 9 2 ∷
+    pair 13 0b0000_0000_1000_0 10 2 ∷
+    pair 13 0b0000_0000_1111_1 22 1 ∷
+    pair 13 0b0000_0000_1111_0 23 1 ∷
+    pair 13 0b0000_0000_1110_1 24 1 ∷
+    pair 13 0b0000_0000_1110_0 25 1 ∷
+    pair 13 0b0000_0000_1101_1 26 1 ∷
+    pair 14 0b0000_0000_0111_11 0 16 ∷
+    pair 14 0b0000_0000_0111_10 0 17 ∷
+    pair 14 0b0000_0000_0111_01 0 18 ∷
+    pair 14 0b0000_0000_0111_00 0 19 ∷
+    pair 14 0b0000_0000_0110_11 0 20 ∷
+    pair 14 0b0000_0000_0110_10 0 21 ∷
+    pair 14 0b0000_0000_0110_01 0 22 ∷
+    pair 14 0b0000_0000_0110_00 0 23 ∷
+    pair 14 0b0000_0000_0101_11 0 24 ∷
+    pair 14 0b0000_0000_0101_10 0 25 ∷
+    pair 14 0b0000_0000_0101_01 0 26 ∷
+    pair 14 0b0000_0000_0101_00 0 27 ∷
+    pair 14 0b0000_0000_0100_11 0 28 ∷
+    pair 14 0b0000_0000_0100_10 0 29 ∷
+    pair 14 0b0000_0000_0100_01 0 30 ∷
+    pair 14 0b0000_0000_0100_00 0 31 ∷
+    pair 15 0b0000_0000_0011_000 0 32 ∷
+    pair 15 0b0000_0000_0010_111 0 33 ∷
+    pair 15 0b0000_0000_0010_110 0 34 ∷
+    pair 15 0b0000_0000_0010_101 0 35 ∷
+    pair 15 0b0000_0000_0010_100 0 36 ∷
+    pair 15 0b0000_0000_0010_011 0 37 ∷
+    pair 15 0b0000_0000_0010_010 0 38 ∷
+    pair 15 0b0000_0000_0010_001 0 39 ∷
+    pair 15 0b0000_0000_0010_000 0 40 ∷
+    pair 15 0b0000_0000_0011_111 1 8 ∷
+    pair 15 0b0000_0000_0011_110 1 9 ∷
+    pair 15 0b0000_0000_0011_101 1 10 ∷
+    pair 15 0b0000_0000_0011_100 1 11 ∷
+    pair 15 0b0000_0000_0011_011 1 12 ∷
+    pair 15 0b0000_0000_0011_010 1 13 ∷
+    pair 15 0b0000_0000_0011_001 1 14 ∷
+    pair 16 0b0000_0000_0001_0011 1 15 ∷
+    pair 16 0b0000_0000_0001_0010 1 16 ∷
+    pair 16 0b0000_0000_0001_0001 1 17 ∷
+    pair 16 0b0000_0000_0001_0000 1 18 ∷
+    pair 16 0b0000_0000_0001_0100 6 3 ∷
+    pair 16 0b0000_0000_0001_1010 11 2 ∷
+    pair 16 0b0000_0000_0001_1001 12 2 ∷
+    pair 16 0b0000_0000_0001_1000 13 2 ∷
+    pair 16 0b0000_0000_0001_0111 14 2 ∷
+    pair 16 0b0000_0000_0001_0110 15 2 ∷
+    pair 16 0b0000_0000_0001_0101 16 2 ∷
+    pair 16 0b0000_0000_0001_1111 27 1 ∷
+    pair 16 0b0000_0000_0001_1110 28 1 ∷
+    pair 16 0b0000_0000_0001_1101 29 1 ∷
+    pair 16 0b0000_0000_0001_1100 30 1 ∷
+    pair 16 0b0000_0000_0001_1011 31 1 ∷
+    []

@@ -1,0 +1,25 @@
+-- RULES 2.2: the walk through a code table, a bit at a time, as a program over reads.
+use Prim.Native.Nat.{ℕ, _+_}
+use mathlib.Core.List.{List}
+use mathlib.Core.Bool.{cond}
+use lib.ListN.{length, getD}
+use lib.IntN.{ℤ, pos, natAbs}
+use lib.Signed.{leZ}
+use Rattle.laws.specs.Turns.{Turn, again, stop}
+use Rattle.bits.specs.Programs.{Prog, done, bind, bits, loop, _>>=_, _>>_, if_then_else_}
+
+-- one bit: on to a further pair of entries, or the end of the walk at an entry
+unfoldable pub walkTurn : List ℤ → ℕ → Prog (Turn ℕ ℕ)
+walkTurn ix at = do
+  b ← bits 1
+  if leZ (getD ix (at + b) (pos 0)) (pos 0) then done (stop (at + b)) else done (again (natAbs (getD ix (at + b) (pos 0))))
+
+-- the entry at which the walk ends
+unfoldable pub walk : List ℤ → Prog ℕ
+walk ix = loop (length ix) (walkTurn ix) 0 0
+
+-- and its value: the Rust's read_vlc with the table as argument
+unfoldable pub vlc : {A : Type 0} → List ℤ → List A → A → Prog A
+vlc ix vs d = do
+  k ← walk ix
+  done (getD vs k d)

@@ -1,0 +1,37 @@
+// The Rust's decoder as it stands in docs/src, with its private parts at hand.
+#![allow(dead_code)]
+include!("../../docs/src/crates/native32emu-core/src/mpeg/video.rs");
+
+// The nine code tables, in the order of docs/RULES.md 2.1.
+pub enum Table {
+    Signed(&'static [(i16, i16)]),
+    Unsigned(&'static [(i16, u16)]),
+}
+
+pub const TABLES: [Table; 9] = [
+    Table::Signed(MACROBLOCK_ADDRESS_INCREMENT),
+    Table::Signed(MACROBLOCK_TYPE_INTRA),
+    Table::Signed(MACROBLOCK_TYPE_PREDICTIVE),
+    Table::Signed(MACROBLOCK_TYPE_B),
+    Table::Signed(CODE_BLOCK_PATTERN),
+    Table::Signed(MOTION),
+    Table::Signed(DCT_SIZE_LUMINANCE),
+    Table::Signed(DCT_SIZE_CHROMINANCE),
+    Table::Unsigned(DCT_COEFF),
+];
+
+impl Table {
+    pub fn index(&self, at: usize) -> i16 {
+        match self {
+            Table::Signed(entries) => entries[at].0,
+            Table::Unsigned(entries) => entries[at].0,
+        }
+    }
+
+    pub fn read(&self, buffer: &mut Buffer) -> i32 {
+        match self {
+            Table::Signed(entries) => buffer.read_vlc(entries) as i32,
+            Table::Unsigned(entries) => buffer.read_vlc_uint(entries) as i32,
+        }
+    }
+}
