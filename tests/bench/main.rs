@@ -1,5 +1,6 @@
 // Times ours, the static library of crates/bench, and the Rust on the same bytes in one process, one file a part.
 // The answers of a loop must be equal. Of several runs, the Rust's and ours in turn, the best of each counts.
+mod codes;
 mod reader;
 
 #[allow(dead_code)]
@@ -9,6 +10,10 @@ mod buffer;
 #[allow(dead_code)]
 #[path = "../oracle/random.rs"]
 mod random;
+
+#[allow(dead_code)]
+#[path = "../oracle/video.rs"]
+mod video;
 
 use std::hint::black_box;
 use std::time::Instant;
@@ -32,9 +37,10 @@ fn compare<T>(name: &str, calls: usize, ours: impl Fn() -> u32, prepare: impl Fn
         rust_best = rust_best.min(rust_time);
     }
     let (a, b) = (ours_best / calls as f64, rust_best / calls as f64);
-    println!("{name:<32} {calls:>8} calls   ours {a:>11.2} ns   rust {b:>11.2} ns   ratio {:.2}", a / b);
+    println!("{name:<38} {calls:>8} calls   ours {a:>11.2} ns   rust {b:>11.2} ns   ratio {:.2}", a / b);
 }
 
 fn main() {
     reader::run();
+    codes::run();
 }

@@ -51,7 +51,12 @@ impl Recorder {
         low
     }
 
+    // Past the end, where only a seek leads, the place is the beginning of a byte.
     fn place(&self) -> usize {
+        if self.bits / 8 < self.buffer.tell() {
+            assert!(self.left() == 0 && self.buffer.has_ended());
+            return self.buffer.tell() * 8;
+        }
         let place = self.bits - self.left();
         assert!(place / 8 == self.buffer.tell());
         assert!((place == self.bits) == self.buffer.has_ended());
@@ -124,7 +129,7 @@ impl Recorder {
     // What can be asked at a place with no advance.
     fn ask(&mut self) {
         let left = self.left() as u32;
-        let rest = (self.bits / 8 - self.buffer.tell()) as u32;
+        let rest = (self.bits / 8).saturating_sub(self.buffer.tell()) as u32;
         for count in around(left) {
             self.run(Has, count);
             if count <= 32 {
@@ -290,6 +295,33 @@ fn forty_bits(r: &mut Recorder, random: &mut Random) {
     }
 }
 
+// Places past the end: nothing is left there, and nothing leads on.
+fn past_the_end(r: &mut Recorder) {
+    for length in [0, 1, 5, 9] {
+        r.stream(&vec![0; length]);
+        for past in [1, 2, 7, 1000] {
+            r.run(Seek, (length + past) as u32);
+            r.ask();
+            for count in [0, 1, 8, 32] {
+                r.run(Read, count);
+                r.run(Skip, count);
+                r.run(PeekNonZero, count);
+            }
+            r.run(ReadBit, 0);
+            r.run(Align, 0);
+            r.run(SkipBytes, 0);
+            r.run(NextStartCode, 0);
+            for code in CODES {
+                r.run(FindStartCode, code);
+                r.run(HasStartCode, code);
+            }
+            r.run(Tell, 0);
+        }
+        r.run(Seek, length as u32);
+        r.ask();
+    }
+}
+
 // Any operation, with arguments that are now and then past the end.
 fn any(r: &mut Recorder, random: &mut Random) {
     let left = r.left();
@@ -341,6 +373,7 @@ pub fn list() -> Vec<u8> {
     start_codes(r);
     runs(r);
     forty_bits(r, &mut random);
+    past_the_end(r);
     sequences(r, &mut random);
     recorder.list.finish()
 }

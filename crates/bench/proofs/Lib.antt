@@ -1,1 +1,2 @@
+pub mod CodeTurns
 pub mod Turns

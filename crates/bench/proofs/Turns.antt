@@ -1,19 +1,18 @@
 -- The turns of the measured loops, by what the reader's calls give.
-use mathlib.Core.Path.{_≡_, refl, sym, ap, _∙_}
-use mathlib.Core.Bool.{Bool, true, false, cond}
+use mathlib.Core.Path.{_≡_, sym, ap, _∙_}
+use mathlib.Core.Bool.{Bool, true, false}
 use mathlib.Core.List.{List}
 use Prim.Native.Nat.{ℕ, _+_, _-_, _*_, _≤_, _<_}
 use native.Mathlib.Omega.{arith}
 use borrow.Author.Tests.{leb-true, le-leb}
 use lib.ListN.{length}
-use Rattle.laws.specs.Turns.{again, stop}
 use Rattle.bits.specs.Bits.{has, got, next}
 use Rattle.bits.specs.Programs.{Prog, look, bits, reads, run, Out, many}
 use Rattle.bits.specs.Runs.{Runs}
 use Rattle.bits.proofs.Rules.{r-call, r-yes, r-no, r-done, Loops, loop-start, loop-on, loop-end}
 use Rattle.bench.specs.Loops.{addTurn, addReads}
 
-r-look : {A : Type 0} {s : List ℕ} {a n : ℕ} {k : Bool → ℕ → Prog A} {v : A} {e : ℕ} → Runs (k (has s a n) (got s a n)) s a v e → Runs (look n k) s a v e
+pub r-look : {A : Type 0} {s : List ℕ} {a n : ℕ} {k : Bool → ℕ → Prog A} {v : A} {e : ℕ} → Runs (k (has s a n) (got s a n)) s a v e → Runs (look n k) s a v e
 unfolding run
 r-look r = record { is = r .is }
 

@@ -3,10 +3,10 @@ use Prim.Native.Nat.{ℕ, _+_, _%_}
 use mathlib.Core.Bool.{cond, _||_}
 use mathlib.Core.List.{List}
 use lib.Dec.{ltb, eqb}
-use lib.IntN.{ℤ, negsuc}
+use lib.IntN.{negsuc}
 use lib.ListN.{length}
 use Rattle.laws.specs.Turns.{Turn, again, stop}
-use Rattle.bits.specs.Programs.{Prog, done, look, run, bind, bits, nextStartCode, loop, many, eqZ, _>>=_, if_then_else_}
+use Rattle.bits.specs.Programs.{Prog, done, look, run, bits, nextStartCode, loop, many, eqZ, _>>=_, if_then_else_}
 
 -- a read of n bits is added to the sum, while they are there
 unfoldable pub addTurn : ℕ → ℕ → Prog (Turn ℕ ℕ)

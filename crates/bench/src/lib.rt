@@ -1,2 +1,3 @@
-// Loops over the reader for measuring its time: tests/bench runs them against the same loops of the Rust.
+// Loops for measuring: tests/bench runs them against the same loops of the Rust.
+mod coefficient_codes;
 mod reader;

@@ -1,0 +1,100 @@
+-- The loop's invariant: the codes read so far are in the sum, and the program's loop goes on from here.
+use mathlib.Core.Path.{_≡_, refl, sym, ap, _∙_}
+use Prim.Native.Nat.{ℕ, _-_, _%_}
+use native.Mathlib.Omega.{arith}
+use borrow.Author.Needs.{needs}
+use borrow.Author.Tests.{lt-ltb, le-ltb}
+use denote.Ref.{now}
+use Rattle.codes.specs.Codes.{dctCoeff}
+use Rattle.codes.specs.Tables.{dctCoeffIndex, dctCoeffValue}
+use Rattle.codes.proofs.Good.{good-dct-coeff}
+use Rattle.bench.specs.Codes.{sumOfCodes}
+use Rattle.bench.proofs.CodeTurns.{Adding, adding-start, adding-less, adding-on, adding-end}
+use Rattle.bench.proofs.coefficient_codes.bench_codes.Statement.{statement}
+use Rattle.bench.proofs.coefficient_codes.bench_codes.Tie as tie
+
+abbrev Inv-loop : tie.InvT-loop
+Inv-loop bytes index value reader₀ sum₀ reader sum = Adding bytes (reader .at .0) sum
+
+abbrev μ-loop : tie.MeasureT-loop
+μ-loop bytes index value reader₀ sum₀ reader sum = 134217728 - reader .at .0
+
+returns : tie.Need-returns Inv-loop μ-loop
+unfolding sumOfCodes
+returns c = simp (lt-ltb _ _ (c .if1 .taken))
+
+new-requires : tie.Need-new-requires Inv-loop μ-loop
+new-requires c κs = search needs
+
+loop-holds : tie.Need-loop-holds Inv-loop μ-loop
+loop-holds c = adding-start _ _ (c .new .ensures)
+
+has-requires : tie.Need-has-requires Inv-loop μ-loop
+has-requires c κs = search needs
+
+slice-aggregate-read-vlc-uint : tie.Need-slice-aggregate-read-vlc-uint Inv-loop μ-loop
+slice-aggregate-read-vlc-uint c = search needs
+
+slice-aggregate-read-vlc-uint-2 : tie.Need-slice-aggregate-read-vlc-uint-2 Inv-loop μ-loop
+slice-aggregate-read-vlc-uint-2 c = search needs
+
+read-vlc-uint-requires : tie.Need-read-vlc-uint-requires Inv-loop μ-loop
+unfolding dctCoeffIndex
+read-vlc-uint-requires c κs =
+    let l = c .before .before .before .before in
+    (l .loop .inv .most, (omega (arith, l .before .before .if1 .left), (good-dct-coeff, refl)))
+
+cast-sum : tie.Need-cast-sum Inv-loop μ-loop
+cast-sum c = search needs
+
+add-sum : tie.Need-add-sum Inv-loop μ-loop
+add-sum c =
+    let l = c .before .before .before .before .before .before .before in
+    omega (arith, c .struct-known .given, l .loop .inv .small, l .loop .inv .most)
+
+loop-less : tie.Need-loop-less Inv-loop μ-loop
+unfolding dctCoeff dctCoeffIndex dctCoeffValue
+loop-less c =
+    let r = c .before .before in
+    let l = r .before .before .before .before .before in
+    adding-less (l .before .before .before .before .args .bytes .now) _ (l .loop .sum) _ _ (omega (arith, l .before .before .if1 .left))
+    (sym (r .before .before .before .before .has .ensures) ∙ r .before .before .before .if2 .taken) (r .read-vlc-uint .ensures .0) (l .loop .inv .most)
+
+loop-again : tie.Need-loop-again Inv-loop μ-loop
+unfolding dctCoeff dctCoeffIndex dctCoeffValue
+loop-again c =
+    let r = c .before .before in
+    let l = r .before .before .before .before .before in
+    adding-on _ _ _ _ _ (omega (arith, l .before .before .if1 .left)) (sym (r .before .before .before .before .has .ensures) ∙ r .before .before .before .if2 .taken)
+    (r .read-vlc-uint .ensures .0) (omega (arith, c .struct-known .given)) (l .loop .inv)
+
+cast-result : tie.Need-cast-result Inv-loop μ-loop
+cast-result c = omega arith
+
+returns-2 : tie.Need-returns-2 Inv-loop μ-loop
+unfolding sumOfCodes
+returns-2 c =
+    let l = c .before .before in
+    let s = l .before .before .before .before in
+    simp (le-ltb _ _ (l .before .before .if1 .left))
+    (ap (λ (x : ℕ). x % 4294967296) (sym (adding-end (s .args .bytes .now) _ _ (sym (c .before .has .ensures) ∙ c .if2 .left) (l .loop .inv))))
+
+pub bench-codes-spec : {M : Type 1} → statement M
+bench-codes-spec =
+    tie.close
+    (tie.spec
+    Inv-loop
+    μ-loop
+    returns
+    new-requires
+    loop-holds
+    has-requires
+    slice-aggregate-read-vlc-uint
+    slice-aggregate-read-vlc-uint-2
+    read-vlc-uint-requires
+    cast-sum
+    add-sum
+    loop-less
+    loop-again
+    cast-result
+    returns-2)

@@ -1,0 +1,27 @@
+// Coefficient codes, from a stream's beginning to its end.
+use bits::reader::Reader;
+use codes::tables::DCT_COEFF_INDEX;
+use codes::tables::DCT_COEFF_VALUE;
+use codes::walk::read_vlc_uint;
+ghost use mathlib.Core.Path.{_≡_};
+ghost use Rattle.bench.specs.Codes.{sumOfCodes};
+
+// The sum modulo 2^32 of a stream's coefficient codes; 0 where the stream is too long.
+#[no_mangle]
+pub extern "C" fn bench_codes(bytes: &[u8]) -> u32
+    ensures { λ r. ⌜ r ≡ sumOfCodes (now (bytes .entry)) ⌝ }
+{
+    if 16777216 < bytes.len() {
+        return 0;
+    }
+    let index = DCT_COEFF_INDEX;
+    let value = DCT_COEFF_VALUE;
+    let mut reader = Reader::new();
+    let mut sum: u64 = 0;
+    while reader.has(bytes, 1) {
+        let code = read_vlc_uint(bytes, reader, &index, &value);
+        reader = code.reader;
+        sum += code.value as u64;
+    }
+    (sum % 4294967296) as u32
+}

@@ -1,0 +1,31 @@
+-- What a case comes to, from the parts that the code computes one after the other.
+use mathlib.Core.Path.{_≡_}
+use mathlib.Core.Bool.{Bool, _&&_}
+use mathlib.Core.List.{List}
+use Prim.Native.Nat.{ℕ, _+_, _-_, _≤_, _<_}
+use borrow.Author.Tests.{lt-ltb, le-ltb}
+use lib.ListN.{length, getD}
+use Rattle.replay.specs.declared.reader_operations.Operation.{Operation}
+use Rattle.replay.specs.declared.reader_operations.Outcome.{Outcome}
+use Rattle.replay.specs.declared.reader_list.Along.{Along}
+use Rattle.replay.specs.declared.reader_list.Step.{Step}
+use Rattle.replay.specs.Lists.{numberAt}
+use Rattle.replay.specs.Operations.{operationOf, outcome}
+use Rattle.replay.specs.ReaderList.{behindOf, agree, bytesAgree, onward, part, cutOff, stepped}
+
+pub no-case : (l : List ℕ) (p : Along) → length l - p .at < 13 → cutOff l p ≡ stepped l p
+unfolding stepped
+no-case l p h = rw (lt-ltb _ _ h)
+
+module _ (l : List ℕ) (p : Along) (x v m : ℕ) (case : 13 ≤ length l - p .at) (ax : x ≡ numberAt l (p .at + 1)) (av : v ≡ numberAt l (p .at + 5)) (am : m ≡ behindOf (getD l (p .at) 0) x v) where
+  pub cut-case : length l - (p .at + 13) < m → cutOff l p ≡ stepped l p
+  unfolding stepped
+  cut-case h = rw (le-ltb _ _ case, ← ax, ← av, ← am, lt-ltb _ _ h)
+
+  pub whole-case : (e : ℕ) (op : Operation) (o : Outcome) (q : Along) (t u : Bool) → e ≡ numberAt l (p .at + 9) → m ≤ length l - (p .at + 13)
+      → op ≡ operationOf (getD l (p .at) 0) → o ≡ outcome op x (part l (p .from) (p .to)) (p .reader .at .0)
+      → u ≡ bytesAgree (getD l (p .at) 0) (part l (p .at + 13) (p .at + 13 + m)) (part l (p .from) (p .to)) (p .reader .at .0) x
+      → t ≡ agree o v e → q ≡ onward p (getD l (p .at) 0) (p .at + 13) (p .at + 13 + m) (o .reader)
+      → _≡_ {A = Step} (record { along = q; agrees = t && u }) (stepped l p)
+  unfolding stepped
+  whole-case e op o q t u ae h aop ao au at aq = rw (le-ltb _ _ case, ← ax, ← av, ← am, ← ae, le-ltb _ _ h, ← aop, ← ao, au, at, aq)

@@ -1,0 +1,22 @@
+use mathlib.Core.Path.{_≡_, ap, _∙_}
+use borrow.Author.Needs.{needs}
+use mir.Syntax.{w32}
+use mir.Val.{ofZ, toZ}
+use Rattle.replay.specs.Operations.{gives}
+use Rattle.replay.proofs.reader_operations.coded.Statement.{statement}
+use Rattle.replay.proofs.reader_operations.coded.Tie as tie
+
+held-requires : tie.Need-held-requires
+held-requires c κs = search needs
+
+given-requires : tie.Need-given-requires
+given-requires c κs = search needs
+
+returns : tie.Need-returns
+returns c =
+    let f = c .before .before .before .args .found in
+    let e : toZ w32 (ofZ w32 (f .code)) ≡ f .code = search needs in
+    c .given .ensures ∙ ap (λ v. gives v (f .reader .at .0)) (c .before .held .ensures ∙ ap (ofZ w32) e)
+
+pub coded-spec : {M : Type 1} → statement M
+coded-spec = tie.close (tie.spec held-requires given-requires returns)

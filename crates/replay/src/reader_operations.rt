@@ -1,0 +1,165 @@
+// The operations of the reader, as the list reader.bin names them, and ours for each.
+use crate::list::held;
+use crate::list::signed;
+use bits::position::BytePosition;
+use bits::reader::Reader;
+use bits::start_codes::StartCode;
+ghost use mathlib.Core.Path.{_≡_};
+ghost use Prim.Native.Nat.{_≤_};
+ghost use lib.ListN.{length};
+ghost use mir.Syntax.{w32};
+ghost use mir.Val.{ofZ};
+ghost use Rattle.replay.specs.Operations.{operationOf, gives, unknown, flag, peek, outcome};
+
+pub enum Operation {
+    New,
+    Read,
+    ReadBit,
+    Has,
+    HasEnded,
+    Skip,
+    Align,
+    Tell,
+    Seek,
+    SkipBytes,
+    NextStartCode,
+    FindStartCode,
+    HasStartCode,
+    PeekNonZero,
+    PeekBytes,
+    Unknown,
+}
+
+// The operations in the order of their numbers in the list.
+const OPERATIONS: [Operation; 15] = [
+    Operation::New,
+    Operation::Read,
+    Operation::ReadBit,
+    Operation::Has,
+    Operation::HasEnded,
+    Operation::Skip,
+    Operation::Align,
+    Operation::Tell,
+    Operation::Seek,
+    Operation::SkipBytes,
+    Operation::NextStartCode,
+    Operation::FindStartCode,
+    Operation::HasStartCode,
+    Operation::PeekNonZero,
+    Operation::PeekBytes,
+];
+
+// The operation that the list holds as a number.
+pub fn operation_of(number: u8) -> Operation
+    ensures { λ r. ⌜ r ≡ operationOf number ⌝ }
+{
+    let n = number as usize;
+    if n < 15 {
+        return OPERATIONS[n];
+    }
+    Operation::Unknown
+}
+
+// What an operation gives: its answer as the list holds it, and the reader after it. known is false where the list names no operation, or an
+// argument that the operation does not take.
+pub struct Outcome {
+    pub reader: Reader,
+    pub answer: u32,
+    pub known: bool,
+}
+
+fn given(reader: Reader, answer: u32) -> Outcome
+    ensures { λ r. ⌜ r ≡ gives answer (reader .at .0) ⌝ }
+{
+    Outcome {
+        reader: reader,
+        answer: answer,
+        known: true,
+    }
+}
+
+fn refused(reader: Reader) -> Outcome
+    ensures { λ r. ⌜ r ≡ unknown (reader .at .0) ⌝ }
+{
+    Outcome {
+        reader: reader,
+        answer: 0,
+        known: false,
+    }
+}
+
+// A start code, or -1.
+fn coded(found: StartCode) -> Outcome
+    ensures { λ r. ⌜ r ≡ gives (ofZ w32 (found .code)) (found .reader .at .0) ⌝ }
+{
+    given(found.reader, held(found.code))
+}
+
+// A yes or a no.
+fn flagged(reader: Reader, b: bool) -> Outcome
+    ensures { λ r. ⌜ r ≡ gives (flag b) (reader .at .0) ⌝ }
+{
+    if b {
+        return given(reader, 1);
+    }
+    given(reader, 0)
+}
+
+// One more than the bytes that a peek gives; 0 where there is none.
+fn peeked(s: &[u8], reader: Reader, count: usize) -> Outcome
+    requires { ⌜ length (now s) ≤ 16777216 ⌝ }
+    ensures { λ r. ⌜ r ≡ gives (peek (now (s .entry)) (reader .at .0) count) (reader .at .0) ⌝ }
+{
+    if reader.has_bytes(s, count) {
+        let bytes = reader.peek_bytes(s, count);
+        return given(reader, bytes.len() as u32 + 1);
+    }
+    given(reader, 0)
+}
+
+// Ours, on the stream s.
+pub fn operate(s: &[u8], reader: Reader, op: Operation, argument: u32) -> Outcome
+    requires { ⌜ (reader .at .0 ≤ 134217728) × (length (now s) ≤ 16777216) ⌝ }
+    ensures { λ r. ⌜ r ≡ outcome op argument (now (s .entry)) (reader .at .0) ⌝ }
+    ensures { λ r. ⌜ r .reader .at .0 ≤ 134217728 ⌝ }
+{
+    let count = argument as usize;
+    match op {
+        Operation::New => given(Reader::new(), 0),
+        Operation::Read => {
+            let r = reader.read(s, count);
+            given(r.reader, r.value)
+        }
+        Operation::ReadBit => {
+            let r = reader.read_bit(s);
+            given(r.reader, r.value)
+        }
+        Operation::Has => flagged(reader, reader.has(s, count)),
+        Operation::HasEnded => flagged(reader, reader.has_ended(s)),
+        Operation::Skip => given(reader.skip(s, count), 0),
+        Operation::Align => given(reader.align(), 0),
+        Operation::Tell => given(reader, reader.tell().0 as u32),
+        Operation::Seek => {
+            if 16777216 < count {
+                return refused(reader);
+            }
+            given(reader.seek(BytePosition(count)), 0)
+        }
+        Operation::SkipBytes => {
+            if 255 < argument {
+                return refused(reader);
+            }
+            let r = reader.skip_bytes(s, argument as u8);
+            given(r.reader, r.count as u32)
+        }
+        Operation::NextStartCode => coded(reader.next_start_code(s)),
+        Operation::FindStartCode => coded(reader.find_start_code(s, signed(argument))),
+        Operation::HasStartCode => coded(reader.has_start_code(s, signed(argument))),
+        Operation::PeekNonZero => {
+            let r = reader.peek_non_zero(s, count);
+            flagged(r.reader, r.value)
+        }
+        Operation::PeekBytes => peeked(s, reader, count),
+        Operation::Unknown => refused(reader),
+    }
+}
