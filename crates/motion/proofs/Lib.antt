@@ -1,0 +1,10 @@
+pub mod Cases
+pub mod Congruence
+pub mod Correction
+pub mod Demand3
+pub mod Displacement
+pub mod OneStep
+pub mod Range
+pub mod Standard
+pub mod Steps
+pub mod Ways

@@ -1,0 +1,92 @@
+-- Each operation by reflection, each return by the case of the correction that its tests say.
+use mathlib.Core.Path.{sym, _∙_}
+use mathlib.Core.List.{List, [], _∷_}
+use Prim.Native.Nat.{ℕ, _*_, _^_, _%_, _≤_}
+use native.Mathlib.Omega.{arith}
+use lib.IntN.{pos}
+use lib.Pow.{pow-mono}
+use mir.Syntax.{w32}
+use borrow.Author.Needs.{needs}
+use Rattle.laws.proofs.Exprs.{Exp, var, cst, _⊹_, _∸_, neg, Input, local, signed, need, value, test}
+use Rattle.motion.proofs.Correction.{corrected-over, corrected-under, corrected-none}
+use Rattle.motion.proofs.vector.corrected.Statement.{statement}
+use Rattle.motion.proofs.vector.corrected.Tie as tie
+
+-- the inputs: motion, 16 f, 32 f
+abbrev motion : Exp
+motion = var 0
+
+abbrev top : Exp
+top = var 1 ∸ cst 1
+
+abbrev bottom : Exp
+bottom = neg (var 1)
+
+abbrev less : Exp
+less = var 0 ∸ var 2
+
+abbrev more : Exp
+more = var 0 ⊹ var 2
+
+module _ (s : tie.Start) where
+  abbrev f : ℕ
+  f = 2 ^ (s .args .r)
+
+  scaled : f ≤ 64
+  scaled = pow-mono (s .pre .0)
+
+  abbrev ρ : List (Input w32)
+  ρ = signed w32 (s .args .motion) 2048 (s .pre .1)
+      ∷ local w32 (1 * f % 4294967296 * 16 % 4294967296) (pos (16 * f)) 1024 (record { is = omega (arith, scaled); bound = omega (arith, scaled) })
+      ∷ local w32 (1 * f % 4294967296 * 32 % 4294967296) (pos (32 * f)) 2048 (record { is = omega (arith, scaled); bound = omega (arith, scaled) })
+      ∷ []
+
+-- the results first, the one without a correction before the others: a wrong test or correction is refused at the result that it makes wrong
+returns-3 : tie.Need-returns-3
+returns-3 c =
+    let s = c .before .before in
+    value (ρ s) motion tt
+    ∙ sym (corrected-none (f s) (s .args .motion) (sym (test (ρ s) top motion tt tt) ∙ c .before .if1 .left) (sym (test (ρ s) motion bottom tt tt) ∙ c .if2 .left))
+
+returns : tie.Need-returns
+returns c =
+    let s = c .before in
+    value (ρ s) less tt ∙ sym (corrected-over (f s) (s .args .motion) (sym (test (ρ s) top motion tt tt) ∙ c .if1 .taken))
+
+returns-2 : tie.Need-returns-2
+returns-2 c =
+    let s = c .before .before in
+    value (ρ s) more tt
+    ∙ sym (corrected-under (f s) (s .args .motion) (sym (test (ρ s) top motion tt tt) ∙ c .before .if1 .left) (sym (test (ρ s) motion bottom tt tt) ∙ c .if2 .taken))
+
+cast-fscale : tie.Need-cast-fscale
+cast-fscale c = search needs
+
+shl-fscale : tie.Need-shl-fscale
+shl-fscale c = search needs
+
+sub-if1 : tie.Need-sub-if1
+sub-if1 c = need (ρ c) top tt
+
+sub-result : tie.Need-sub-result
+sub-result c = need (ρ (c .before)) less tt
+
+sub-if2 : tie.Need-sub-if2
+sub-if2 c = need (ρ (c .before)) bottom tt
+
+add-result : tie.Need-add-result
+add-result c = need (ρ (c .before .before)) more tt
+
+pub corrected-spec : {M : Type 1} → statement M
+corrected-spec =
+    tie.close
+    (tie.spec
+    cast-fscale
+    shl-fscale
+    sub-if1
+    sub-result
+    returns
+    sub-if2
+    add-result
+    returns-2
+    returns-3)

@@ -1,0 +1,75 @@
+use mathlib.Core.Path.{_≡_, ap₂}
+use Prim.Native.Nat.{ℕ, _*_, _^_, _≤_}
+use native.Mathlib.Omega.{arith}
+use lib.IntN.{ℤ, natAbs, _+ℤ_}
+use lib.Pow.{pow-mono}
+use mir.Facts.{toZ-ofZ}
+use mir.Syntax.{w32}
+use mir.Val.{SFits}
+use borrow.Author.Needs.{needs, sfits-of}
+use Rattle.laws.proofs.Ints.{reread, v, lit, neg, _⊕_, le-of, lt-of, abs-by, abs-of, fits-by}
+use Rattle.bits.proofs.Rules.{r-call, r-done, r-most}
+use Rattle.motion.specs.Displacement.{corrected}
+use Rattle.motion.specs.Vector.{motionVector}
+use Rattle.motion.proofs.Correction.{corrected-in}
+use Rattle.motion.proofs.OneStep.{runs-small}
+use Rattle.motion.proofs.vector.decode_motion_vector.Statement.{statement}
+use Rattle.motion.proofs.vector.decode_motion_vector.Tie as tie
+
+read-displacement-requires : tie.Need-read-displacement-requires
+read-displacement-requires c κs = search needs
+
+module _ (x : tie.After-read-displacement) where
+  abbrev s : tie.Start
+  s = x .before .before
+
+  abbrev f : ℕ
+  f = 2 ^ (s .args .r)
+
+  abbrev a : ℤ
+  a = s .args .motion
+
+  abbrev d : ℤ
+  d = x .read-displacement .result .value
+
+  small : natAbs d ≤ 16 * f
+  small = runs-small (s .args .r) (x .read-displacement .ensures)
+
+  scaled : f ≤ 64
+  scaled = pow-mono (s .pre .1 .1 .0)
+
+  fits : SFits w32 d
+  fits = let b = abs-of (v d) small in fits-by (v d) (omega (arith, scaled)) (omega (arith, scaled))
+
+  -- the sum that is corrected, from what is read of its parts
+  sum-is : reread w32 a +ℤ reread w32 d ≡ a +ℤ d
+  sum-is = ap₂ _+ℤ_ (toZ-ofZ (s .fits .motion)) (toZ-ofZ fits)
+
+  sum-small : natAbs (a +ℤ d) ≤ 2048
+  sum-small =
+      let lo = le-of (neg (lit 1024)) (v a) (s .pre .1 .1 .1 .low) in
+      let hi = lt-of (v a) (lit 1024) (s .pre .1 .1 .1 .high) in
+      let b = abs-of (v d) small in
+      abs-by 2048 (v a ⊕ v d) (omega (arith, scaled)) (omega (arith, scaled))
+
+add-corrected : tie.Need-add-corrected
+add-corrected c =
+    let x = c .before .before .before in
+    let b = abs-of (v (a x +ℤ d x)) (sum-small x) in
+    rw (sum-is x) (fits-by (v (a x +ℤ d x)) (omega arith) (omega arith))
+
+corrected-requires : tie.Need-corrected-requires
+corrected-requires c κs =
+    let x = c .before .before .before in
+    (s x .pre .1 .1 .0, rw (toZ-ofZ (add-corrected c), sum-is x) (sum-small x))
+
+returns : tie.Need-returns
+unfolding motionVector
+returns c =
+    let x = c .before .before .before .before in
+    rw (toZ-ofZ (sfits-of (c .corrected .ok)), c .corrected .ensures, toZ-ofZ (add-corrected (c .before)), sum-is x)
+    (r-call _ (x .read-displacement .ensures) r-done, (r-most (x .read-displacement .ensures) (s x .pre .0) (s x .pre .1 .0), corrected-in (d x) (scaled x) (small x) (s x .pre .1 .1 .1)))
+
+pub decode-motion-vector-spec : {M : Type 1} → statement M
+decode-motion-vector-spec =
+    tie.close (tie.spec read-displacement-requires add-corrected corrected-requires returns)

@@ -1,0 +1,2 @@
+// Motion vectors.
+pub mod vector;
