@@ -1,5 +1,6 @@
 // Times ours, the static library of crates/bench, and the Rust on the same bytes in one process, one file a part.
 // The answers of a loop must be equal. Of several runs, the Rust's and ours in turn, the best of each counts.
+mod argb;
 mod codes;
 mod reader;
 
@@ -43,4 +44,5 @@ fn compare<T>(name: &str, calls: usize, ours: impl Fn() -> u32, prepare: impl Fn
 fn main() {
     reader::run();
     codes::run();
+    argb::run();
 }

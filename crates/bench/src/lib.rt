@@ -1,3 +1,4 @@
 // Loops for measuring: tests/bench runs them against the same loops of the Rust.
 mod coefficient_codes;
+mod conversion;
 mod reader;

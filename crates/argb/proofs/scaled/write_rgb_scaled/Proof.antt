@@ -1,0 +1,75 @@
+-- `argb::scaled::write_rgb_scaled` meets its contract. The invariant: the pixels of the rows so far are stored.
+use denote.Ref.{now}
+use mathlib.Core.Path.{_≡_, refl, sym, ap, _∙_}
+use Prim.Native.Nat.{ℕ, _+_, _*_, _-_, _≤_}
+use native.Mathlib.Nat.{zero-mul, mul-comm}
+use native.Mathlib.Omega.{arith}
+use borrow.Author.Needs.{needs}
+use lib.ListN.{length}
+use Rattle.laws.specs.Stores.{storeRow}
+use Rattle.laws.proofs.Lists.{length-row}
+use Rattle.argb.specs.Scaled.{Picture, picture, pixelAt, scaled}
+use Rattle.argb.proofs.Rows.{rows-on}
+use Rattle.argb.proofs.scaled.write_rgb_scaled.Statement.{statement}
+use Rattle.argb.proofs.scaled.write_rgb_scaled.Tie as tie
+
+abbrev Inv-loop : tie.InvT-loop
+Inv-loop y cr cb width height luma-width dst₀ dst-w dst-h ty₀ dst ty =
+    (ty ≤ dst-h)
+    × (length dst ≡ length dst₀)
+    × (dst ≡ storeRow dst₀ 0 (pixelAt (picture width height luma-width y cr cb) dst-w dst-h) (ty * dst-w))
+
+abbrev μ-loop : tie.MeasureT-loop
+μ-loop y cr cb width height luma-width dst₀ dst-w dst-h ty₀ dst ty = dst-h - ty
+
+loop-holds : tie.Need-loop-holds Inv-loop μ-loop
+unfolding storeRow
+loop-holds c =
+    let a = c .before .before .before .before .args in
+    (omega arith, refl, ap (storeRow (now (a .dst)) 0 (pixelAt _ (a .dst-w) (a .dst-h))) (sym (zero-mul (a .dst-w))))
+
+write-row-requires : tie.Need-write-row-requires Inv-loop μ-loop
+write-row-requires c κs =
+    let s = c .before .before .before .before .before .before .before in
+    (s .pre .0, ((omega arith, omega arith, c .before .loop-test .taken), omega (arith, s .pre .1 .1, c .before .before .loop .inv .1)))
+
+add-ty : tie.Need-add-ty Inv-loop μ-loop
+add-ty c = search needs
+
+loop-less : tie.Need-loop-less Inv-loop μ-loop
+loop-less c = search needs
+
+loop-again : tie.Need-loop-again Inv-loop μ-loop
+loop-again c =
+    let l = c .before .before .before .before .before in
+    let a = l .before .before .before .before .before .args in
+    let p : Picture = picture (a .width) (a .height) (a .luma-width) (now (a .y)) (now (a .cr)) (now (a .cb)) in
+    let ty = l .loop .ty in
+    let e = rows-on p (a .dst-w) (a .dst-h) ty (now (a .dst)) (l .loop .inv .2) (c .before .before .write-row .ensures) in
+    (omega arith, ap length e ∙ length-row (now (a .dst)) 0 (pixelAt p (a .dst-w) (a .dst-h)) ((ty + 1) * a .dst-w), e)
+
+same-length : tie.Need-same-length Inv-loop μ-loop
+same-length c = c .before .loop .inv .1
+
+returns : tie.Need-returns Inv-loop μ-loop
+unfolding scaled
+returns c =
+    let a = c .before .before .before .before .before .before .args in
+    let p : Picture = picture (a .width) (a .height) (a .luma-width) (now (a .y)) (now (a .cr)) (now (a .cb)) in
+    let e : c .before .loop .ty ≡ a .dst-h = omega arith in
+    c .before .loop .inv .2
+    ∙ ap (storeRow (now (a .dst)) 0 (pixelAt p (a .dst-w) (a .dst-h))) (ap (λ (n : ℕ). n * a .dst-w) e ∙ mul-comm (a .dst-h) (a .dst-w))
+
+pub write-rgb-scaled-spec : {M : Type 1} → statement M
+write-rgb-scaled-spec =
+    tie.close
+    (tie.spec
+    Inv-loop
+    μ-loop
+    loop-holds
+    write-row-requires
+    add-ty
+    loop-less
+    loop-again
+    same-length
+    returns)

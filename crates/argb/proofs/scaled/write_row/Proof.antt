@@ -1,0 +1,154 @@
+-- `argb::scaled::write_row` meets its contract. The invariant: the pixels of the row so far are stored.
+use denote.Ref.{now}
+use mathlib.Core.Path.{_≡_, refl, ap, _∙_}
+use Prim.Native.Nat.{ℕ, _+_, _*_, _-_, _/_, _≤_, _<_}
+use native.Mathlib.Omega.{arith}
+use borrow.Author.Needs.{needs}
+use lib.ListN.{length}
+use Rattle.laws.specs.Stores.{storeRow}
+use Rattle.laws.proofs.Lists.{row-on, length-row}
+use Rattle.argb.specs.Scaled.{Picture, picture, samplePixel, outputPixel}
+use Rattle.argb.proofs.Places.{product-most, nearest-below, place-below, Inside, inside}
+use Rattle.argb.proofs.scaled.write_row.Statement.{statement}
+use Rattle.argb.proofs.scaled.write_row.Tie as tie
+
+abbrev Inv-loop : tie.InvT-loop
+Inv-loop y cr cb width height luma-width dst₀ dst-w dst-h ty sy y-row c-row d-row tx₀ dst tx =
+    (tx ≤ dst-w)
+    × (length dst ≡ length dst₀)
+    × (dst ≡ storeRow dst₀ (ty * dst-w) (outputPixel (picture width height luma-width y cr cb) dst-w dst-h ty) tx)
+
+abbrev μ-loop : tie.MeasureT-loop
+μ-loop y cr cb width height luma-width dst₀ dst-w dst-h ty sy y-row c-row d-row tx₀ dst tx = dst-w - tx
+
+-- the row of the samples
+row-most : (s : tie.Start Inv-loop μ-loop) → s .args .ty * s .args .height / s .args .dst-h ≤ 4096
+row-most s = omega (arith, nearest-below (s .args .ty) (s .args .dst-h) (s .args .height) (omega arith) (omega arith))
+
+-- a turn, at column tx
+module _ (c : tie.In-loop Inv-loop μ-loop) where
+  abbrev s : tie.Start Inv-loop μ-loop
+  s = c .before .before .before .before .before .before
+
+  abbrev p : Picture
+  p = let a = s .args in picture (a .width) (a .height) (a .luma-width) (now (a .y)) (now (a .cr)) (now (a .cb))
+
+  abbrev tx : ℕ
+  tx = c .before .loop .tx
+
+  samples : Inside p (tx * p .width / s .args .dst-w) (s .args .ty * p .height / s .args .dst-h)
+  samples = inside (s .pre .0) (s .args .dst-w) (s .args .dst-h) (s .args .ty) tx (omega arith) (omega arith)
+
+  place : s .args .ty * s .args .dst-w + tx < length (now (s .args .dst))
+  place = omega (arith, place-below (s .args .ty) tx (s .args .dst-h) (s .args .dst-w) (omega arith) (omega arith))
+
+mul-sy : tie.Need-mul-sy Inv-loop μ-loop
+mul-sy c = let a = c .before .before .before .before .args in omega (arith, product-most (a .ty) (a .height) (omega arith) (omega arith))
+
+div-sy : tie.Need-div-sy Inv-loop μ-loop
+div-sy c = search needs
+
+mul-y-row : tie.Need-mul-y-row Inv-loop μ-loop
+mul-y-row c =
+    let s = c .before .before .before .before in
+    let a = s .args in
+    omega (arith, product-most (a .ty * a .height / a .dst-h) (a .luma-width) (row-most s) (omega arith))
+
+mul-c-row : tie.Need-mul-c-row Inv-loop μ-loop
+mul-c-row c =
+    let s = c .before .before .before .before in
+    let a = s .args in
+    omega (arith, product-most (a .ty * a .height / a .dst-h / 2) (a .luma-width / 2) (omega (arith, row-most s)) (omega arith))
+
+mul-d-row : tie.Need-mul-d-row Inv-loop μ-loop
+mul-d-row c = let a = c .before .before .before .before .args in omega (arith, product-most (a .ty) (a .dst-w) (omega arith) (omega arith))
+
+loop-holds : tie.Need-loop-holds Inv-loop μ-loop
+unfolding storeRow
+loop-holds c = (omega arith, refl, refl)
+
+mul-sx : tie.Need-mul-sx Inv-loop μ-loop
+mul-sx c = omega (arith, product-most (tx c) (p c .width) (omega arith) (omega arith))
+
+div-sx : tie.Need-div-sx Inv-loop μ-loop
+div-sx c = search needs
+
+add-ci : tie.Need-add-ci Inv-loop μ-loop
+add-ci c = omega (arith, samples c)
+
+add-pixel : tie.Need-add-pixel Inv-loop μ-loop
+add-pixel c = omega (arith, samples c)
+
+shared-slice-read-pixel : tie.Need-shared-slice-read-pixel Inv-loop μ-loop
+shared-slice-read-pixel c = omega (arith, samples (c .before))
+
+shared-slice-read-pixel-2 : tie.Need-shared-slice-read-pixel-2 Inv-loop μ-loop
+shared-slice-read-pixel-2 c = omega (arith, samples (c .before .before))
+
+shared-slice-read-pixel-3 : tie.Need-shared-slice-read-pixel-3 Inv-loop μ-loop
+shared-slice-read-pixel-3 c = omega (arith, samples (c .before .before .before))
+
+pixel-requires : tie.Need-pixel-requires Inv-loop μ-loop
+pixel-requires c κs = tt
+
+add-dst : tie.Need-add-dst Inv-loop μ-loop
+add-dst c = omega (arith, place (c .before .before .before .before))
+
+mul-dst : tie.Need-mul-dst Inv-loop μ-loop
+mul-dst c = omega (arith, place (c .before .before .before .before))
+
+slice-write-dst : tie.Need-slice-write-dst Inv-loop μ-loop
+slice-write-dst c = omega (arith, place (c .before .before .before .before))
+
+add-tx : tie.Need-add-tx Inv-loop μ-loop
+add-tx c = search needs
+
+loop-less : tie.Need-loop-less Inv-loop μ-loop
+loop-less c = search needs
+
+loop-again : tie.Need-loop-again Inv-loop μ-loop
+unfolding outputPixel samplePixel
+loop-again c =
+    let l = c .before .before .before .before in
+    let a = s l .args in
+    let f : ℕ → ℕ = outputPixel (p l) (a .dst-w) (a .dst-h) (a .ty) in
+    let e = row-on (now (a .dst)) (a .ty * a .dst-w) f (tx l) (l .before .loop .inv .2) (c .pixel .ensures) in
+    (omega arith, ap length e ∙ length-row (now (a .dst)) (a .ty * a .dst-w) f (tx l + 1), e)
+
+same-length : tie.Need-same-length Inv-loop μ-loop
+same-length c = c .before .loop .inv .1
+
+returns : tie.Need-returns Inv-loop μ-loop
+returns c =
+    let a = c .before .before .before .before .before .before .args in
+    let e : c .before .loop .tx ≡ a .dst-w = omega arith in
+    c .before .loop .inv .2 ∙ ap (storeRow (now (a .dst)) (a .ty * a .dst-w) _) e
+
+pub write-row-spec : {M : Type 1} → statement M
+write-row-spec =
+    tie.close
+    (tie.spec
+    Inv-loop
+    μ-loop
+    mul-sy
+    div-sy
+    mul-y-row
+    mul-c-row
+    mul-d-row
+    loop-holds
+    mul-sx
+    div-sx
+    add-ci
+    add-pixel
+    shared-slice-read-pixel
+    shared-slice-read-pixel-2
+    shared-slice-read-pixel-3
+    pixel-requires
+    add-dst
+    mul-dst
+    slice-write-dst
+    add-tx
+    loop-less
+    loop-again
+    same-length
+    returns)
