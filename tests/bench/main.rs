@@ -2,6 +2,7 @@
 // The answers of a loop must be equal. Of several runs, the Rust's and ours in turn, the best of each counts.
 mod argb;
 mod codes;
+mod idct;
 mod reader;
 
 #[allow(dead_code)]
@@ -44,5 +45,6 @@ fn compare<T>(name: &str, calls: usize, ours: impl Fn() -> u32, prepare: impl Fn
 fn main() {
     reader::run();
     codes::run();
+    idct::run();
     argb::run();
 }

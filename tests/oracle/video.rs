@@ -35,3 +35,4 @@ impl Table {
         }
     }
 }
+include!("video_blocks.rs");

@@ -1,2 +1,3 @@
 pub mod CodeTurns
+pub mod Coefficients
 pub mod Turns

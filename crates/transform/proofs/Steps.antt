@@ -1,0 +1,127 @@
+-- The steps of RULES 4.1 as expressions over the eight inputs.
+use mathlib.Core.Path.{sym, subst}
+use mathlib.Core.Bool.{Bool, _&&_}
+use mathlib.Core.List.{List, [], _∷_}
+use Prim.Native.Nat.{ℕ, _≤_, _<_}
+use native.Mathlib.Nat.{le-trans}
+use lib.Dec.{T, leb, leb→le, lit<}
+use lib.IntN.{ℤ, natAbs}
+use lib.ListN.{getD}
+use mir.Facts.{and-yes}
+use mir.Syntax.{w32}
+use Rattle.laws.proofs.Exprs.{Exp, var, cst, _⊹_, _∸_, _×̇_, neg, shr, Input, signed, eval, bound, ok, within}
+use Rattle.laws.proofs.Tables.{every, at}
+use Rattle.transform.specs.declared.butterfly.Eight.{Eight}
+use Rattle.transform.specs.Butterfly.{nth, butterfly}
+use Rattle.transform.specs.Bounds.{AtMost}
+use Rattle.transform.proofs.Eights.{nth-eight}
+
+-- a sum before it is shifted, and the rounding
+abbrev pub more : Exp → Exp
+more e = e ⊹ cst 128
+
+abbrev pub rnd : Exp → Exp
+rnd e = shr 8 (more e)
+
+abbrev pub b3 : Exp
+b3 = var 2 ⊹ var 6
+
+abbrev pub b4 : Exp
+b4 = var 5 ∸ var 3
+
+abbrev pub tmp1 : Exp
+tmp1 = var 1 ⊹ var 7
+
+abbrev pub tmp2 : Exp
+tmp2 = var 3 ⊹ var 5
+
+abbrev pub b6 : Exp
+b6 = var 1 ∸ var 7
+
+abbrev pub b7 : Exp
+b7 = tmp1 ⊹ tmp2
+
+abbrev pub x4 : Exp
+x4 = rnd (b6 ×̇ cst 473 ∸ b4 ×̇ cst 196) ∸ b7
+
+abbrev pub x0 : Exp
+x0 = x4 ∸ rnd ((tmp1 ∸ tmp2) ×̇ cst 362)
+
+abbrev pub x1 : Exp
+x1 = var 0 ∸ var 4
+
+abbrev pub x2 : Exp
+x2 = rnd ((var 2 ∸ var 6) ×̇ cst 362) ∸ b3
+
+abbrev pub x3 : Exp
+x3 = var 0 ⊹ var 4
+
+abbrev pub y3 : Exp
+y3 = x1 ⊹ x2
+
+abbrev pub y4 : Exp
+y4 = x3 ⊹ b3
+
+abbrev pub y5 : Exp
+y5 = x1 ∸ x2
+
+abbrev pub y6 : Exp
+y6 = x3 ∸ b3
+
+abbrev pub y7 : Exp
+y7 = neg x0 ∸ rnd (b4 ×̇ cst 473 ⊹ b6 ×̇ cst 196)
+
+abbrev pub o0 : Exp
+o0 = b7 ⊹ y4
+
+abbrev pub o1 : Exp
+o1 = x4 ⊹ y3
+
+abbrev pub o2 : Exp
+o2 = y5 ∸ x0
+
+abbrev pub o3 : Exp
+o3 = y6 ∸ y7
+
+abbrev pub o4 : Exp
+o4 = y6 ⊹ y7
+
+abbrev pub o5 : Exp
+o5 = x0 ⊹ y5
+
+abbrev pub o6 : Exp
+o6 = y3 ∸ x4
+
+abbrev pub o7 : Exp
+o7 = y4 ∸ b7
+
+abbrev pub outs : List Exp
+outs = o0 ∷ o1 ∷ o2 ∷ o3 ∷ o4 ∷ o5 ∷ o6 ∷ o7 ∷ []
+
+-- output k
+abbrev pub out : ℕ → Exp
+out k = getD outs k (var 0)
+
+module _ (size : ℕ → ℕ) (a : Eight) (h : AtMost 8 size (nth a)) where
+  abbrev pub inputs : List (Input w32)
+  inputs =
+      signed w32 (a .v0) (size 0) (h .entry 0 (lit< tt))
+      ∷ signed w32 (a .v1) (size 1) (h .entry 1 (lit< tt))
+      ∷ signed w32 (a .v2) (size 2) (h .entry 2 (lit< tt))
+      ∷ signed w32 (a .v3) (size 3) (h .entry 3 (lit< tt))
+      ∷ signed w32 (a .v4) (size 4) (h .entry 4 (lit< tt))
+      ∷ signed w32 (a .v5) (size 5) (h .entry 5 (lit< tt))
+      ∷ signed w32 (a .v6) (size 6) (h .entry 6 (lit< tt))
+      ∷ signed w32 (a .v7) (size 7) (h .entry 7 (lit< tt))
+      ∷ []
+
+  -- no step on the way to an output leaves 32 bits, and the output is at most M in size
+  abbrev pub good : ℕ → ℕ → Exp → Bool
+  good M k e = ok inputs e && leb (bound inputs e) M
+
+  pub outs-within : (M : ℕ) → T (every (good M) 0 outs) → (k : ℕ) → k < 8 → natAbs (nth (butterfly a) k) ≤ M
+  unfolding butterfly
+  outs-within M t k q =
+      let p = and-yes (ok inputs (out k)) (leb (bound inputs (out k)) M) (at (good M) outs (var 0) t k q) in
+      subst (λ (z : ℤ). natAbs z ≤ M) (sym (nth-eight (λ j. eval inputs (out j)) k q))
+      (le-trans (within inputs (out k) (p .0)) (leb→le (bound inputs (out k)) M (p .1)))

@@ -1,0 +1,64 @@
+use mathlib.Core.Path.{sym, ap, _∙_, subst}
+use Prim.Native.Nat.{_-_}
+use native.Mathlib.Omega.{arith}
+use Rattle.transform.specs.declared.butterfly.Eight.{Eight}
+use Rattle.transform.specs.Butterfly.{nth, butterfly}
+use Rattle.transform.specs.Bounds.{AtMost, inputSize}
+use Rattle.transform.proofs.Passes.{After, start-pass, fresh, turn-pass, by-columns, end-columns}
+use Rattle.transform.proofs.Sizes.{column-within}
+use Rattle.transform.proofs.idct.columns.Statement.{statement}
+use Rattle.transform.proofs.idct.columns.Tie as tie
+
+abbrev Inv-loop : tie.InvT-loop
+Inv-loop block₀ i₀ block i = After by-columns butterfly block₀ block i
+
+abbrev μ-loop : tie.MeasureT-loop
+μ-loop block₀ i₀ block i = 8 - i
+
+loop-holds : tie.Need-loop-holds Inv-loop μ-loop
+loop-holds c = start-pass by-columns butterfly (c .args .block .now) (c .pre .0)
+
+lane-requires : tie.Need-lane-requires Inv-loop μ-loop
+lane-requires c κs = omega arith
+
+butterfly-requires : tie.Need-butterfly-requires Inv-loop μ-loop
+butterfly-requires c κs =
+    let l = c .before .before .before in
+    let s = l .before in
+    let h = c .before .before .loop-test .taken in
+    subst (λ (e : Eight). AtMost 8 inputSize (nth e)) (sym (c .lane .ensures ∙ fresh by-columns butterfly (s .args .block .now) (l .loop .inv) h))
+    (column-within (s .args .block .now) (s .pre .1) (l .loop .i) h)
+
+put-lane-requires : tie.Need-put-lane-requires Inv-loop μ-loop
+put-lane-requires c κs = omega arith
+
+add-i : tie.Need-add-i Inv-loop μ-loop
+add-i c = omega arith
+
+loop-less : tie.Need-loop-less Inv-loop μ-loop
+loop-less c = omega arith
+
+loop-again : tie.Need-loop-again Inv-loop μ-loop
+loop-again c =
+    let b = c .before .before in
+    let l = b .before .before .before .before in
+    turn-pass by-columns butterfly (l .before .args .block .now) (l .loop .inv) (b .before .before .before .loop-test .taken)
+    (b .butterfly .result) (c .put-lane .last .0) (b .butterfly .ensures ∙ ap butterfly (b .before .lane .ensures)) (c .put-lane .ensures)
+
+returns : tie.Need-returns Inv-loop μ-loop
+returns c = let l = c .before in end-columns (l .before .args .block .now) (l .loop .block) (c .loop-test .left) (l .loop .inv)
+
+pub columns-spec : {M : Type 1} → statement M
+columns-spec =
+    tie.close
+    (tie.spec
+    Inv-loop
+    μ-loop
+    loop-holds
+    lane-requires
+    butterfly-requires
+    put-lane-requires
+    add-i
+    loop-less
+    loop-again
+    returns)

@@ -1,0 +1,31 @@
+use mathlib.Core.Path.{_≡_, sym, ap, _∙_, subst}
+use borrow.Author.Needs.{needs}
+use lib.ListN.{length}
+use Rattle.transform.specs.Idct.{rows, idct}
+use Rattle.transform.specs.Bounds.{Middle, Narrow}
+use Rattle.transform.proofs.Blocks.{columns-length}
+use Rattle.transform.proofs.Sizes.{middle, idct-narrow}
+use Rattle.transform.proofs.idct.idct.Statement.{statement}
+use Rattle.transform.proofs.idct.idct.Tie as tie
+
+has-length-requires : tie.Need-has-length-requires
+has-length-requires c κs = search needs
+
+columns-requires : tie.Need-columns-requires
+columns-requires c κs = search needs
+
+rows-requires : tie.Need-rows-requires
+rows-requires c κs =
+    let s = c .before .before .before .before .before in
+    let e = c .before .columns .ensures in
+    (ap length e ∙ columns-length (s .args .block .now), subst Middle (sym e) (middle (s .args .block .now) (s .pre)))
+
+returns : tie.Need-returns
+unfolding idct
+returns c =
+    let s = c .before .before .before .before .before .before in
+    let e : c .rows .last .0 ≡ idct (s .args .block .now) = c .rows .ensures ∙ ap rows (c .before .before .columns .ensures) in
+    (e, subst Narrow (sym e) (idct-narrow (s .args .block .now) (s .pre)))
+
+pub idct-spec : {M : Type 1} → statement M
+idct-spec = tie.close (tie.spec has-length-requires columns-requires rows-requires returns)

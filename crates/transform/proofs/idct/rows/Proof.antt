@@ -1,0 +1,81 @@
+use mathlib.Core.Path.{sym, ap, _∙_, subst}
+use Prim.Native.Nat.{_-_}
+use native.Mathlib.Omega.{arith}
+use Rattle.transform.specs.declared.butterfly.Eight.{Eight}
+use Rattle.transform.specs.Butterfly.{eight, nth, over256, butterfly}
+use Rattle.transform.specs.Bounds.{AtMost, inputSize, outputSize}
+use Rattle.transform.proofs.Passes.{After, start-pass, fresh, turn-pass, by-rows, row-step, end-rows}
+use Rattle.transform.proofs.Sizes.{row-within, outputs-within}
+use Rattle.transform.proofs.idct.rows.Statement.{statement}
+use Rattle.transform.proofs.idct.rows.Tie as tie
+
+abbrev Inv-loop : tie.InvT-loop
+Inv-loop block₀ i₀ block i = After by-rows row-step block₀ block i
+
+abbrev μ-loop : tie.MeasureT-loop
+μ-loop block₀ i₀ block i = 8 - i
+
+loop-holds : tie.Need-loop-holds Inv-loop μ-loop
+loop-holds c = start-pass by-rows row-step (c .args .block .now) (c .pre .0)
+
+mul-lane : tie.Need-mul-lane Inv-loop μ-loop
+mul-lane c = omega arith
+
+lane-requires : tie.Need-lane-requires Inv-loop μ-loop
+lane-requires c κs = omega arith
+
+butterfly-requires : tie.Need-butterfly-requires Inv-loop μ-loop
+butterfly-requires c κs =
+    let l = c .before .before .before in
+    let s = l .before in
+    let h = c .before .before .loop-test .taken in
+    subst (λ (e : Eight). AtMost 8 inputSize (nth e)) (sym (c .lane .ensures ∙ fresh by-rows row-step (s .args .block .now) (l .loop .inv) h))
+    (row-within (s .args .block .now) (s .pre .1) (l .loop .i) h)
+
+rounded-requires : tie.Need-rounded-requires Inv-loop μ-loop
+rounded-requires c κs =
+    subst (λ (e : Eight). AtMost 8 outputSize (nth e)) (sym (c .butterfly .ensures))
+    (outputs-within (c .before .lane .result) (butterfly-requires (c .before) κs))
+
+mul-put-lane : tie.Need-mul-put-lane Inv-loop μ-loop
+mul-put-lane c = omega arith
+
+put-lane-requires : tie.Need-put-lane-requires Inv-loop μ-loop
+put-lane-requires c κs = omega arith
+
+add-i : tie.Need-add-i Inv-loop μ-loop
+add-i c = omega arith
+
+loop-less : tie.Need-loop-less Inv-loop μ-loop
+loop-less c = omega arith
+
+loop-again : tie.Need-loop-again Inv-loop μ-loop
+loop-again c =
+    let r = c .before .before in
+    let b = r .before in
+    let l = b .before .before .before .before in
+    turn-pass by-rows row-step (l .before .args .block .now) (l .loop .inv) (b .before .before .before .loop-test .taken)
+    (r .rounded .result) (c .put-lane .last .0)
+    (r .rounded .ensures ∙ ap (λ (e : Eight). eight (λ k. over256 (nth e k))) (b .butterfly .ensures ∙ ap butterfly (b .before .lane .ensures)))
+    (c .put-lane .ensures)
+
+returns : tie.Need-returns Inv-loop μ-loop
+returns c = let l = c .before in end-rows (l .before .args .block .now) (l .loop .block) (c .loop-test .left) (l .loop .inv)
+
+pub rows-spec : {M : Type 1} → statement M
+rows-spec =
+    tie.close
+    (tie.spec
+    Inv-loop
+    μ-loop
+    loop-holds
+    mul-lane
+    lane-requires
+    butterfly-requires
+    rounded-requires
+    mul-put-lane
+    put-lane-requires
+    add-i
+    loop-less
+    loop-again
+    returns)

@@ -1,0 +1,116 @@
+// The transform: the step on each column of a block, then on each row.
+use crate::butterfly::Eight;
+use crate::butterfly::butterfly;
+use crate::butterfly::rounded;
+ghost use mathlib.Core.Path.{_≡_};
+ghost use Prim.Native.Nat.{_+_, _*_, _<_, _≤_};
+ghost use lib.IntN.{natAbs};
+ghost use lib.ListN.{length};
+ghost use Rattle.laws.specs.Stores.{storeRows};
+ghost use Rattle.transform.specs.Butterfly.{nth};
+ghost use Rattle.transform.specs.Idct.{lane, columns, rows, idct, dcOnly};
+ghost use Rattle.transform.specs.Bounds.{Bounded, Middle, Narrow};
+
+// The eight numbers from start on, step apart: a column or a row.
+fn lane(block: &[i32; 64], start: usize, step: usize) -> Eight
+    requires { ⌜ start + 7 * step < 64 ⌝ }
+    ensures { λ a. ⌜ a ≡ lane (now (block .entry)) start step ⌝ }
+{
+    let v0 = block[start];
+    let v1 = block[start + step];
+    let v2 = block[start + 2 * step];
+    let v3 = block[start + 3 * step];
+    let v4 = block[start + 4 * step];
+    let v5 = block[start + 5 * step];
+    let v6 = block[start + 6 * step];
+    let v7 = block[start + 7 * step];
+    Eight {
+        v0,
+        v1,
+        v2,
+        v3,
+        v4,
+        v5,
+        v6,
+        v7,
+    }
+}
+
+// Writes eight numbers back to where lane reads them.
+fn put_lane(block: &mut [i32; 64], start: usize, step: usize, e: Eight)
+    requires { ⌜ start + 7 * step < 64 ⌝ }
+    ensures { λ _. ⌜ now (block .exit) ≡ storeRows (now (block .entry)) start step 1 (λ k x. nth e k) 8 ⌝ }
+{
+    let v0 = e.v0;
+    let v1 = e.v1;
+    let v2 = e.v2;
+    let v3 = e.v3;
+    let v4 = e.v4;
+    let v5 = e.v5;
+    let v6 = e.v6;
+    let v7 = e.v7;
+    block[start] = v0;
+    block[start + step] = v1;
+    block[start + 2 * step] = v2;
+    block[start + 3 * step] = v3;
+    block[start + 4 * step] = v4;
+    block[start + 5 * step] = v5;
+    block[start + 6 * step] = v6;
+    block[start + 7 * step] = v7;
+}
+
+// RULES 4.2, the first pass: each column through the step.
+fn columns(block: &mut [i32; 64])
+    requires { ⌜ length (now block) ≡ 64 ⌝ }
+    requires { ⌜ Bounded (now block) ⌝ }
+    ensures { λ _. ⌜ now (block .exit) ≡ columns (now (block .entry)) ⌝ }
+{
+    let mut i = 0;
+    while i < 8 {
+        let a = lane(block, i, 8);
+        let o = butterfly(a);
+        put_lane(block, i, 8, o);
+        i += 1;
+    }
+}
+
+// RULES 4.2, the second pass: each row through the step, and rounded.
+fn rows(block: &mut [i32; 64])
+    requires { ⌜ length (now block) ≡ 64 ⌝ }
+    requires { ⌜ Middle (now block) ⌝ }
+    ensures { λ _. ⌜ now (block .exit) ≡ rows (now (block .entry)) ⌝ }
+{
+    let mut i = 0;
+    while i < 8 {
+        let a = lane(block, i * 8, 1);
+        let o = rounded(butterfly(a));
+        put_lane(block, i * 8, 1, o);
+        i += 1;
+    }
+}
+
+// Says how long an array is: that is known of one by value, and not of one behind a reference. The copy for it is not made in compiled code.
+fn has_length(block: [i32; 64])
+    ensures { λ _. ⌜ length block ≡ 64 ⌝ }
+{}
+
+// RULES 4.2: the transform, in place. Coefficients within the bounds keep every step inside 32 bits.
+pub fn idct(block: &mut [i32; 64])
+    requires { ⌜ Bounded (now block) ⌝ }
+    ensures is { λ _. ⌜ now (block .exit) ≡ idct (now (block .entry)) ⌝ }
+    ensures narrow { λ _. ⌜ Narrow (now (block .exit)) ⌝ }
+{
+    let b = *block;
+    has_length(b);
+    columns(block);
+    rows(block);
+}
+
+// RULES 4.3: the short way of a block that has no coefficient but c at place 0: each of its 64 results.
+pub fn dc_only(c: i32) -> i32
+    requires { ⌜ natAbs c ≤ 65536 ⌝ }
+    ensures is { λ r. ⌜ r ≡ dcOnly c ⌝ }
+    ensures narrow { λ r. ⌜ natAbs r ≤ 256 ⌝ }
+{
+    (c + 128) >> 8
+}
