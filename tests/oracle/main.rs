@@ -1,8 +1,13 @@
 // Writes the lists of the Rust's answers that crates/replay runs ours on, one file a list, into the folder that is named.
 // The Rust is compiled as it stands in docs/src.
+mod argb;
+mod codes;
 mod list;
 mod random;
 mod reader;
+mod reading;
+mod vectors;
+mod video;
 
 #[allow(dead_code)]
 #[path = "../../docs/src/crates/native32emu-core/src/mpeg/buffer.rs"]
@@ -10,7 +15,13 @@ mod buffer;
 
 fn main() {
     let folder = std::env::args().nth(1).expect("usage: oracle FOLDER");
-    let lists = [("reader.bin", reader::list())];
+    let lists = [
+        ("reader.bin", reader::list()),
+        ("codes.bin", codes::list()),
+        ("vectors.bin", vectors::list()),
+        ("pixels.bin", argb::pixels()),
+        ("scaled.bin", argb::scaled()),
+    ];
     for (name, bytes) in lists {
         let path = std::path::Path::new(&folder).join(name);
         std::fs::write(&path, &bytes).expect("the list is written");

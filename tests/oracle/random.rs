@@ -14,6 +14,11 @@ impl Random {
         (self.0.wrapping_mul(0x2545_F491_4F6C_DD1D) >> 32) as u32
     }
 
+    // 64 bits.
+    pub fn wide(&mut self) -> u64 {
+        (self.next() as u64) << 32 | self.next() as u64
+    }
+
     pub fn below(&mut self, bound: usize) -> usize {
         (self.next() as u64 * bound as u64 >> 32) as usize
     }

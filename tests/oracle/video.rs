@@ -20,6 +20,15 @@ pub const TABLES: [Table; 9] = [
     Table::Unsigned(DCT_COEFF),
 ];
 
+// A vector step of a decoder that reads from a buffer.
+pub fn decode_motion_vector(buffer: &mut Buffer, r_size: i32, motion: i32) -> i32 {
+    let mut video = Video::new(Vec::new());
+    std::mem::swap(&mut video.buffer, buffer);
+    let motion = video.decode_motion_vector(r_size, motion);
+    std::mem::swap(&mut video.buffer, buffer);
+    motion
+}
+
 impl Table {
     pub fn index(&self, at: usize) -> i16 {
         match self {

@@ -1,6 +1,12 @@
 pub mod AllAgree
+pub mod CaseScores
+pub mod CasesAgree
+pub mod Components
 pub mod Defaults
+pub mod Holds
 pub mod Inside
+pub mod Pictures
+pub mod Readings
 pub mod Same
 pub mod Scores
 pub mod Signs

@@ -15,7 +15,7 @@ use Rattle.replay.specs.ReaderList.{Inside, stepped, beginning, scoreFro
 use Rattle.replay.proofs.Inside.{beginning-inside}
 
 -- no more agree than there are
-counted-fewer : (t : Tally) (b : Bool) → t .agreed ≤ t .cases → counted t b .agreed ≤ counted t b .cases
+pub counted-fewer : (t : Tally) (b : Bool) → t .agreed ≤ t .cases → counted t b .agreed ≤ counted t b .cases
 counted-fewer t true h = omega arith
 counted-fewer t false h = omega arith
 

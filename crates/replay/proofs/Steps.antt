@@ -9,9 +9,9 @@ use Rattle.replay.specs.declared.reader_operations.Operation.{Operation}
 use Rattle.replay.specs.declared.reader_operations.Outcome.{Outcome}
 use Rattle.replay.specs.declared.reader_list.Along.{Along}
 use Rattle.replay.specs.declared.reader_list.Step.{Step}
-use Rattle.replay.specs.Lists.{numberAt}
+use Rattle.replay.specs.Lists.{numberAt, part}
 use Rattle.replay.specs.Operations.{operationOf, outcome}
-use Rattle.replay.specs.ReaderList.{behindOf, agree, bytesAgree, onward, part, cutOff, stepped}
+use Rattle.replay.specs.ReaderList.{behindOf, agree, bytesAgree, onward, cutOff, stepped}
 
 pub no-case : (l : List ℕ) (p : Along) → length l - p .at < 13 → cutOff l p ≡ stepped l p
 unfolding stepped

@@ -1,4 +1,10 @@
+pub mod Cases
+pub mod CodeList
 pub mod Lists
 pub mod Operations
+pub mod PixelList
 pub mod ReaderList
+pub mod Readings
+pub mod ScaledList
 pub mod Tallies
+pub mod VectorList

@@ -3,14 +3,14 @@ use Prim.Native.Nat.{ℕ, zero, suc, _+_, _-_, _≤_}
 use mathlib.Core.Bool.{Bool, true, false, cond, _&&_}
 use mathlib.Core.List.{List}
 use lib.Dec.{eqb, ltb}
-use lib.ListN.{length, getD, take, drop}
+use lib.ListN.{length, getD}
 use Rattle.bits.specs.Bits.{bytesAt}
 use Rattle.bits.specs.declared.reader.Reader.{Reader}
 use Rattle.replay.specs.declared.reader_operations.Outcome.{Outcome}
 use Rattle.replay.specs.declared.reader_list.Along.{Along}
 use Rattle.replay.specs.declared.reader_list.Step.{Step}
 use Rattle.replay.specs.declared.tally.Tally.{Tally}
-use Rattle.replay.specs.Lists.{numberAt, sameBytes}
+use Rattle.replay.specs.Lists.{numberAt, part, sameBytes}
 use Rattle.replay.specs.Operations.{operationOf, outcome}
 use Rattle.replay.specs.Tallies.{none, counted}
 
@@ -36,10 +36,6 @@ bytesAgree n t s a x = cond (eqb n peekBytes) (sameBytes t (bytesAt s a x)) true
 -- on to the next case, which stands at j: a new stream stands from i up to j
 abbrev pub onward : Along → ℕ → ℕ → ℕ → Reader → Along
 onward p n i j r = record { at = j; from = cond (eqb n new) i (p .from); to = cond (eqb n new) j (p .to); reader = r }
-
--- a list of bytes from i up to j
-abbrev pub part : List ℕ → ℕ → ℕ → List ℕ
-part l i j = take (j - i) (drop i l)
 
 -- the next case stands in the list, and so does the present stream; the reader is at a place of RULES 1.1
 pub record Inside (l : List ℕ) (p : Along) : Type 0 where

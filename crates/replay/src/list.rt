@@ -1,12 +1,12 @@
 // Lists of the Rust's answers. A list is the number of its cases and then the cases. A number is 32 bits, highest byte first; one below 0 is
 // held as 2^32 more.
 ghost use mathlib.Core.Path.{_≡_};
-ghost use Prim.Native.Nat.{_+_, _≤_, _<_};
+ghost use Prim.Native.Nat.{_+_, _*_, _≤_, _<_};
 ghost use lib.ListN.{length, getD};
 ghost use mir.Syntax.{w32};
 ghost use mir.Val.{ofZ, toZ};
 ghost use Rattle.io.specs.Counts.{Counts};
-ghost use Rattle.replay.specs.Lists.{numberAt, sameBytes};
+ghost use Rattle.replay.specs.Lists.{numberAt, holds, sameBytes};
 
 // Room for a list: 256 KiB.
 pub fn space() -> [u8; 262144]
@@ -78,6 +78,22 @@ pub fn same(a: &[u8], b: &[u8]) -> bool
     let mut i = 0;
     while i < a.len() {
         if a[i] != b[i] {
+            return false;
+        }
+        i += 1;
+    }
+    true
+}
+
+// Whether a list holds these numbers from a byte on.
+pub fn holds(list: &[u8], at: usize, numbers: &[u32]) -> bool
+    requires { ⌜ at + 4 * length (now numbers) ≤ length (now list) ⌝ }
+    ensures { λ r. ⌜ r ≡ holds (now (list .entry)) at (now (numbers .entry)) ⌝ }
+{
+    let mut i: usize = 0;
+    while i < numbers.len() {
+        let n = number_at(list, at + 4 * i);
+        if numbers[i] != n {
             return false;
         }
         i += 1;

@@ -1,0 +1,55 @@
+use Rattle.replay.proofs.cases.case_agrees.Statement.{statement}
+use Rattle.replay.proofs.cases.case_agrees.Tie as tie
+
+enum-told : tie.Need-enum-told
+enum-told c = c .match .keys1
+
+codes-agree-requires : tie.Need-codes-agree-requires
+codes-agree-requires c κs = rw (c .enum-told .given .1) at (c .before .before .before .pre)
+
+enum-told-2 : tie.Need-enum-told-2
+enum-told-2 c = c .match .keys2
+
+vectors-agree-requires : tie.Need-vectors-agree-requires
+vectors-agree-requires c κs = rw (c .enum-told2 .given .1) at (c .before .before .before .pre)
+
+enum-told-3 : tie.Need-enum-told-3
+enum-told-3 c = c .match .keys3
+
+pixels-agree-requires : tie.Need-pixels-agree-requires
+pixels-agree-requires c κs = rw (c .enum-told3 .given .1) at (c .before .before .before .pre)
+
+enum-told-4 : tie.Need-enum-told-4
+enum-told-4 c = c .match .keys4
+
+scaled-agree-requires : tie.Need-scaled-agree-requires
+scaled-agree-requires c κs = rw (c .enum-told4 .given .1) at (c .before .before .before .pre)
+
+returns : tie.Need-returns
+returns c = rw (c .before .enum-told .given .1) (c .codes-agree .ensures)
+
+returns-2 : tie.Need-returns-2
+returns-2 c = rw (c .before .enum-told2 .given .1) (c .vectors-agree .ensures)
+
+returns-3 : tie.Need-returns-3
+returns-3 c = rw (c .before .enum-told3 .given .1) (c .pixels-agree .ensures)
+
+returns-4 : tie.Need-returns-4
+returns-4 c = rw (c .before .enum-told4 .given .1) (c .scaled-agree .ensures)
+
+pub case-agrees-spec : {M : Type 1} → statement M
+case-agrees-spec =
+    tie.close
+    (tie.spec
+    enum-told
+    codes-agree-requires
+    enum-told-2
+    vectors-agree-requires
+    enum-told-3
+    pixels-agree-requires
+    enum-told-4
+    scaled-agree-requires
+    returns
+    returns-2
+    returns-3
+    returns-4)

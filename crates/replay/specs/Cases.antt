@@ -1,0 +1,42 @@
+-- Lists whose cases all have the same size: how many of the cases agree with ours.
+use Prim.Native.Nat.{ℕ, zero, suc, _+_, _*_}
+use mathlib.Core.Bool.{Bool, false, cond}
+use mathlib.Core.List.{List}
+use lib.Dec.{eqb}
+use lib.ListN.{length}
+use Rattle.replay.specs.declared.cases.Kind.{Kind}
+use Rattle.replay.specs.declared.cases.Kind.the-variants.{Codes, Vectors, Pixels, Scaled}
+use Rattle.replay.specs.declared.tally.Tally.{Tally}
+use Rattle.replay.specs.CodeList.{codeAgrees}
+use Rattle.replay.specs.Lists.{numberAt}
+use Rattle.replay.specs.PixelList.{pixelAgrees}
+use Rattle.replay.specs.ScaledList.{scaledAgrees}
+use Rattle.replay.specs.Tallies.{none, counted}
+use Rattle.replay.specs.VectorList.{vectorAgrees}
+
+-- how many numbers a case has
+abbrev pub numbersOf : Kind → ℕ
+numbersOf Codes = 7
+numbersOf Vectors = 8
+numbersOf Pixels = 4
+numbersOf Scaled = 165
+
+-- and how many bytes
+abbrev pub sizeOf : Kind → ℕ
+sizeOf k = 4 * numbersOf k
+
+-- the case at the byte i of a list agrees
+abbrev pub agreesAt : Kind → List ℕ → ℕ → Bool
+agreesAt Codes l i = codeAgrees l i
+agreesAt Vectors l i = vectorAgrees l i
+agreesAt Pixels l i = pixelAgrees l i
+agreesAt Scaled l i = scaledAgrees l i
+
+-- n cases more, from the byte i on
+unfoldable pub scoreFrom : Kind → List ℕ → ℕ → ℕ → Tally → Tally
+scoreFrom k l zero i t = t
+scoreFrom k l (suc n) i t = scoreFrom k l n (i + sizeOf k) (counted t (agreesAt k l i))
+
+-- the whole list: one that is not as long as its number of cases says counts as one case that does not agree
+unfoldable pub scored : Kind → List ℕ → Tally
+scored k l = cond (eqb (length l) (4 + sizeOf k * numberAt l 0)) (scoreFrom k l (numberAt l 0) 4 none) (counted none false)
