@@ -1,0 +1,94 @@
+-- RULES C.4: a stream of two macroblocks, an I and a P picture: the definitions give the bytes that the Rust gives.
+use mathlib.Core.Path.{_≡_, refl}
+use mathlib.Core.List.{List, [], _∷_, _++_}
+use Prim.Native.Nat.{ℕ}
+use lib.Ieee.{binary64, div, ofInt}
+use lib.IntN.{pos}
+use lib.ListN.{replicate, take, drop}
+use Rattle.laws.specs.Signed.{clamp255, half0, odd}
+use Rattle.laws.specs.Stores.{storeRow, storeRows}
+use Rattle.laws.specs.Turns.{turns}
+use Rattle.bits.specs.Bits.{bitAt, bitsAt, got, next, codePrefix, codeFrom, found}
+use Rattle.bits.specs.Programs.{run, bind, loop, findTurn, findStartCode}
+use Rattle.codes.specs.Tables.{macroblockAddressIncrementIndex, macroblockAddressIncrementValue, macroblockTypeIntraIndex, macroblockTypeIntraValue, macroblockTypePredictiveIndex, macroblockTypePredictiveValue, motionIndex, motionValue, dctSizeLuminanceIndex, dctSizeLuminanceValue, dctSizeChrominanceIndex, dctSizeChrominanceValue, dctCoeffIndex, dctCoeffValue}
+use Rattle.codes.specs.Walk.{walkTurn, walk, vlc}
+use Rattle.codes.specs.Codes as Codes
+use Rattle.codes.specs.Matrices.{downFrom, diagonals, zigZag, intraQuantMatrix, nonIntraQuantMatrix, premultiplierMatrix}
+use Rattle.codes.specs.Rates.{pixelAspectRatio, pictureRate}
+use Rattle.motion.specs.Vector.{displacement, motionVector}
+use Rattle.motion.specs.Displacement.{corrected}
+use Rattle.coefficients.specs.Dcs as Dcs
+use Rattle.coefficients.specs.Coefficients as Coefficients
+use Rattle.coefficients.specs.Dequantise.{dequantised}
+use Rattle.coefficients.specs.Blocks as Block
+use Rattle.transform.specs.Butterfly.{butterfly}
+use Rattle.transform.specs.Idct.{columns, rows, idct, dcOnly}
+use Rattle.prediction.specs.Samples.{sample}
+use Rattle.prediction.specs.Predict.{way, predicted}
+use Rattle.prediction.specs.Writers.{setConst, overwrite}
+use Rattle.picture.specs.Ways.{also, leave, onward, plain}
+use Rattle.picture.specs.Increments.{incrementTurn, increment}
+use Rattle.picture.specs.Predictions.{plane, planeAs, predictPlane, predictFrom, predict}
+use Rattle.picture.specs.Heads.{macroblockType, scale, vector, forward, backward, vectors, head, pattern}
+use Rattle.picture.specs.Blocks.{placeOf, results, written, blockEnd, oneBlock, lastBlocks, blocks}
+use Rattle.picture.specs.Macroblocks.{advance, predictUnlessIntra, body, firstOf, laterOf, macroblock}
+use Rattle.picture.specs.Slices.{extraTurn, extra, pastMacroblock, sliceTurn, slice}
+use Rattle.picture.specs.Pictures as P
+use Rattle.decoder.specs.Record.{Left, fresh, cleared}
+use Rattle.decoder.specs.Answers.{picture, outcomeSays}
+use Rattle.decoder.specs.Possible.{every, possible}
+use Rattle.decoder.specs.Sequences.{matrix, size, rest}
+use Rattle.decoder.specs.Headers.{findSequence, accepted, askSize, askHeader, askStore}
+use Rattle.decoder.specs.Opening.{opened, opening}
+use Rattle.decoder.specs.Turns.{nextPicture, isFollowed, timeOf, counted, handed, shown, pastPicture, decoded, searched, pictureTurn}
+use Rattle.decoder.specs.HandOut.{pictures, ended, askFirst, begun, goOn, handOut}
+use Rattle.decoder.specs.declared.answers.Opening.{Opening}
+use Rattle.decoder.specs.declared.answers.Outcome.{Outcome}
+
+-- 32 × 16 samples
+abbrev headerBytes : List ℕ
+headerBytes = 0x00 ∷ 0x00 ∷ 0x01 ∷ 0xb3 ∷ 0x02 ∷ 0x00 ∷ 0x10 ∷ 0x13 ∷ 0x00 ∷ 0x00 ∷ 0x00 ∷ 0x00 ∷ []
+
+-- an I picture with one slice: DC 133 in the first macroblock, 128 in the second, with one more coefficient in its block 1
+abbrev intraBytes : List ℕ
+intraBytes = 0x00 ∷ 0x00 ∷ 0x01 ∷ 0x00 ∷ 0x00 ∷ 0x08 ∷ 0xff ∷ 0xf8 ∷ 0x00 ∷ 0x00 ∷ 0x01 ∷ 0x01 ∷ 0x0b ∷ 0xb6 ∷ 0x94 ∷ 0xa4 ∷ 0x45 ∷ 0xd5 ∷ 0x4d ∷ 0x4a ∷ 0x44 ∷ 0x40 ∷ []
+
+-- a P picture with one slice: both macroblocks copied, the second by the vector (-1, 0) in half samples
+abbrev predictiveBytes : List ℕ
+predictiveBytes = 0x00 ∷ 0x00 ∷ 0x01 ∷ 0x00 ∷ 0x00 ∷ 0x17 ∷ 0xff ∷ 0xf8 ∷ 0x80 ∷ 0x00 ∷ 0x00 ∷ 0x01 ∷ 0x01 ∷ 0x0a ∷ 0x79 ∷ 0x70 ∷ []
+
+-- a picture that is found behind the two, and one behind it
+abbrev laterBytes : List ℕ
+laterBytes = 0x00 ∷ 0x00 ∷ 0x01 ∷ 0x00 ∷ 0x00 ∷ 0x08 ∷ 0xff ∷ 0xff ∷ []
+
+abbrev stream : List ℕ
+stream = headerBytes ++ (replicate 104 0xff ++ (intraBytes ++ (predictiveBytes ++ (laterBytes ++ laterBytes))))
+
+abbrev first : Left Opening
+first = opening stream (replicate 2304 7)
+
+abbrev second : Left Outcome
+second = handOut (first .decoder) stream (first .store)
+
+abbrev third : Left Outcome
+third = handOut (second .decoder) stream (second .store)
+
+-- the I picture is handed out of store 0
+pub hands : outcomeSays (second .answer) ≡ picture 0 (ofInt binary64 (pos 0))
+unfolding clamp255 half0 odd storeRow storeRows turns bitAt bitsAt got next codePrefix codeFrom found run bind loop findTurn findStartCode macroblockAddressIncrementIndex macroblockAddressIncrementValue macroblockTypeIntraIndex macroblockTypeIntraValue macroblockTypePredictiveIndex macroblockTypePredictiveValue motionIndex motionValue dctSizeLuminanceIndex dctSizeLuminanceValue dctSizeChrominanceIndex dctSizeChrominanceValue dctCoeffIndex dctCoeffValue walkTurn walk vlc Codes.macroblockAddressIncrement Codes.macroblockTypeIntra Codes.macroblockTypePredictive Codes.motion Codes.dctSizeLuminance Codes.dctSizeChrominance Codes.dctCoeff downFrom diagonals zigZag intraQuantMatrix nonIntraQuantMatrix premultiplierMatrix displacement motionVector corrected Dcs.dcSize Dcs.added Dcs.dc Coefficients.runLevel Coefficients.coefficient dequantised Block.coefficientTurn Block.coefficients Block.block Block.intraBlock Block.leftOver butterfly columns rows idct dcOnly sample way predicted setConst overwrite also leave onward plain incrementTurn increment plane planeAs predictPlane predictFrom predict macroblockType scale vector forward backward vectors head pattern placeOf results written blockEnd oneBlock lastBlocks blocks advance predictUnlessIntra body firstOf laterOf macroblock extraTurn extra pastMacroblock sliceTurn slice P.direction P.forwardHeader P.pictureHeader P.pastSlice P.slicesTurn P.slices P.coded P.picture fresh cleared every possible matrix size rest findSequence accepted askSize askHeader askStore opened opening nextPicture isFollowed timeOf counted handed shown pastPicture decoded searched pictureTurn pictures ended askFirst begun goOn handOut ofInt
+hands = refl
+
+-- the first row of plane Y of the I picture
+pub intra-row : take 32 (second .store) ≡ replicate 16 133 ++ replicate 16 128
+unfolding clamp255 half0 odd storeRow storeRows turns bitAt bitsAt got next codePrefix codeFrom found run bind loop findTurn findStartCode macroblockAddressIncrementIndex macroblockAddressIncrementValue macroblockTypeIntraIndex macroblockTypeIntraValue macroblockTypePredictiveIndex macroblockTypePredictiveValue motionIndex motionValue dctSizeLuminanceIndex dctSizeLuminanceValue dctSizeChrominanceIndex dctSizeChrominanceValue dctCoeffIndex dctCoeffValue walkTurn walk vlc Codes.macroblockAddressIncrement Codes.macroblockTypeIntra Codes.macroblockTypePredictive Codes.motion Codes.dctSizeLuminance Codes.dctSizeChrominance Codes.dctCoeff downFrom diagonals zigZag intraQuantMatrix nonIntraQuantMatrix premultiplierMatrix displacement motionVector corrected Dcs.dcSize Dcs.added Dcs.dc Coefficients.runLevel Coefficients.coefficient dequantised Block.coefficientTurn Block.coefficients Block.block Block.intraBlock Block.leftOver butterfly columns rows idct dcOnly sample way predicted setConst overwrite also leave onward plain incrementTurn increment plane planeAs predictPlane predictFrom predict macroblockType scale vector forward backward vectors head pattern placeOf results written blockEnd oneBlock lastBlocks blocks advance predictUnlessIntra body firstOf laterOf macroblock extraTurn extra pastMacroblock sliceTurn slice P.direction P.forwardHeader P.pictureHeader P.pastSlice P.slicesTurn P.slices P.coded P.picture fresh cleared every possible matrix size rest findSequence accepted askSize askHeader askStore opened opening nextPicture isFollowed timeOf counted handed shown pastPicture decoded searched pictureTurn pictures ended askFirst begun goOn handOut
+intra-row = refl
+
+-- and of the P picture in store 1, where one sample is the average of 133 and 128
+pub predictive-row : take 32 (drop 768 (second .store)) ≡ replicate 16 133 ++ (131 ∷ replicate 15 128)
+unfolding clamp255 half0 odd storeRow storeRows turns bitAt bitsAt got next codePrefix codeFrom found run bind loop findTurn findStartCode macroblockAddressIncrementIndex macroblockAddressIncrementValue macroblockTypeIntraIndex macroblockTypeIntraValue macroblockTypePredictiveIndex macroblockTypePredictiveValue motionIndex motionValue dctSizeLuminanceIndex dctSizeLuminanceValue dctSizeChrominanceIndex dctSizeChrominanceValue dctCoeffIndex dctCoeffValue walkTurn walk vlc Codes.macroblockAddressIncrement Codes.macroblockTypeIntra Codes.macroblockTypePredictive Codes.motion Codes.dctSizeLuminance Codes.dctSizeChrominance Codes.dctCoeff downFrom diagonals zigZag intraQuantMatrix nonIntraQuantMatrix premultiplierMatrix displacement motionVector corrected Dcs.dcSize Dcs.added Dcs.dc Coefficients.runLevel Coefficients.coefficient dequantised Block.coefficientTurn Block.coefficients Block.block Block.intraBlock Block.leftOver butterfly columns rows idct dcOnly sample way predicted setConst overwrite also leave onward plain incrementTurn increment plane planeAs predictPlane predictFrom predict macroblockType scale vector forward backward vectors head pattern placeOf results written blockEnd oneBlock lastBlocks blocks advance predictUnlessIntra body firstOf laterOf macroblock extraTurn extra pastMacroblock sliceTurn slice P.direction P.forwardHeader P.pictureHeader P.pastSlice P.slicesTurn P.slices P.coded P.picture fresh cleared every possible matrix size rest findSequence accepted askSize askHeader askStore opened opening nextPicture isFollowed timeOf counted handed shown pastPicture decoded searched pictureTurn pictures ended askFirst begun goOn handOut
+predictive-row = refl
+
+-- the P picture is handed out of store 1, a 25th of a second later (RULES 8.9)
+pub hands-next : outcomeSays (third .answer) ≡ picture 1 (div binary64 (ofInt binary64 (pos 1)) (ofInt binary64 (pos 25)))
+unfolding clamp255 half0 odd storeRow storeRows turns bitAt bitsAt got next codePrefix codeFrom found run bind loop findTurn findStartCode macroblockAddressIncrementIndex macroblockAddressIncrementValue macroblockTypeIntraIndex macroblockTypeIntraValue macroblockTypePredictiveIndex macroblockTypePredictiveValue motionIndex motionValue dctSizeLuminanceIndex dctSizeLuminanceValue dctSizeChrominanceIndex dctSizeChrominanceValue dctCoeffIndex dctCoeffValue walkTurn walk vlc Codes.macroblockAddressIncrement Codes.macroblockTypeIntra Codes.macroblockTypePredictive Codes.motion Codes.dctSizeLuminance Codes.dctSizeChrominance Codes.dctCoeff downFrom diagonals zigZag intraQuantMatrix nonIntraQuantMatrix premultiplierMatrix displacement motionVector corrected Dcs.dcSize Dcs.added Dcs.dc Coefficients.runLevel Coefficients.coefficient dequantised Block.coefficientTurn Block.coefficients Block.block Block.intraBlock Block.leftOver butterfly columns rows idct dcOnly sample way predicted setConst overwrite also leave onward plain incrementTurn increment plane planeAs predictPlane predictFrom predict macroblockType scale vector forward backward vectors head pattern placeOf results written blockEnd oneBlock lastBlocks blocks advance predictUnlessIntra body firstOf laterOf macroblock extraTurn extra pastMacroblock sliceTurn slice P.direction P.forwardHeader P.pictureHeader P.pastSlice P.slicesTurn P.slices P.coded P.picture fresh cleared every possible matrix size rest findSequence accepted askSize askHeader askStore opened opening nextPicture isFollowed timeOf counted handed shown pastPicture decoded searched pictureTurn pictures ended askFirst begun goOn handOut pixelAspectRatio pictureRate div ofInt
+hands-next = refl

@@ -1,0 +1,7 @@
+pub mod Listing
+pub mod Rows
+pub mod TwoTurns
+pub mod Numbers
+pub mod Cleared
+pub mod Example
+pub mod Again

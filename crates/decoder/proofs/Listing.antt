@@ -1,0 +1,79 @@
+-- RULES L.4, L.5, H: the definitions give the listing example and the header edge, by computation.
+use mathlib.Core.Path.{_≡_, refl}
+use mathlib.Core.List.{List, [], _∷_, _++_}
+use Prim.Native.Nat.{ℕ}
+use lib.Ieee.{binary64, ofInt}
+use lib.IntN.{pos}
+use lib.ListN.{replicate}
+use Rattle.laws.specs.Turns.{turns}
+use Rattle.bits.specs.Bits.{bitAt, bitsAt, got, next, codePrefix, codeFrom, found}
+use Rattle.bits.specs.Programs.{run, bind, loop, findTurn, findStartCode}
+use Rattle.codes.specs.Matrices.{intraQuantMatrix, nonIntraQuantMatrix, premultiplierMatrix}
+use Rattle.picture.specs.Ways.{leave, onward}
+use Rattle.picture.specs.Pictures as P
+use Rattle.decoder.specs.Record.{Left, fresh, cleared}
+use Rattle.decoder.specs.Answers.{success, picture, number, openingSays, outcomeSays}
+use Rattle.decoder.specs.Possible.{every, possible}
+use Rattle.decoder.specs.Sequences.{matrix, size, rest}
+use Rattle.decoder.specs.Headers.{findSequence, accepted, askSize, askHeader, askStore}
+use Rattle.decoder.specs.Opening.{opened, opening}
+use Rattle.decoder.specs.Turns.{nextPicture, isFollowed, timeOf, counted, handed, shown, pastPicture, decoded, searched, pictureTurn}
+use Rattle.decoder.specs.HandOut.{pictures, ended, askFirst, begun, goOn, handOut}
+use Rattle.decoder.specs.Listing.{line, linesFrom, linesOf, listing}
+use Rattle.decoder.specs.declared.answers.Opening.{Opening}
+use Rattle.decoder.specs.declared.answers.Outcome.{Outcome}
+
+-- RULES L.4
+abbrev pub headerBytes : List ℕ
+headerBytes = 0x00 ∷ 0x00 ∷ 0x01 ∷ 0xb3 ∷ 0x01 ∷ 0x00 ∷ 0x10 ∷ 0x13 ∷ 0x00 ∷ 0x00 ∷ 0x00 ∷ 0x00 ∷ []
+
+abbrev pub pictureBytes : List ℕ
+pictureBytes = 0x00 ∷ 0x00 ∷ 0x01 ∷ 0x00 ∷ 0x00 ∷ 0x08 ∷ 0xff ∷ 0xff ∷ []
+
+abbrev pub example : List ℕ
+example = headerBytes ++ (replicate 104 0xff ++ (pictureBytes ++ (pictureBytes ++ pictureBytes)))
+
+-- opening and two hand-outs, with a store for one macroblock that is not 0
+abbrev pub first : Left Opening
+first = opening example (replicate 1152 7)
+
+abbrev pub second : Left Outcome
+second = handOut (first .decoder) example (first .store)
+
+abbrev pub third : Left Outcome
+third = handOut (second .decoder) example (second .store)
+
+pub opens : openingSays (first .answer) ≡ success
+unfolding bitAt bitsAt got next codePrefix codeFrom found run bind loop findTurn findStartCode fresh matrix size rest findSequence accepted askSize askHeader askStore opened opening
+opens = refl
+
+pub clears : first .store ≡ replicate 1152 0
+unfolding bitAt bitsAt got next codePrefix codeFrom found run bind loop findTurn findStartCode fresh cleared matrix size rest findSequence accepted askSize askHeader askStore opened opening
+clears = refl
+
+-- the first picture is handed out of store 0, at the time 0
+pub hands : outcomeSays (second .answer) ≡ picture 0 (ofInt binary64 (pos 0))
+unfolding bitAt bitsAt got next codePrefix codeFrom found run bind loop findTurn findStartCode fresh cleared matrix size rest findSequence accepted askSize askHeader askStore opened opening turns intraQuantMatrix nonIntraQuantMatrix premultiplierMatrix leave onward P.pictureHeader P.coded P.slicesTurn P.slices P.picture every possible nextPicture isFollowed timeOf counted handed shown pastPicture decoded searched pictureTurn pictures ended askFirst begun goOn handOut ofInt
+hands = refl
+
+-- the third picture is the last of the stream, and is never decoded (RULES 8.3)
+pub ends : outcomeSays (third .answer) ≡ number 7
+unfolding bitAt bitsAt got next codePrefix codeFrom found run bind loop findTurn findStartCode fresh cleared matrix size rest findSequence accepted askSize askHeader askStore opened opening turns intraQuantMatrix nonIntraQuantMatrix premultiplierMatrix leave onward P.pictureHeader P.coded P.slicesTurn P.slices P.picture every possible nextPicture isFollowed timeOf counted handed shown pastPicture decoded searched pictureTurn pictures ended askFirst begun goOn handOut
+ends = refl
+
+-- RULES L.5
+pub lines : listing example ≡ line 1 0 1 0 ∷ line 1 0 0 7 ∷ []
+unfolding bitAt bitsAt got next codePrefix codeFrom found run bind loop findTurn findStartCode fresh cleared matrix size rest findSequence accepted askSize askHeader askStore opened opening turns intraQuantMatrix nonIntraQuantMatrix premultiplierMatrix leave onward P.pictureHeader P.coded P.slicesTurn P.slices P.picture every possible nextPicture isFollowed timeOf counted handed shown pastPicture decoded searched pictureTurn pictures ended askFirst begun goOn handOut linesFrom linesOf listing
+lines = refl
+
+-- RULES H: behind the sequence start code 136 bytes pass question 4 (the next one that is not answered is 6), and 135 do not
+abbrev pub startCode : List ℕ
+startCode = 0x00 ∷ 0x00 ∷ 0x01 ∷ 0xb3 ∷ []
+
+pub passes : openingSays (opening (startCode ++ replicate 136 0xff) [] .answer) ≡ number 6
+unfolding bitAt bitsAt got next codePrefix codeFrom found run bind loop findTurn findStartCode fresh cleared matrix size rest findSequence accepted askSize askHeader askStore opened opening
+passes = refl
+
+pub fails : openingSays (opening (startCode ++ replicate 135 0xff) [] .answer) ≡ number 4
+unfolding bitAt bitsAt got next codePrefix codeFrom found run bind loop findTurn findStartCode fresh cleared matrix size rest findSequence accepted askSize askHeader askStore opened opening
+fails = refl

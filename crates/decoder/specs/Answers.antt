@@ -1,0 +1,23 @@
+-- RULES C.3, Q: what each answer says: a result with its values, or a number.
+use Prim.Native.Nat.{ℕ}
+use lib.Ieee.{Float}
+use Rattle.decoder.specs.declared.answers.Opening.{Opening}
+use Rattle.decoder.specs.declared.answers.Opening.the-variants as O
+use Rattle.decoder.specs.declared.answers.Outcome.{Outcome}
+use Rattle.decoder.specs.declared.answers.Outcome.the-variants as H
+use Rattle.decoder.specs.declared.answers.Converted.{Converted}
+use Rattle.decoder.specs.declared.answers.Converted.the-variants as C
+
+pub data Said : Type 0 where
+  success : Said  -- a result that has no values
+  picture : ℕ → Float → Said  -- the number of the store, and the time shown
+  number : ℕ → Said  -- the number of the question answered "no"
+
+abbrev pub openingSays : Opening → Said
+openingSays x = elim x [ O.Ready ↦ success | O.Refused n ↦ number n ]
+
+abbrev pub outcomeSays : Outcome → Said
+outcomeSays x = elim x [ H.Picture store time ↦ picture store time | H.Refused n ↦ number n ]
+
+abbrev pub convertedSays : Converted → Said
+convertedSays x = elim x [ C.Written ↦ success | C.Refused n ↦ number n ]

@@ -1,0 +1,74 @@
+-- RULES Q3 to Q6: the questions on the sequence header, and its acceptance.
+use mathlib.Core.Bool.{true, not, _||_}
+use mathlib.Core.List.{List}
+use Prim.Native.Nat.{ℕ}
+use lib.Dec.{eqb, leb}
+use lib.IntN.{pos, negsuc}
+use lib.ListN.{length}
+use Rattle.bits.specs.Bits.{has}
+use Rattle.bits.specs.Programs.{Out, run, eqZ, findStartCode, if_then_else_}
+use Rattle.picture.specs.State.{storesAs}
+use Rattle.decoder.specs.declared.record.Decoder.{Decoder}
+use Rattle.decoder.specs.Record.{place, startCode, firstStores, placeAs, pictureAs, sequenceAs, clockAs, searchedAs, storeBytes}
+use Rattle.decoder.specs.Possible.{sizesOf}
+use Rattle.decoder.specs.Sequences.{Size, Rest, size, rest, aspectOf, rateOf}
+
+-- the answer to some questions: the first "no" with its number and the record that it leaves, or the record with which the call goes on
+pub data Asked : Type 0 where
+  refused : ℕ → Decoder → Asked
+  passed : Decoder → Asked
+
+-- RULES Q3, Q4: the sequence start code is searched, unless the record has it already
+unfoldable pub findSequence : List ℕ → Decoder → Decoder
+findSequence s d =
+    if eqZ (startCode d) (pos 0xb3) then d
+    else (let o = run (findStartCode (pos 0xb3)) s (place d) in searchedAs (o .value) (o .at) d)
+
+-- RULES Q5: width and height as read, and the place behind them
+abbrev pub sized : Out Size → Decoder → Decoder
+sized o d = placeAs (o .at) (sequenceAs (record {
+  «has_sequence_header» = d .sequence .«has_sequence_header»;
+  width = o .value .width;
+  height = o .value .height;
+  sizes = d .sequence .sizes;
+  matrices = d .sequence .matrices;
+}) d)
+
+-- RULES O.3, O.4: what accepting a header sets
+unfoldable pub accepted : Out Rest → Decoder → Decoder
+accepted o d =
+    placeAs (o .at) (
+    pictureAs (storesAs firstStores (d .picture)) (
+    clockAs (record {
+      framerate = rateOf (o .value .rate);
+      «pixel_aspect_ratio» = aspectOf (o .value .aspect);
+      time = d .clock .time;
+      «last_frame_time» = d .clock .«last_frame_time»;
+    }) (d .«frames_decoded») (
+    sequenceAs (record {
+      «has_sequence_header» = true;
+      width = d .sequence .width;
+      height = d .sequence .height;
+      sizes = sizesOf (d .sequence .width) (d .sequence .height);
+      matrices = o .value .matrices;
+    }) d)))
+
+-- RULES Q5: width and height, and with both above 0 the rest of the header
+unfoldable pub askSize : List ℕ → Decoder → Asked
+askSize s d =
+    let x = sized (run size s (place d)) d in
+    if eqb (x .sequence .width) 0 || eqb (x .sequence .height) 0 then refused 5 x
+    else passed (accepted (run rest s (place x)) x)
+
+-- RULES Q3, Q4, Q5
+unfoldable pub askHeader : List ℕ → Decoder → Asked
+askHeader s d =
+    let x = findSequence s d in
+    if eqZ (startCode x) (negsuc 0) then refused 3 x
+    else (if not (has s (place x) 1088) then refused 4 x
+    else askSize s x)
+
+-- RULES Q6: of the record passed in, d, nothing is changed
+unfoldable pub askStore : Decoder → List ℕ → Asked → Asked
+askStore d l (refused n x) = refused n x
+askStore d l (passed x) = if leb (storeBytes x) (length l) then passed x else refused 6 d

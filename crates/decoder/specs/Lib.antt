@@ -1,0 +1,10 @@
+pub mod Record
+pub mod Answers
+pub mod Possible
+pub mod Sequences
+pub mod Headers
+pub mod Opening
+pub mod Turns
+pub mod HandOut
+pub mod Conversion
+pub mod Listing

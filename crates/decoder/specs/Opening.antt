@@ -1,0 +1,19 @@
+-- RULES O: opening. Its answer, the record and every byte of the store, for each stream and each store.
+use mathlib.Core.List.{List}
+use Prim.Native.Nat.{ℕ}
+use lib.Dec.{leb}
+use lib.ListN.{length}
+use Rattle.bits.specs.Programs.{if_then_else_}
+use Rattle.decoder.specs.declared.answers.Opening.{Opening}
+use Rattle.decoder.specs.declared.answers.Opening.the-variants.{Ready, Refused}
+use Rattle.decoder.specs.Record.{fresh, Left, left, storeBytes, cleared}
+use Rattle.decoder.specs.Headers.{Asked, refused, passed, askHeader, askStore}
+
+-- the store becomes 0 where a header is accepted
+unfoldable pub opened : List ℕ → Asked → Left Opening
+opened l (refused n x) = left (Refused n) x l
+opened l (passed x) = left Ready x (cleared (storeBytes x) l)
+
+-- RULES O.2: the questions 1, 3, 4, 5, 6
+unfoldable pub opening : List ℕ → List ℕ → Left Opening
+opening s l = if leb (length s) 16777216 then opened l (askStore fresh l (askHeader s fresh)) else left (Refused 1) fresh l

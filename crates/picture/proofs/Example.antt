@@ -1,0 +1,76 @@
+-- An I picture of two macroblocks, 32 × 16 samples, by computation: the bytes are those that the Rust gives.
+use mathlib.Core.Path.{_≡_, refl}
+use mathlib.Core.List.{List, [], _∷_, _++_}
+use Prim.Native.Nat.{ℕ}
+use lib.IntN.{pos}
+use lib.ListN.{replicate, take}
+use Rattle.laws.specs.Signed.{clamp255, odd}
+use Rattle.laws.specs.Stores.{storeRow, storeRows}
+use Rattle.bits.specs.Bits.{bitAt, bitsAt, got, next, codePrefix, codeFrom, found}
+use Rattle.bits.specs.Programs.{run, bind, loop}
+use Rattle.codes.specs.Tables.{macroblockAddressIncrementIndex, macroblockAddressIncrementValue, macroblockTypeIntraIndex, macroblockTypeIntraValue, dctSizeLuminanceIndex, dctSizeLuminanceValue, dctSizeChrominanceIndex, dctSizeChrominanceValue, dctCoeffIndex, dctCoeffValue}
+use Rattle.codes.specs.Walk.{walkTurn, walk, vlc}
+use Rattle.codes.specs.Codes as Codes
+use Rattle.codes.specs.Matrices.{downFrom, diagonals, zigZag, intraQuantMatrix, premultiplierMatrix}
+use Rattle.coefficients.specs.Dcs as Dcs
+use Rattle.coefficients.specs.Coefficients as Coefficients
+use Rattle.coefficients.specs.Dequantise.{dequantised}
+use Rattle.coefficients.specs.Blocks as Block
+use Rattle.transform.specs.Butterfly.{butterfly}
+use Rattle.transform.specs.Idct.{columns, rows, idct, dcOnly}
+use Rattle.prediction.specs.Writers.{setConst, overwrite}
+use Rattle.picture.specs.Ways.{leave, onward, plain}
+use Rattle.picture.specs.Increments.{incrementTurn, increment}
+use Rattle.picture.specs.Predictions.{plane, planeAs}
+use Rattle.picture.specs.Heads.{macroblockType, scale, head, pattern}
+use Rattle.picture.specs.Blocks.{placeOf, results, written, blockEnd, oneBlock, lastBlocks, blocks}
+use Rattle.picture.specs.Macroblocks.{advance, predictUnlessIntra, body, firstOf, laterOf, macroblock}
+use Rattle.picture.specs.Slices.{extraTurn, extra, pastMacroblock, sliceTurn, slice}
+use Rattle.picture.specs.Pictures as P
+use mathlib.Core.Bool.{false}
+use Rattle.bits.specs.Programs.{Out}
+use Rattle.picture.specs.declared.state.Motion.{Motion}
+use Rattle.picture.specs.declared.state.Sizes.{Sizes}
+use Rattle.picture.specs.declared.state.Matrices.{Matrices}
+use Rattle.picture.specs.declared.state.Picture.{Picture}
+use Rattle.picture.specs.Ways.{Way, on, out}
+
+abbrev still : Motion
+still = record { «full_px» = false; «is_set» = false; «r_size» = 0; h = pos 0; v = pos 0 }
+
+abbrev fresh : Picture
+fresh = record {
+  «picture_type» = 0;
+  «start_code» = pos 0;
+  stores = record { cur = 0; fwd = 1; bwd = 2 };
+  slice = record {
+    «quantizer_scale» = 0;
+    «macroblock_address» = pos 0;
+    «motion_forward» = still;
+    «motion_backward» = still;
+    «dc_predictor» = replicate 3 (pos 128);
+    «block_data» = replicate 64 (pos 0);
+  };
+}
+
+abbrev sizes : Sizes
+sizes = record { «mb_width» = 2; «mb_height» = 1; «mb_size» = 2 }
+
+abbrev matrices : Matrices
+matrices = record { «intra_quant_matrix» = intraQuantMatrix; «non_intra_quant_matrix» = replicate 64 16 }
+
+-- from behind the picture's start code on, up to the next one: DC 133 in the first macroblock, 128 in the second, with one more coefficient in its block 1
+abbrev stream : List ℕ
+stream = 0x00 ∷ 0x08 ∷ 0xff ∷ 0xf8 ∷ 0x00 ∷ 0x00 ∷ 0x01 ∷ 0x01 ∷ 0x0b ∷ 0xb6 ∷ 0x94 ∷ 0xa4 ∷ 0x45 ∷ 0xd5 ∷ 0x4d ∷ 0x4a ∷ 0x44 ∷ 0x40 ∷ 0x00 ∷ 0x00 ∷ 0x01 ∷ 0x00 ∷ 0x00 ∷ []
+
+abbrev decoded : Out (Way P.Frame)
+decoded = run (P.picture sizes matrices fresh (replicate 2304 0)) stream 0
+
+abbrev storeOf : Way P.Frame → List ℕ
+storeOf (on f) = f .store
+storeOf (out n l) = l
+
+-- the first row of plane Y in store 0
+pub row : take 32 (storeOf (decoded .value)) ≡ replicate 16 133 ++ replicate 16 128
+unfolding clamp255 odd storeRow storeRows bitAt bitsAt got next codePrefix codeFrom found run bind loop macroblockAddressIncrementIndex macroblockAddressIncrementValue macroblockTypeIntraIndex macroblockTypeIntraValue dctSizeLuminanceIndex dctSizeLuminanceValue dctSizeChrominanceIndex dctSizeChrominanceValue dctCoeffIndex dctCoeffValue walkTurn walk vlc Codes.macroblockAddressIncrement Codes.macroblockTypeIntra Codes.dctSizeLuminance Codes.dctSizeChrominance Codes.dctCoeff downFrom diagonals zigZag intraQuantMatrix premultiplierMatrix Dcs.dcSize Dcs.added Dcs.dc Coefficients.runLevel Coefficients.coefficient dequantised Block.coefficientTurn Block.coefficients Block.block Block.intraBlock Block.leftOver butterfly columns rows idct dcOnly setConst overwrite leave onward plain incrementTurn increment plane planeAs macroblockType scale head pattern placeOf results written blockEnd oneBlock lastBlocks blocks advance predictUnlessIntra body firstOf laterOf macroblock extraTurn extra pastMacroblock sliceTurn slice P.pictureHeader P.pastSlice P.slicesTurn P.slices P.coded P.picture
+row = refl

@@ -1,0 +1,9 @@
+pub mod State
+pub mod Ways
+pub mod Increments
+pub mod Predictions
+pub mod Heads
+pub mod Blocks
+pub mod Macroblocks
+pub mod Slices
+pub mod Pictures

@@ -1,0 +1,100 @@
+-- The state of a picture, and the changes that the rules of part 7 make in it.
+use mathlib.Core.Bool.{Bool}
+use mathlib.Core.List.{List}
+use Prim.Native.Nat.{ℕ}
+use lib.IntN.{ℤ, pos}
+use lib.ListN.{replicate}
+use Rattle.picture.specs.declared.state.Motion.{Motion}
+use Rattle.picture.specs.declared.state.Stores.{Stores}
+use Rattle.picture.specs.declared.state.Sizes.{Sizes}
+use Rattle.picture.specs.declared.state.Matrices.{Matrices}
+use Rattle.picture.specs.declared.state.Slice.{Slice}
+use Rattle.picture.specs.declared.state.Picture.{Picture}
+
+-- what stays the same while the slices of a picture are read; `type` is the picture's
+pub record Given : Type 0 where
+  pub type : ℕ
+  pub sizes : Sizes
+  pub stores : Stores
+  pub matrices : Matrices
+
+-- what macroblocks change: state and store
+pub record World : Type 0 where
+  pub slice : Slice
+  pub store : List ℕ
+
+abbrev pub world : Slice → List ℕ → World
+world s l = record { slice = s; store = l }
+
+-- RULES 7.19: the vector 0
+abbrev pub zeroed : Motion → Motion
+zeroed m = record { «full_px» = m .«full_px»; «is_set» = m .«is_set»; «r_size» = m .«r_size»; h = pos 0; v = pos 0 }
+
+abbrev pub isSetAs : Bool → Motion → Motion
+isSetAs b m = record { «full_px» = m .«full_px»; «is_set» = b; «r_size» = m .«r_size»; h = m .h; v = m .v }
+
+abbrev pub fullPxAs : Bool → Motion → Motion
+fullPxAs b m = record { «full_px» = b; «is_set» = m .«is_set»; «r_size» = m .«r_size»; h = m .h; v = m .v }
+
+abbrev pub rSizeAs : ℕ → Motion → Motion
+rSizeAs r m = record { «full_px» = m .«full_px»; «is_set» = m .«is_set»; «r_size» = r; h = m .h; v = m .v }
+
+abbrev pub vectorAs : ℤ → ℤ → Motion → Motion
+vectorAs h v m = record { «full_px» = m .«full_px»; «is_set» = m .«is_set»; «r_size» = m .«r_size»; h = h; v = v }
+
+abbrev pub scaleAs : ℕ → Slice → Slice
+scaleAs q s = record {
+  «quantizer_scale» = q;
+  «macroblock_address» = s .«macroblock_address»;
+  «motion_forward» = s .«motion_forward»;
+  «motion_backward» = s .«motion_backward»;
+  «dc_predictor» = s .«dc_predictor»;
+  «block_data» = s .«block_data»;
+}
+
+abbrev pub addressAs : ℤ → Slice → Slice
+addressAs a s = record {
+  «quantizer_scale» = s .«quantizer_scale»;
+  «macroblock_address» = a;
+  «motion_forward» = s .«motion_forward»;
+  «motion_backward» = s .«motion_backward»;
+  «dc_predictor» = s .«dc_predictor»;
+  «block_data» = s .«block_data»;
+}
+
+abbrev pub motionsAs : Motion → Motion → Slice → Slice
+motionsAs f b s = record {
+  «quantizer_scale» = s .«quantizer_scale»;
+  «macroblock_address» = s .«macroblock_address»;
+  «motion_forward» = f;
+  «motion_backward» = b;
+  «dc_predictor» = s .«dc_predictor»;
+  «block_data» = s .«block_data»;
+}
+
+-- the DC predictors, and the left-over coefficients
+abbrev pub blockAs : List ℤ → List ℤ → Slice → Slice
+blockAs d c s = record {
+  «quantizer_scale» = s .«quantizer_scale»;
+  «macroblock_address» = s .«macroblock_address»;
+  «motion_forward» = s .«motion_forward»;
+  «motion_backward» = s .«motion_backward»;
+  «dc_predictor» = d;
+  «block_data» = c;
+}
+
+-- RULES 7.20 (11172-2, 2.4.4.1): the DC predictors go back to 128
+abbrev pub dcReset : Slice → Slice
+dcReset s = blockAs (replicate 3 (pos 128)) (s .«block_data») s
+
+abbrev pub startCodeAs : ℤ → Picture → Picture
+startCodeAs c p = record { «picture_type» = p .«picture_type»; «start_code» = c; stores = p .stores; slice = p .slice }
+
+abbrev pub typeAs : ℕ → Picture → Picture
+typeAs t p = record { «picture_type» = t; «start_code» = p .«start_code»; stores = p .stores; slice = p .slice }
+
+abbrev pub storesAs : Stores → Picture → Picture
+storesAs t p = record { «picture_type» = p .«picture_type»; «start_code» = p .«start_code»; stores = t; slice = p .slice }
+
+abbrev pub sliceAs : Slice → Picture → Picture
+sliceAs s p = record { «picture_type» = p .«picture_type»; «start_code» = p .«start_code»; stores = p .stores; slice = s }

@@ -1,0 +1,2 @@
+// Macroblocks, slices and pictures (RULES part 7).
+pub mod state;

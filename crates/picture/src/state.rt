@@ -1,0 +1,47 @@
+// What decoding a picture reads and changes, by value. The reader is beside it, and the store is lent.
+
+// A vector of one direction, with the flags and the size that its reading needs.
+pub struct Motion {
+    pub full_px: bool,
+    pub is_set: bool,
+    pub r_size: u32,
+    pub h: i32,
+    pub v: i32,
+}
+
+// The numbers of the stores: the one that is written, and those that predictions come from.
+pub struct Stores {
+    pub cur: usize,
+    pub fwd: usize,
+    pub bwd: usize,
+}
+
+// Macroblocks in a row, rows of macroblocks, and macroblocks.
+pub struct Sizes {
+    pub mb_width: usize,
+    pub mb_height: usize,
+    pub mb_size: usize,
+}
+
+pub struct Matrices {
+    pub intra_quant_matrix: [u8; 64],
+    pub non_intra_quant_matrix: [u8; 64],
+}
+
+// What macroblocks change beside the store. `block_data` are the left-over coefficients.
+pub struct Slice {
+    pub quantizer_scale: u32,
+    pub macroblock_address: i32,
+    pub motion_forward: Motion,
+    pub motion_backward: Motion,
+    pub dc_predictor: [i32; 3],
+    pub block_data: [i32; 64],
+}
+
+// What a picture changes beside the store.
+pub struct Picture {
+    pub picture_type: u32,
+    pub start_code: i32,
+    pub stores: Stores,
+    pub slice: Slice,
+}

@@ -1,0 +1,99 @@
+-- The planes of a macroblock: where they lie in the lent memory, and how their prediction goes on from one to the next.
+use mathlib.Core.Path.{_≡_, refl, ap, _∙_}
+use mathlib.Core.Bool.{Bool}
+use mathlib.Core.List.{List}
+use mathlib.Core.Logic.{inl, inr}
+use Prim.Native.Nat.{ℕ, suc, _+_, _*_, _/_, _%_, _≤_, _<_}
+use native.Mathlib.Nat.{mul-le-mul, mul-le-mul-right}
+use native.Mathlib.Omega.{arith}
+use lib.IntN.{ℤ, pos, negsuc, natAbs}
+use Rattle.laws.specs.Signed.{half0}
+use Rattle.laws.proofs.Nums.{neg-abs}
+use Rattle.prediction.specs.declared.place.Macroblock.{Macroblock}
+use Rattle.prediction.specs.declared.place.Place.{Place}
+use Rattle.prediction.specs.declared.planes.Plane.{Plane}
+use Rattle.prediction.specs.declared.planes.Plane.the-variants.{Y, Cr, Cb}
+use Rattle.prediction.specs.declared.predict.Predicted.{Predicted}
+use Rattle.prediction.specs.declared.predict.Predicted.the-variants.{Done, Refused}
+use Rattle.prediction.specs.Planes.{Inside, macroblocks, blockSize, planeLength, planeStart, After, inPlane, next, ofStores, predictedPlanes}
+use Rattle.prediction.specs.Predict.{Placed, blockOf, bytes, chroma}
+use Rattle.prediction.specs.Writers.{lumaPlace, chromaPlace}
+use Rattle.prediction.proofs.Places.{at-place, block-in}
+
+-- the start of a store
+pub store-most : (k n : ℕ) → k < 3 → k * (384 * n) ≤ 768 * n
+store-most k n h = let r : k ≤ 2 = omega arith in omega (arith, mul-le-mul-right (384 * n) r)
+
+module _ {m : Macroblock} (i : Inside m) where
+  pub count-most : macroblocks m ≤ 65536
+  count-most = mul-le-mul (i .across) (i .down)
+
+  pub placed : (q : Plane) → Placed (blockOf m (blockSize q))
+  placed Y = record { size = inr refl; across = i .across; down = i .down; row = i .row; column = i .column }
+  placed Cr = record { size = inl refl; across = i .across; down = i .down; row = i .row; column = i .column }
+  placed Cb = record { size = inl refl; across = i .across; down = i .down; row = i .row; column = i .column }
+
+  -- the four blocks of Y, and the one of Cr and Cb, lie in their planes
+  pub luma-in : (block : ℕ) → lumaPlace (m .across * 16) (m .row) (m .column) block + 7 * (m .across * 16) + 8 ≤ 256 * macroblocks m
+  luma-in block =
+      let u : block / 2 % 2 ≤ 1 = omega arith in
+      let t : block % 2 ≤ 1 = omega arith in
+      omega (
+        arith,
+        at-place (m .row * 16 + block / 2 % 2 * 8) (m .column * 16 + block % 2 * 8) 8 (m .across * 16) (m .down * 16) (omega arith) (omega (arith, i .row)) (omega (arith, i .column)),
+      )
+
+  pub chroma-in : chromaPlace (m .across * 8) (m .row) (m .column) + 7 * (m .across * 8) + 8 ≤ 64 * macroblocks m
+  chroma-in = omega (arith, block-in (placed Cr))
+
+pub bytes-are : (m : Macroblock) (q : Plane) → bytes (blockOf m (blockSize q)) ≡ planeLength q (macroblocks m)
+bytes-are m Y = omega arith
+bytes-are m Cr = omega arith
+bytes-are m Cb = omega arith
+
+pub plane-in : (m : Macroblock) (q : Plane) (k : ℕ) → k < 3 → planeStart k q (macroblocks m) + bytes (blockOf m (blockSize q)) ≤ 1152 * macroblocks m
+plane-in m Y k h = omega (arith, store-most k (macroblocks m) h)
+plane-in m Cr k h = omega (arith, store-most k (macroblocks m) h)
+plane-in m Cb k h = omega (arith, store-most k (macroblocks m) h)
+
+-- the same place, planes and vector
+pub alike : {p r : Place} {from from′ to to′ : ℕ} {h h′ v v′ : ℤ} (interpolate : Bool) (store : List ℕ) → p ≡ r → from ≡ from′ → to ≡ to′ → h ≡ h′ → v ≡ v′
+    → inPlane p from to h v interpolate store ≡ inPlane r from′ to′ h′ v′ interpolate store
+alike interpolate store ep ef et eh ev = rw (ep, ef, et, eh, ev)
+
+pub half-most : (z : ℤ) (n : ℕ) → natAbs z ≤ n → natAbs (half0 z) ≤ n
+unfolding half0
+half-most (pos a) n h = omega arith
+half-most (negsuc a) n h = omega (arith, neg-abs (pos (suc a / 2)))
+
+next-done : (o : After) (f : List ℕ → After) → o .answer ≡ Done → next o f ≡ f (o .store)
+unfolding next
+next-done o f e = ap (λ (a : Predicted). elim a [ Done ↦ f (o .store) | Refused ↦ o ]) e
+
+next-refused : (o : After) (f : List ℕ → After) → o .answer ≡ Refused → next o f ≡ o
+unfolding next
+next-refused o f e = ap (λ (a : Predicted). elim a [ Done ↦ f (o .store) | Refused ↦ o ]) e
+
+module _ (m : Macroblock) (from to : ℕ) (h v : ℤ) (interpolate : Bool) (store : List ℕ) where
+  abbrev first : After
+  first = ofStores m from to interpolate Y h v store
+
+  abbrev second : After
+  second = ofStores m from to interpolate Cr (chroma h) (chroma v) (first .store)
+
+  abbrev third : After
+  third = ofStores m from to interpolate Cb (chroma h) (chroma v) (second .store)
+
+  pub first-refused : first .answer ≡ Refused → predictedPlanes m from to h v interpolate store ≡ first
+  unfolding predictedPlanes
+  first-refused e = next-refused first (λ s. next (ofStores m from to interpolate Cr (chroma h) (chroma v) s) (ofStores m from to interpolate Cb (chroma h) (chroma v))) e
+
+  after-first : first .answer ≡ Done → predictedPlanes m from to h v interpolate store ≡ next second (ofStores m from to interpolate Cb (chroma h) (chroma v))
+  unfolding predictedPlanes
+  after-first e = next-done first (λ s. next (ofStores m from to interpolate Cr (chroma h) (chroma v) s) (ofStores m from to interpolate Cb (chroma h) (chroma v))) e
+
+  pub second-refused : first .answer ≡ Done → second .answer ≡ Refused → predictedPlanes m from to h v interpolate store ≡ second
+  second-refused e g = after-first e ∙ next-refused second (ofStores m from to interpolate Cb (chroma h) (chroma v)) g
+
+  pub both-done : first .answer ≡ Done → second .answer ≡ Done → predictedPlanes m from to h v interpolate store ≡ third
+  both-done e g = after-first e ∙ next-done second (ofStores m from to interpolate Cb (chroma h) (chroma v)) g

@@ -1,0 +1,71 @@
+-- Bounds of a place, and which addresses lie in its plane.
+use mathlib.Core.Path.{_≡_, ap}
+use mathlib.Core.Bool.{Bool, true, false, cond}
+use mathlib.Core.Logic.{⊎-elim}
+use Prim.Native.Nat.{ℕ, _+_, _*_, _-_, _%_, _≤_, _<_}
+use native.Mathlib.Nat.{mul-le-mul, mul-le-mul-left, mul-le-mul-right}
+use native.Mathlib.Omega.{arith}
+use lib.IntN.{ℤ}
+use Rattle.laws.specs.Signed.{odd}
+use Rattle.prediction.specs.declared.place.Place.{Place}
+use Rattle.prediction.specs.Predict.{Placed, width, height, bytes, address, maxAddress, reach}
+
+-- a block of s rows of s in a plane W wide and H high, at row R and column C
+pub at-place : (R C s W H : ℕ) → 0 < s → R + s ≤ H → C + s ≤ W → R * W + C + (s - 1) * W + s ≤ W * H
+at-place R C s W H h r q =
+    let t : s - 1 + 1 ≡ s = omega arith in
+    omega (arith, ap (λ (n : ℕ). n * W) t, mul-le-mul-right W r)
+
+-- such a block that begins no further than RULES 6.5 says
+at-most : (a s W H : ℕ) → 0 < s → s ≤ H → s ≤ W → a ≤ W * (H - s + 1) - s → a + (s - 1) * W + s ≤ W * H
+at-most a s W H h r q l =
+    let t : s - 1 + 1 ≡ s = omega arith in
+    let u : H - s + s ≡ H = omega arith in
+    omega (arith, ap (λ (n : ℕ). n * W) t, ap (λ (n : ℕ). n * W) u)
+
+module _ {p : Place} (k : Placed p) where
+  pub size-from : 8 ≤ p .size
+  size-from = ⊎-elim (λ e. omega arith) (λ e. omega arith) (k .size)
+
+  pub size-to : p .size ≤ 16
+  size-to = ⊎-elim (λ e. omega arith) (λ e. omega arith) (k .size)
+
+  pub size-eights : p .size % 8 ≡ 0
+  size-eights = ⊎-elim (λ e. omega arith) (λ e. omega arith) (k .size)
+
+  pub width-most : width p ≤ 4096
+  width-most = mul-le-mul (k .across) size-to
+
+  pub height-most : height p ≤ 4096
+  height-most = mul-le-mul (k .down) size-to
+
+  pub bytes-most : bytes p ≤ 16777216
+  bytes-most = mul-le-mul width-most height-most
+
+  pub row-in : p .row * p .size + p .size ≤ height p
+  row-in = omega (arith, mul-le-mul-right (p .size) (k .row))
+
+  pub column-in : p .column * p .size + p .size ≤ width p
+  column-in = omega (arith, mul-le-mul-right (p .size) (k .column))
+
+  pub block-in : address p + (p .size - 1) * width p + p .size ≤ bytes p
+  block-in = at-place (p .row * p .size) (p .column * p .size) (p .size) (width p) (height p) (omega (arith, size-from)) row-in column-in
+
+  pub source-in : (a : ℕ) → a ≤ maxAddress p → a + (p .size - 1) * width p + p .size ≤ bytes p
+  source-in a = at-most a (p .size) (width p) (height p) (omega (arith, size-from)) (omega (arith, row-in)) (omega (arith, column-in))
+
+  -- the parts of maxAddress
+  pub max-to : width p * (height p - p .size + 1) ≤ bytes p
+  max-to = mul-le-mul-left (width p) (omega (arith, size-from, row-in))
+
+  pub max-from : p .size ≤ width p * (height p - p .size + 1)
+  max-from = let h : 1 ≤ height p - p .size + 1 = omega arith in omega (arith, column-in, mul-le-mul-left (width p) h)
+
+  pub reach-most : (h v : ℤ) → reach p h v ≤ 4097
+  reach-most h v = go (odd v) (odd h)
+    where
+      go : (s t : Bool) → cond s (width p) 0 + cond t 1 0 ≤ 4097
+      go true true = omega (arith, width-most)
+      go true false = omega (arith, width-most)
+      go false true = omega arith
+      go false false = omega arith

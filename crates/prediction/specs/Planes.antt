@@ -1,0 +1,79 @@
+-- RULES 6.10, 6.11: the three stores, the planes of each, and the prediction of a macroblock's planes.
+use mathlib.Core.Bool.{Bool}
+use mathlib.Core.List.{List}
+use Prim.Native.Nat.{ℕ, _+_, _*_, _≤_, _<_}
+use borrow.Rule.Slice.PartMut.{midOf, putMid}
+use lib.IntN.{ℤ}
+use Rattle.prediction.specs.declared.place.Macroblock.{Macroblock}
+use Rattle.prediction.specs.declared.place.Place.{Place}
+use Rattle.prediction.specs.declared.place.Way.{Way}
+use Rattle.prediction.specs.declared.place.Way.the-variants.{Alone, Past, Copied}
+use Rattle.prediction.specs.declared.planes.Plane.{Plane}
+use Rattle.prediction.specs.declared.planes.Plane.the-variants.{Y, Cr, Cb}
+use Rattle.prediction.specs.declared.predict.Predicted.{Predicted}
+use Rattle.prediction.specs.declared.predict.Predicted.the-variants.{Done, Refused}
+use Rattle.prediction.specs.Predict.{blockOf, bytes, way, predicted, chroma}
+
+-- what the picture layer's macroblocks keep to
+pub record Inside (m : Macroblock) : Type 0 where
+  pub across : m .across ≤ 256
+  pub down : m .down ≤ 256
+  pub row : m .row < m .down
+  pub column : m .column < m .across
+
+-- macroblocks of the picture
+abbrev pub macroblocks : Macroblock → ℕ
+macroblocks m = m .across * m .down
+
+-- the block size of a plane
+abbrev pub blockSize : Plane → ℕ
+blockSize Y = 16
+blockSize Cr = 8
+blockSize Cb = 8
+
+-- where a plane begins within its store, for so many macroblocks
+abbrev pub offset : Plane → ℕ → ℕ
+offset Y n = 0
+offset Cr n = 256 * n
+offset Cb n = 320 * n
+
+-- bytes of a plane
+abbrev pub planeLength : Plane → ℕ → ℕ
+planeLength p n = blockSize p * blockSize p * n
+
+-- where a plane of the store number k begins in the lent memory
+abbrev pub planeStart : ℕ → Plane → ℕ → ℕ
+planeStart k p n = k * (384 * n) + offset p n
+
+-- the lent memory after a prediction, and the prediction's answer
+pub record After : Type 0 where
+  pub store : List ℕ
+  pub answer : Predicted
+
+-- what is done with the block at p of the plane that begins at `to`, from the plane at `from`
+unfoldable pub follow : Way → Place → ℕ → ℕ → ℤ → ℤ → Bool → List ℕ → After
+follow Alone p from to h v interpolate store = record { store = store; answer = Done }
+follow Past p from to h v interpolate store = record { store = store; answer = Refused }
+follow (Copied a) p from to h v interpolate store =
+    record {
+      store = putMid to (bytes p) store (predicted p (midOf from (bytes p) store) (midOf to (bytes p) store) h v interpolate a);
+      answer = Done;
+    }
+
+-- RULES 6.4 to 6.9 for one plane
+abbrev pub inPlane : Place → ℕ → ℕ → ℤ → ℤ → Bool → List ℕ → After
+inPlane p from to h v = follow (way p h v) p from to h v
+
+-- a refusal ends the prediction
+unfoldable pub next : After → (List ℕ → After) → After
+next o f = elim (o .answer) [ Done ↦ f (o .store) | Refused ↦ o ]
+
+-- the plane q of the store number `to` from that of the store number `from`
+abbrev pub ofStores : Macroblock → ℕ → ℕ → Bool → Plane → ℤ → ℤ → List ℕ → After
+ofStores m from to interpolate q h v = inPlane (blockOf m (blockSize q)) (planeStart from q (macroblocks m)) (planeStart to q (macroblocks m)) h v interpolate
+
+-- RULES 6.2, 6.10: Y, then Cr and Cb with the vector halved; h and v are in half samples
+unfoldable pub predictedPlanes : Macroblock → ℕ → ℕ → ℤ → ℤ → Bool → List ℕ → After
+predictedPlanes m from to h v interpolate store =
+    next (ofStores m from to interpolate Y h v store) (λ s.
+    next (ofStores m from to interpolate Cr (chroma h) (chroma v) s) (ofStores m from to interpolate Cb (chroma h) (chroma v)))

@@ -1,0 +1,83 @@
+-- RULES 6.1 to 6.9: the prediction of one block of a plane.
+use mathlib.Core.Path.{_≡_}
+use mathlib.Core.Bool.{Bool, cond, _||_}
+use mathlib.Core.List.{List}
+use mathlib.Core.Logic.{_⊎_}
+use Prim.Native.Nat.{ℕ, _+_, _-_, _*_, _≤_, _<_}
+use lib.Dec.{ltb}
+use lib.IntN.{ℤ, pos, natAbs, _+ℤ_, _*ℤ_}
+use lib.ListN.{getD, replicate}
+use lib.Signed.{ltZ, shrZ}
+use Rattle.laws.specs.Signed.{odd, half0}
+use Rattle.laws.specs.Stores.{storeRows}
+use Rattle.prediction.specs.declared.place.Macroblock.{Macroblock}
+use Rattle.prediction.specs.declared.place.Place.{Place}
+use Rattle.prediction.specs.declared.place.Way.{Way}
+use Rattle.prediction.specs.declared.place.Way.the-variants.{Alone, Past, Copied}
+use Rattle.prediction.specs.Samples.{sample, laid}
+
+-- the block of a macroblock in a plane of this block size
+abbrev pub blockOf : Macroblock → ℕ → Place
+blockOf m size = record { size = size; across = m .across; down = m .down; row = m .row; column = m .column }
+
+-- what the picture layer's places keep to: blocks of 8 or 16 samples, at most 256 of them each way
+pub record Placed (p : Place) : Type 0 where
+  pub size : (p .size ≡ 8) ⊎ (p .size ≡ 16)
+  pub across : p .across ≤ 256
+  pub down : p .down ≤ 256
+  pub row : p .row < p .down
+  pub column : p .column < p .across
+
+-- the plane's width and height in samples
+abbrev pub width : Place → ℕ
+width p = p .across * p .size
+
+abbrev pub height : Place → ℕ
+height p = p .down * p .size
+
+-- bytes of the plane
+abbrev pub bytes : Place → ℕ
+bytes p = width p * height p
+
+-- the address of the block itself
+abbrev pub address : Place → ℕ
+address p = p .row * p .size * width p + p .column * p .size
+
+-- RULES 6.4: the start of the block that is copied, for a vector of half samples
+abbrev pub start : Place → ℤ → ℤ → ℤ
+start p h v = (pos (p .row * p .size) +ℤ shrZ v 2) *ℤ pos (width p) +ℤ pos (p .column * p .size) +ℤ shrZ h 2
+
+-- RULES 6.5
+abbrev pub maxAddress : Place → ℕ
+maxAddress p = width p * (height p - p .size + 1) - p .size
+
+-- RULES 6.9: how far past the start a prediction by half samples reaches
+abbrev pub reach : Place → ℤ → ℤ → ℕ
+reach p h v = cond (odd v) (width p) 0 + cond (odd h) 1 0
+
+-- RULES 6.6, 6.9: a block outside is left alone, one that reaches past the last is refused
+unfoldable pub way : Place → ℤ → ℤ → Way
+way p h v =
+    cond (ltZ (start p h v) (pos 0) || ltZ (pos (maxAddress p)) (start p h v)) Alone
+    (cond (ltb (maxAddress p) (natAbs (start p h v) + reach p h v)) Past (Copied (natAbs (start p h v))))
+
+-- the samples of a block of the plane s that begins at `from`, its rows one after the other
+unfoldable pub gathered : List ℕ → ℕ → ℕ → ℕ → Bool → Bool → List ℕ
+gathered s from dw size across down = storeRows (replicate 256 0) 0 size size (λ y x. sample s dw across down (from + y * dw + x)) size
+
+-- such samples laid in the plane d at di
+unfoldable pub lay : List ℕ → ℕ → ℕ → ℕ → List ℕ → Bool → List ℕ
+lay d di dw size block interpolate = storeRows d di dw size (λ y x. laid interpolate (getD d (di + y * dw + x) 0) (getD block (y * size + x) 0)) size
+
+-- RULES 6.7, 6.8: the plane d with the block written from the plane s, whose block begins at `from`
+unfoldable pub predicted : Place → List ℕ → List ℕ → ℤ → ℤ → Bool → ℕ → List ℕ
+predicted p s d h v interpolate from =
+    storeRows d (address p) (width p) (p .size)
+    (λ y x. laid interpolate (getD d (address p + y * width p + x) 0) (sample s (width p) (odd h) (odd v) (from + y * width p + x))) (p .size)
+
+-- RULES 6.2: a full-pel component is doubled; chroma components are then halved toward zero
+abbrev pub inHalves : Bool → ℤ → ℤ
+inHalves full z = cond full (z *ℤ pos 2) z
+
+abbrev pub chroma : ℤ → ℤ
+chroma = half0

@@ -1,0 +1,56 @@
+-- ISO/IEC 11172-2, 2.4.4.2 and 2.4.4.3: prediction as the standard prints it. A plane is the list of its samples, by rows of `wide`.
+use mathlib.Core.Bool.{Bool, cond}
+use mathlib.Core.List.{List}
+use Prim.Native.Nat.{ℕ, _+_, _*_, _/_}
+use lib.Dec.{eqb}
+use lib.IntN.{ℤ, pos, natAbs, _+ℤ_, _-ℤ_, _*ℤ_}
+use lib.ListN.{getD}
+use lib.Signed.{shrZ, quotZ, _≤ℤ_}
+use Rattle.prediction.specs.declared.place.Place.{Place}
+use Rattle.prediction.specs.Predict.{width, height}
+
+-- n // d of numbers that are not negative: to the nearest integer, halves up
+abbrev pub roundedDiv : ℕ → ℕ → ℕ
+roundedDiv n d = (2 * n + d) / (2 * d)
+
+-- right_for = recon_right_for >> 1, and the same down
+abbrev pub whole : ℤ → ℤ
+whole recon = shrZ recon 2
+
+-- right_half_for = recon_right_for - 2 * right_for, and the same down
+abbrev pub half : ℤ → ℤ
+half recon = recon -ℤ pos 2 *ℤ whole recon
+
+-- for chrominance recon_right_for / 2 takes the place of recon_right_for; / truncates toward zero
+abbrev pub chrominance : ℤ → ℤ
+chrominance recon = quotZ recon (pos 2)
+
+-- pel_past[i][j]
+abbrev pub pelPast : List ℕ → ℕ → ℤ → ℤ → ℕ
+pelPast s wide i j = getD s (natAbs i * wide + natAbs j) 0
+
+-- ! half
+abbrev pub none : ℤ → Bool
+none z = eqb (natAbs z) 0
+
+-- pel[i][j] by the four cases, at i = i + down_for and j = j + right_for
+unfoldable pub formed : List ℕ → ℕ → ℤ → ℤ → ℤ → ℤ → ℕ
+formed s wide rightHalf downHalf i j =
+    cond (none rightHalf)
+    (cond (none downHalf) (pelPast s wide i j) (roundedDiv (pelPast s wide i j + pelPast s wide (i +ℤ pos 1) j) 2))
+    (cond (none downHalf) (roundedDiv (pelPast s wide i j + pelPast s wide i (j +ℤ pos 1)) 2)
+    (roundedDiv (pelPast s wide i j + pelPast s wide (i +ℤ pos 1) j + pelPast s wide i (j +ℤ pos 1) + pelPast s wide (i +ℤ pos 1) (j +ℤ pos 1)) 4))
+
+abbrev pub pel : List ℕ → ℕ → ℤ → ℤ → ℕ → ℕ → ℕ
+pel s wide right down i j = formed s wide (half right) (half down) (pos i +ℤ whole down) (pos j +ℤ whole right)
+
+-- 2.4.4.3: the average of a forward and a backward prediction
+abbrev pub bothWays : ℕ → ℕ → ℕ
+bothWays forward backward = roundedDiv (forward + backward) 2
+
+-- 2.4.4.2 allows no reference outside the picture: all samples that the block at p refers to are inside
+pub record InPicture (p : Place) (h v : ℤ) : Type 0 where
+  pub top : pos 0 ≤ℤ (pos (p .row * p .size) +ℤ whole v)
+  pub bottom : (pos (p .row * p .size) +ℤ whole v +ℤ pos (p .size) +ℤ half v) ≤ℤ pos (height p)
+  pub left : pos 0 ≤ℤ (pos (p .column * p .size) +ℤ whole h)
+  pub right : (pos (p .column * p .size) +ℤ whole h +ℤ pos (p .size) +ℤ half h) ≤ℤ pos (width p)

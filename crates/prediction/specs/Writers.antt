@@ -1,0 +1,35 @@
+-- RULES 6.12, 6.13: the results of a block written at its place.
+use mathlib.Core.List.{List}
+use Prim.Native.Nat.{ℕ, _+_, _*_, _/_, _%_, _≤_, _<_}
+use lib.IntN.{ℤ, pos, natAbs, _+ℤ_}
+use lib.ListN.{getD}
+use Rattle.laws.specs.Signed.{clamp255}
+use Rattle.laws.specs.Stores.{storeRows}
+
+-- 64 results to each of which a byte can be added in 32 bits, as the transform gives them
+pub record Narrow (s : List ℤ) : Type 0 where
+  pub entry : (k : ℕ) → k < 64 → natAbs (getD s k (pos 0)) ≤ 131072
+
+-- one byte everywhere
+unfoldable pub setConst : List ℕ → ℕ → ℕ → ℕ → List ℕ
+setConst d di dw value = storeRows d di dw 8 (λ y x. value) 8
+
+-- the 64 results, clamped
+unfoldable pub overwrite : List ℕ → ℕ → ℕ → List ℤ → List ℕ
+overwrite d di dw s = storeRows d di dw 8 (λ y x. clamp255 (getD s (y * 8 + x) (pos 0))) 8
+
+-- one number added to what is there
+unfoldable pub addConst : List ℕ → ℕ → ℕ → ℤ → List ℕ
+addConst d di dw value = storeRows d di dw 8 (λ y x. clamp255 (pos (getD d (di + y * dw + x) 0) +ℤ value)) 8
+
+-- the 64 results added to what is there
+unfoldable pub addBlock : List ℕ → ℕ → ℕ → List ℤ → List ℕ
+addBlock d di dw s = storeRows d di dw 8 (λ y x. clamp255 (pos (getD d (di + y * dw + x) 0) +ℤ getD s (y * 8 + x) (pos 0))) 8
+
+-- the place of block 0 to 3 in the plane Y of width dw, for the macroblock at row and column
+abbrev pub lumaPlace : ℕ → ℕ → ℕ → ℕ → ℕ
+lumaPlace dw row column block = (row * 16 + block / 2 % 2 * 8) * dw + column * 16 + block % 2 * 8
+
+-- the place of block 4 or 5 in its plane, of width dw
+abbrev pub chromaPlace : ℕ → ℕ → ℕ → ℕ
+chromaPlace dw row column = row * 8 * dw + column * 8

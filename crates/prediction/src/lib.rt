@@ -1,0 +1,8 @@
+// Prediction, and the writers of blocks.
+pub mod blocks;
+pub mod place;
+pub mod planes;
+pub mod predict;
+pub mod rows;
+pub mod samples;
+pub mod writers;

@@ -1,0 +1,133 @@
+// Blocks of one plane predicted from another, and a macroblock's three planes from another store.
+use crate::blocks::gather;
+use crate::blocks::lay;
+use crate::place::Macroblock;
+use crate::place::Place;
+use crate::place::Way;
+use crate::place::is_odd;
+use crate::planes::Plane;
+use crate::planes::block_size;
+use crate::planes::plane_start;
+use laws::half;
+ghost use mathlib.Core.Path.{_≡_};
+ghost use Prim.Native.Nat.{_+_, _*_, _≤_, _<_};
+ghost use borrow.Rule.Slice.PartMut.{midOf, putMid};
+ghost use lib.IntN.{natAbs};
+ghost use lib.ListN.{length};
+ghost use Rattle.prediction.specs.Planes.{Inside, macroblocks, inPlane, ofStores, predictedPlanes};
+ghost use Rattle.prediction.specs.Predict.{Placed, bytes, maxAddress, reach, predicted};
+
+// RULES Q9: refused is number 9.
+pub enum Predicted {
+    Done,
+    Refused,
+}
+
+// The block that begins at `at` in its plane is gathered before the first byte is written. The planes begin at `from` and `to`.
+fn copy_block(
+    store: &mut [u8],
+    from: usize,
+    to: usize,
+    p: Place,
+    h: i32,
+    v: i32,
+    interpolate: bool,
+    at: usize,
+)
+    requires { ⌜ Placed p ⌝ }
+    requires { ⌜ (from + bytes p ≤ length (now store)) × (to + bytes p ≤ length (now store)) ⌝ }
+    requires { ⌜ at + reach p h v ≤ maxAddress p ⌝ }
+    ensures { λ _. ⌜ now (store .exit) ≡ putMid to (bytes p) (now (store .entry)) (predicted p (midOf from (bytes p) (now (store .entry))) (midOf to (bytes p) (now (store .entry))) h v interpolate at) ⌝ }
+{
+    let size = p.size;
+    let dw = p.width();
+    let di = p.address();
+    let bytes = p.bytes();
+    let across = is_odd(h);
+    let down = is_odd(v);
+    let from_end = from + bytes;
+    let to_end = to + bytes;
+    let block = gather(&store[from..from_end], at, dw, size, across, down);
+    lay(&mut store[to..to_end], di, dw, size, &block, interpolate);
+}
+
+// One block of the plane that begins at `to`, from the plane that begins at `from` (the Rust's process_macroblock).
+pub fn predict_plane(
+    store: &mut [u8],
+    from: usize,
+    to: usize,
+    p: Place,
+    h: i32,
+    v: i32,
+    interpolate: bool,
+) -> Predicted
+    requires { ⌜ Placed p ⌝ }
+    requires { ⌜ (natAbs h ≤ 2048) × (natAbs v ≤ 2048) ⌝ }
+    requires { ⌜ (from + bytes p ≤ length (now store)) × (to + bytes p ≤ length (now store)) ⌝ }
+    ensures answer { λ r. ⌜ r ≡ inPlane p from to h v interpolate (now (store .entry)) .answer ⌝ }
+    ensures store { λ _. ⌜ now (store .exit) ≡ inPlane p from to h v interpolate (now (store .entry)) .store ⌝ }
+{
+    match p.way_of(h, v) {
+        Way::Alone => Predicted::Done,
+        Way::Past => Predicted::Refused,
+        Way::Copied(at) => {
+            copy_block(store, from, to, p, h, v, interpolate, at);
+            Predicted::Done
+        }
+    }
+}
+
+// One plane of the store number `to` from that of the store number `from`.
+fn predict_of_stores(
+    store: &mut [u8],
+    m: Macroblock,
+    from: usize,
+    to: usize,
+    q: Plane,
+    h: i32,
+    v: i32,
+    interpolate: bool,
+) -> Predicted
+    requires { ⌜ Inside m ⌝ }
+    requires { ⌜ (from < 3) × (to < 3) ⌝ }
+    requires { ⌜ (natAbs h ≤ 2048) × (natAbs v ≤ 2048) ⌝ }
+    requires { ⌜ 1152 * macroblocks m ≤ length (now store) ⌝ }
+    ensures answer { λ r. ⌜ r ≡ ofStores m from to interpolate q h v (now (store .entry)) .answer ⌝ }
+    ensures store { λ _. ⌜ now (store .exit) ≡ ofStores m from to interpolate q h v (now (store .entry)) .store ⌝ }
+{
+    let n = m.across * m.down;
+    let source = plane_start(from, q, n);
+    let target = plane_start(to, q, n);
+    let p = m.block(block_size(q));
+    predict_plane(store, source, target, p, h, v, interpolate)
+}
+
+// The Rust's copy_or_interpolate_macroblock. The vector is in half samples. The planes go Y, Cr, Cb; a refusal ends it, with that
+// plane not begun.
+pub fn predict_macroblock_planes(
+    store: &mut [u8],
+    m: Macroblock,
+    from: usize,
+    to: usize,
+    h: i32,
+    v: i32,
+    interpolate: bool,
+) -> Predicted
+    requires { ⌜ Inside m ⌝ }
+    requires { ⌜ (from < 3) × (to < 3) ⌝ }
+    requires { ⌜ (natAbs h ≤ 2048) × (natAbs v ≤ 2048) ⌝ }
+    requires { ⌜ 1152 * macroblocks m ≤ length (now store) ⌝ }
+    ensures answer { λ r. ⌜ r ≡ predictedPlanes m from to h v interpolate (now (store .entry)) .answer ⌝ }
+    ensures store { λ _. ⌜ now (store .exit) ≡ predictedPlanes m from to h v interpolate (now (store .entry)) .store ⌝ }
+{
+    let Predicted::Done = predict_of_stores(store, m, from, to, Plane::Y, h, v, interpolate) else {
+        return Predicted::Refused;
+    };
+    let ch = half(h);
+    let cv = half(v);
+    let Predicted::Done = predict_of_stores(store, m, from, to, Plane::Cr, ch, cv, interpolate)
+    else {
+        return Predicted::Refused;
+    };
+    predict_of_stores(store, m, from, to, Plane::Cb, ch, cv, interpolate)
+}

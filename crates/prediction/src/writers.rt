@@ -1,0 +1,172 @@
+// The results of a block, and the place in its plane at which they are written (RULES 6.12, 6.13).
+use crate::place::Macroblock;
+use crate::rows::put_eight;
+use laws::clamp_u8;
+ghost use mathlib.Core.Path.{_≡_};
+ghost use Prim.Native.Nat.{_+_, _*_, _≤_, _<_};
+ghost use lib.IntN.{pos, natAbs, _+ℤ_};
+ghost use lib.ListN.{length, getD};
+ghost use Rattle.laws.specs.Signed.{clamp255};
+ghost use Rattle.laws.specs.Stores.{storeRow};
+ghost use Rattle.prediction.specs.Planes.{Inside, macroblocks};
+ghost use Rattle.prediction.specs.Writers.{Narrow, lumaPlace, chromaPlace, setConst, overwrite, addConst, addBlock};
+
+// A result as a byte.
+fn clamped(s: &[i32; 64], k: usize) -> u8
+    requires { ⌜ k < 64 ⌝ }
+    ensures { λ r. ⌜ r ≡ clamp255 (getD (now (s .entry)) k (pos 0)) ⌝ }
+{
+    clamp_u8(s[k])
+}
+
+// A byte and a result.
+fn added(old: u8, value: i32) -> u8
+    requires { ⌜ natAbs value ≤ 131072 ⌝ }
+    ensures { λ r. ⌜ r ≡ clamp255 (pos old +ℤ value) ⌝ }
+{
+    clamp_u8(old as i32 + value)
+}
+
+// A byte and the result k.
+fn added_at(old: u8, s: &[i32; 64], k: usize) -> u8
+    requires { ⌜ k < 64 ⌝ }
+    requires { ⌜ Narrow (now s) ⌝ }
+    ensures { λ r. ⌜ r ≡ clamp255 (pos old +ℤ getD (now (s .entry)) k (pos 0)) ⌝ }
+{
+    added(old, s[k])
+}
+
+fn overwrite_row(d: &mut [u8], at: usize, s: &[i32; 64], from: usize)
+    requires { ⌜ at + 8 ≤ length (now d) ⌝ }
+    requires { ⌜ from + 8 ≤ 64 ⌝ }
+    ensures { λ _. ⌜ now (d .exit) ≡ storeRow (now (d .entry)) at (λ x. clamp255 (getD (now (s .entry)) (from + x) (pos 0))) 8 ⌝ }
+{
+    let v0 = clamped(s, from);
+    let v1 = clamped(s, from + 1);
+    let v2 = clamped(s, from + 2);
+    let v3 = clamped(s, from + 3);
+    let v4 = clamped(s, from + 4);
+    let v5 = clamped(s, from + 5);
+    let v6 = clamped(s, from + 6);
+    let v7 = clamped(s, from + 7);
+    put_eight(d, at, v0, v1, v2, v3, v4, v5, v6, v7);
+}
+
+fn add_const_row(d: &mut [u8], at: usize, value: i32)
+    requires { ⌜ at + 8 ≤ length (now d) ⌝ }
+    requires { ⌜ natAbs value ≤ 131072 ⌝ }
+    ensures { λ _. ⌜ now (d .exit) ≡ storeRow (now (d .entry)) at (λ x. clamp255 (pos (getD (now (d .entry)) (at + x) 0) +ℤ value)) 8 ⌝ }
+{
+    let v0 = added(d[at], value);
+    let v1 = added(d[at + 1], value);
+    let v2 = added(d[at + 2], value);
+    let v3 = added(d[at + 3], value);
+    let v4 = added(d[at + 4], value);
+    let v5 = added(d[at + 5], value);
+    let v6 = added(d[at + 6], value);
+    let v7 = added(d[at + 7], value);
+    put_eight(d, at, v0, v1, v2, v3, v4, v5, v6, v7);
+}
+
+fn add_row(d: &mut [u8], at: usize, s: &[i32; 64], from: usize)
+    requires { ⌜ at + 8 ≤ length (now d) ⌝ }
+    requires { ⌜ from + 8 ≤ 64 ⌝ }
+    requires { ⌜ Narrow (now s) ⌝ }
+    ensures { λ _. ⌜ now (d .exit) ≡ storeRow (now (d .entry)) at (λ x. clamp255 (pos (getD (now (d .entry)) (at + x) 0) +ℤ getD (now (s .entry)) (from + x) (pos 0))) 8 ⌝ }
+{
+    let v0 = added_at(d[at], s, from);
+    let v1 = added_at(d[at + 1], s, from + 1);
+    let v2 = added_at(d[at + 2], s, from + 2);
+    let v3 = added_at(d[at + 3], s, from + 3);
+    let v4 = added_at(d[at + 4], s, from + 4);
+    let v5 = added_at(d[at + 5], s, from + 5);
+    let v6 = added_at(d[at + 6], s, from + 6);
+    let v7 = added_at(d[at + 7], s, from + 7);
+    put_eight(d, at, v0, v1, v2, v3, v4, v5, v6, v7);
+}
+
+// One byte everywhere: an intra block that has a DC coefficient only.
+pub fn block_set_const(d: &mut [u8], di: usize, dw: usize, value: u8)
+    requires { ⌜ 8 ≤ dw ⌝ }
+    requires { ⌜ di + 7 * dw + 8 ≤ length (now d) ⌝ }
+    ensures { λ _. ⌜ now (d .exit) ≡ setConst (now (d .entry)) di dw value ⌝ }
+{
+    let mut y: usize = 0;
+    while y < 8 {
+        put_eight(
+            d,
+            di + y * dw,
+            value,
+            value,
+            value,
+            value,
+            value,
+            value,
+            value,
+            value,
+        );
+        y += 1;
+    }
+}
+
+// The 64 results: an intra block.
+pub fn block_set_overwrite(d: &mut [u8], di: usize, dw: usize, s: &[i32; 64])
+    requires { ⌜ 8 ≤ dw ⌝ }
+    requires { ⌜ di + 7 * dw + 8 ≤ length (now d) ⌝ }
+    ensures { λ _. ⌜ now (d .exit) ≡ overwrite (now (d .entry)) di dw (now (s .entry)) ⌝ }
+{
+    let mut y: usize = 0;
+    while y < 8 {
+        overwrite_row(d, di + y * dw, s, y * 8);
+        y += 1;
+    }
+}
+
+// One number added to what is there: a block that is not intra and has one coefficient, at place 0.
+pub fn block_set_add_const(d: &mut [u8], di: usize, dw: usize, value: i32)
+    requires { ⌜ 8 ≤ dw ⌝ }
+    requires { ⌜ di + 7 * dw + 8 ≤ length (now d) ⌝ }
+    requires { ⌜ natAbs value ≤ 131072 ⌝ }
+    ensures { λ _. ⌜ now (d .exit) ≡ addConst (now (d .entry)) di dw value ⌝ }
+{
+    let mut y: usize = 0;
+    while y < 8 {
+        add_const_row(d, di + y * dw, value);
+        y += 1;
+    }
+}
+
+// The 64 results added to what is there: a block that is not intra.
+pub fn block_set_add(d: &mut [u8], di: usize, dw: usize, s: &[i32; 64])
+    requires { ⌜ 8 ≤ dw ⌝ }
+    requires { ⌜ di + 7 * dw + 8 ≤ length (now d) ⌝ }
+    requires { ⌜ Narrow (now s) ⌝ }
+    ensures { λ _. ⌜ now (d .exit) ≡ addBlock (now (d .entry)) di dw (now (s .entry)) ⌝ }
+{
+    let mut y: usize = 0;
+    while y < 8 {
+        add_row(d, di + y * dw, s, y * 8);
+        y += 1;
+    }
+}
+
+// The place of block 0, 1, 2 or 3 in the plane Y.
+pub fn luma_place(m: Macroblock, block: usize) -> usize
+    requires { ⌜ Inside m ⌝ }
+    requires { ⌜ block < 4 ⌝ }
+    ensures is { λ r. ⌜ r ≡ lumaPlace (m .across * 16) (m .row) (m .column) block ⌝ }
+    ensures inside { λ r. ⌜ r + 7 * (m .across * 16) + 8 ≤ 256 * macroblocks m ⌝ }
+{
+    let dw = m.across * 16;
+    (m.row * 16 + block / 2 % 2 * 8) * dw + m.column * 16 + block % 2 * 8
+}
+
+// The place of block 4 in the plane Cb and of block 5 in the plane Cr.
+pub fn chroma_place(m: Macroblock) -> usize
+    requires { ⌜ Inside m ⌝ }
+    ensures is { λ r. ⌜ r ≡ chromaPlace (m .across * 8) (m .row) (m .column) ⌝ }
+    ensures inside { λ r. ⌜ r + 7 * (m .across * 8) + 8 ≤ 64 * macroblocks m ⌝ }
+{
+    let dw = m.across * 8;
+    m.row * 8 * dw + m.column * 8
+}
