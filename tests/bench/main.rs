@@ -1,6 +1,7 @@
 // Times ours, the static library of crates/bench, and the Rust on the same bytes in one process, one file a part.
 // The answers of a loop must be equal. Of several runs, the Rust's and ours in turn, the best of each counts.
 mod argb;
+mod blocks;
 mod codes;
 mod idct;
 mod reader;
@@ -8,6 +9,10 @@ mod reader;
 #[allow(dead_code)]
 #[path = "../../docs/src/crates/native32emu-core/src/mpeg/buffer.rs"]
 mod buffer;
+
+#[allow(dead_code)]
+#[path = "../oracle/bits.rs"]
+mod bits;
 
 #[allow(dead_code)]
 #[path = "../oracle/random.rs"]
@@ -45,6 +50,7 @@ fn compare<T>(name: &str, calls: usize, ours: impl Fn() -> u32, prepare: impl Fn
 fn main() {
     reader::run();
     codes::run();
+    blocks::run();
     idct::run();
     argb::run();
 }

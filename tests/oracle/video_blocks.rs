@@ -43,3 +43,26 @@ pub fn transform(block: &mut [i32; 64]) {
 pub fn premultiplier(place: usize) -> i32 {
     PREMULTIPLIER_MATRIX[place]
 }
+
+// The same intra block of luminance, read again and again: scale 8, default matrix, predictor 128, nothing left over.
+pub struct BlockReader(Video);
+
+impl BlockReader {
+    pub fn new(stream: &[u8]) -> Self {
+        let mut video = Video::new(Vec::new());
+        video.buffer = Buffer::new(stream.to_vec());
+        video.macroblock_intra = true;
+        video.quantizer_scale = 8;
+        video.intra_quant_matrix = INTRA_QUANT_MATRIX;
+        BlockReader(video)
+    }
+
+    // The block is to be one that is dropped: a whole one would be transformed and written, too.
+    pub fn read(&mut self) -> i32 {
+        self.0.buffer.seek(0);
+        self.0.dc_predictor[0] = 128;
+        self.0.block_data = [0; 64];
+        self.0.decode_block(0);
+        self.0.block_data[1]
+    }
+}
