@@ -1,11 +1,15 @@
 // Writes the lists of the Rust's answers that crates/replay runs ours on, one file a list, into the folder that is named.
 // The Rust is compiled as it stands in docs/src.
 mod argb;
+mod bits;
+mod blocks;
 mod codes;
+mod dequantise;
 mod list;
 mod random;
 mod reader;
 mod reading;
+mod transform;
 mod vectors;
 mod video;
 
@@ -21,6 +25,9 @@ fn main() {
         ("vectors.bin", vectors::list()),
         ("pixels.bin", argb::pixels()),
         ("scaled.bin", argb::scaled()),
+        ("dequantised.bin", dequantise::list()),
+        ("blocks.bin", blocks::list()),
+        ("transforms.bin", transform::list()),
     ];
     for (name, bytes) in lists {
         let path = std::path::Path::new(&folder).join(name);

@@ -1,10 +1,13 @@
 pub mod AllAgree
+pub mod BlockCases
+pub mod Blocks
 pub mod CaseScores
 pub mod CasesAgree
 pub mod Components
 pub mod Defaults
 pub mod Holds
 pub mod Inside
+pub mod Levels
 pub mod Pictures
 pub mod Readings
 pub mod Same

@@ -5,13 +5,16 @@ use mathlib.Core.List.{List}
 use lib.Dec.{eqb}
 use lib.ListN.{length}
 use Rattle.replay.specs.declared.cases.Kind.{Kind}
-use Rattle.replay.specs.declared.cases.Kind.the-variants.{Codes, Vectors, Pixels, Scaled}
+use Rattle.replay.specs.declared.cases.Kind.the-variants.{Codes, Vectors, Pixels, Scaled, Dequantised, Transforms, Blocks}
 use Rattle.replay.specs.declared.tally.Tally.{Tally}
+use Rattle.replay.specs.BlockList.{blockAgrees}
 use Rattle.replay.specs.CodeList.{codeAgrees}
+use Rattle.replay.specs.DequantisedList.{dequantisedAgrees}
 use Rattle.replay.specs.Lists.{numberAt}
 use Rattle.replay.specs.PixelList.{pixelAgrees}
 use Rattle.replay.specs.ScaledList.{scaledAgrees}
 use Rattle.replay.specs.Tallies.{none, counted}
+use Rattle.replay.specs.TransformList.{transformAgrees}
 use Rattle.replay.specs.VectorList.{vectorAgrees}
 
 -- how many numbers a case has
@@ -20,6 +23,9 @@ numbersOf Codes = 7
 numbersOf Vectors = 8
 numbersOf Pixels = 4
 numbersOf Scaled = 165
+numbersOf Dequantised = 5
+numbersOf Transforms = 128
+numbersOf Blocks = 76
 
 -- and how many bytes
 abbrev pub sizeOf : Kind → ℕ
@@ -31,6 +37,9 @@ agreesAt Codes l i = codeAgrees l i
 agreesAt Vectors l i = vectorAgrees l i
 agreesAt Pixels l i = pixelAgrees l i
 agreesAt Scaled l i = scaledAgrees l i
+agreesAt Dequantised l i = dequantisedAgrees l i
+agreesAt Transforms l i = transformAgrees l i
+agreesAt Blocks l i = blockAgrees l i
 
 -- n cases more, from the byte i on
 unfoldable pub scoreFrom : Kind → List ℕ → ℕ → ℕ → Tally → Tally

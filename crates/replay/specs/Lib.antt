@@ -1,5 +1,8 @@
+pub mod BlockList
+pub mod Blocks
 pub mod Cases
 pub mod CodeList
+pub mod DequantisedList
 pub mod Lists
 pub mod Operations
 pub mod PixelList
@@ -7,4 +10,5 @@ pub mod ReaderList
 pub mod Readings
 pub mod ScaledList
 pub mod Tallies
+pub mod TransformList
 pub mod VectorList

@@ -1,11 +1,14 @@
 // Lists whose cases all have the same size: the number of cases, and then as many numbers for each as its kind says. A file of its own says what
 // the cases of each kind are.
+use crate::block_list::blocks_agree;
 use crate::code_list::codes_agree;
+use crate::dequantised_list::dequantised_agree;
 use crate::list;
 use crate::list::number_at;
 use crate::pixel_list::pixels_agree;
 use crate::scaled_list::scaled_agree;
 use crate::tally::Tally;
+use crate::transform_list::transforms_agree;
 use crate::vector_list::vectors_agree;
 ghost use mathlib.Core.Path.{_≡_};
 ghost use Prim.Native.Nat.{_+_, _≤_};
@@ -17,6 +20,9 @@ pub enum Kind {
     Vectors,
     Pixels,
     Scaled,
+    Dequantised,
+    Transforms,
+    Blocks,
 }
 
 // How many numbers a case has.
@@ -28,6 +34,9 @@ fn numbers(kind: Kind) -> usize
         Kind::Vectors => 8,
         Kind::Pixels => 4,
         Kind::Scaled => 165,
+        Kind::Dequantised => 5,
+        Kind::Transforms => 128,
+        Kind::Blocks => 76,
     }
 }
 
@@ -41,6 +50,9 @@ fn case_agrees(list: &[u8], kind: Kind, at: usize) -> bool
         Kind::Vectors => vectors_agree(list, at),
         Kind::Pixels => pixels_agree(list, at),
         Kind::Scaled => scaled_agree(list, at),
+        Kind::Dequantised => dequantised_agree(list, at),
+        Kind::Transforms => transforms_agree(list, at),
+        Kind::Blocks => blocks_agree(list, at),
     }
 }
 

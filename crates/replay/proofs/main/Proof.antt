@@ -44,6 +44,33 @@ slice-aggregate-replay-8 c = refl
 replay-requires-5 : tie.Need-replay-requires-5
 replay-requires-5 c κs = tt
 
+slice-aggregate-replay-9 : tie.Need-slice-aggregate-replay-9
+slice-aggregate-replay-9 c = refl
+
+slice-aggregate-replay-10 : tie.Need-slice-aggregate-replay-10
+slice-aggregate-replay-10 c = refl
+
+replay-requires-6 : tie.Need-replay-requires-6
+replay-requires-6 c κs = tt
+
+slice-aggregate-replay-11 : tie.Need-slice-aggregate-replay-11
+slice-aggregate-replay-11 c = refl
+
+slice-aggregate-replay-12 : tie.Need-slice-aggregate-replay-12
+slice-aggregate-replay-12 c = refl
+
+replay-requires-7 : tie.Need-replay-requires-7
+replay-requires-7 c κs = tt
+
+slice-aggregate-replay-13 : tie.Need-slice-aggregate-replay-13
+slice-aggregate-replay-13 c = refl
+
+slice-aggregate-replay-14 : tie.Need-slice-aggregate-replay-14
+slice-aggregate-replay-14 c = refl
+
+replay-requires-8 : tie.Need-replay-requires-8
+replay-requires-8 c κs = tt
+
 returns : tie.Need-returns
 returns c = tt
 
@@ -65,4 +92,13 @@ main-spec =
     slice-aggregate-replay-7
     slice-aggregate-replay-8
     replay-requires-5
+    slice-aggregate-replay-9
+    slice-aggregate-replay-10
+    replay-requires-6
+    slice-aggregate-replay-11
+    slice-aggregate-replay-12
+    replay-requires-7
+    slice-aggregate-replay-13
+    slice-aggregate-replay-14
+    replay-requires-8
     returns)

@@ -25,6 +25,24 @@ enum-told-4 c = c .match .keys4
 scaled-agree-requires : tie.Need-scaled-agree-requires
 scaled-agree-requires c κs = rw (c .enum-told4 .given .1) at (c .before .before .before .pre)
 
+enum-told-5 : tie.Need-enum-told-5
+enum-told-5 c = c .match .keys5
+
+dequantised-agree-requires : tie.Need-dequantised-agree-requires
+dequantised-agree-requires c κs = rw (c .enum-told5 .given .1) at (c .before .before .before .pre)
+
+enum-told-6 : tie.Need-enum-told-6
+enum-told-6 c = c .match .keys6
+
+transforms-agree-requires : tie.Need-transforms-agree-requires
+transforms-agree-requires c κs = rw (c .enum-told6 .given .1) at (c .before .before .before .pre)
+
+enum-told-7 : tie.Need-enum-told-7
+enum-told-7 c = c .match .keys7
+
+blocks-agree-requires : tie.Need-blocks-agree-requires
+blocks-agree-requires c κs = rw (c .enum-told7 .given .1) at (c .before .before .before .pre)
+
 returns : tie.Need-returns
 returns c = rw (c .before .enum-told .given .1) (c .codes-agree .ensures)
 
@@ -36,6 +54,15 @@ returns-3 c = rw (c .before .enum-told3 .given .1) (c .pixels-agree .ensures)
 
 returns-4 : tie.Need-returns-4
 returns-4 c = rw (c .before .enum-told4 .given .1) (c .scaled-agree .ensures)
+
+returns-5 : tie.Need-returns-5
+returns-5 c = rw (c .before .enum-told5 .given .1) (c .dequantised-agree .ensures)
+
+returns-6 : tie.Need-returns-6
+returns-6 c = rw (c .before .enum-told6 .given .1) (c .transforms-agree .ensures)
+
+returns-7 : tie.Need-returns-7
+returns-7 c = rw (c .before .enum-told7 .given .1) (c .blocks-agree .ensures)
 
 pub case-agrees-spec : {M : Type 1} → statement M
 case-agrees-spec =
@@ -49,7 +76,16 @@ case-agrees-spec =
     pixels-agree-requires
     enum-told-4
     scaled-agree-requires
+    enum-told-5
+    dequantised-agree-requires
+    enum-told-6
+    transforms-agree-requires
+    enum-told-7
+    blocks-agree-requires
     returns
     returns-2
     returns-3
-    returns-4)
+    returns-4
+    returns-5
+    returns-6
+    returns-7)

@@ -15,6 +15,15 @@ enum-told-3 c = c .match .keys3
 enum-told-4 : tie.Need-enum-told-4
 enum-told-4 c = c .match .keys4
 
+enum-told-5 : tie.Need-enum-told-5
+enum-told-5 c = c .match .keys5
+
+enum-told-6 : tie.Need-enum-told-6
+enum-told-6 c = c .match .keys6
+
+enum-told-7 : tie.Need-enum-told-7
+enum-told-7 c = c .match .keys7
+
 returns : tie.Need-returns
 returns c = rw (c .enum-told .given .1) (refl, omega arith)
 
@@ -27,5 +36,14 @@ returns-3 c = rw (c .enum-told3 .given .1) (refl, omega arith)
 returns-4 : tie.Need-returns-4
 returns-4 c = rw (c .enum-told4 .given .1) (refl, omega arith)
 
+returns-5 : tie.Need-returns-5
+returns-5 c = rw (c .enum-told5 .given .1) (refl, omega arith)
+
+returns-6 : tie.Need-returns-6
+returns-6 c = rw (c .enum-told6 .given .1) (refl, omega arith)
+
+returns-7 : tie.Need-returns-7
+returns-7 c = rw (c .enum-told7 .given .1) (refl, omega arith)
+
 pub numbers-spec : {M : Type 1} → statement M
-numbers-spec = tie.close (tie.spec enum-told enum-told-2 enum-told-3 enum-told-4 returns returns-2 returns-3 returns-4)
+numbers-spec = tie.close (tie.spec enum-told enum-told-2 enum-told-3 enum-told-4 enum-told-5 enum-told-6 enum-told-7 returns returns-2 returns-3 returns-4 returns-5 returns-6 returns-7)
