@@ -48,15 +48,40 @@ fn left(random: &mut Random) -> (usize, i32) {
     (place, random.one_of(&[0, 1, -1, most, -most]))
 }
 
+// The codes of the DC sizes 0 to 8, as bits and their number.
+const LUMINANCE: [(usize, u32); 9] = [(3, 0b100), (2, 0b00), (2, 0b01), (3, 0b101), (3, 0b110), (4, 0b1110), (5, 0b1_1110), (6, 0b11_1110), (7, 0b111_1110)];
+const CHROMINANCE: [(usize, u32); 9] = [(2, 0b00), (2, 0b01), (2, 0b10), (3, 0b110), (4, 0b1110), (5, 0b1_1110), (6, 0b11_1110), (7, 0b111_1110), (8, 0b1111_1110)];
+
+// A DC value alone: every size, differentials and predictors at their edges.
+fn dc_cases(list: &mut List) {
+    for block in [0, 5] {
+        let codes = if block < 4 { LUMINANCE } else { CHROMINANCE };
+        for (size, (length, code)) in codes.into_iter().enumerate() {
+            let half = (1u32 << size) / 2;
+            let mut differentials = vec![0, half.saturating_sub(1), half, (1 << size) - 1];
+            differentials.dedup();
+            for differential in differentials {
+                for predictor in [-256, 0, 128, 255] {
+                    let mut bits = Bits::new();
+                    bits.put(length, code).put(size, differential).put(2, 0b10);
+                    let input = BlockInput { intra: true, block, predictor, scale: 1, entry: 16, left: [0; 64] };
+                    case(list, &input, (0, 0), &bits.bytes());
+                }
+            }
+        }
+    }
+}
+
 pub fn list() -> Vec<u8> {
     let mut list = List::new();
     let mut random = Random::new(0xB10C_B10C_B10C_B10C);
-    for _ in 0..350 {
+    dc_cases(&mut list);
+    for _ in 0..300 {
         let left = left(&mut random);
         let stream: Vec<u8> = (0..12).map(|_| random.next() as u8).collect();
         case(&mut list, &input(&mut random, left), left, &stream);
     }
-    for _ in 0..450 {
+    for _ in 0..400 {
         let left = left(&mut random);
         let input = input(&mut random, left);
         let mut bits = Bits::new();

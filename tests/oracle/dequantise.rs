@@ -24,7 +24,7 @@ pub fn list() -> Vec<u8> {
     for intra in [false, true] {
         for level in -256..=255 {
             for scale in [0, 1, 8, 31] {
-                for entry in [0, 19, 83] {
+                for entry in [0, 19, 255] {
                     let answer = coefficient(intra, level, scale, entry);
                     list.case();
                     for n in [intra as u32, level as u32, scale as u32, entry as u32, answer as u32] {
