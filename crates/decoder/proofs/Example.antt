@@ -25,10 +25,11 @@ use Rattle.transform.specs.Butterfly.{butterfly}
 use Rattle.transform.specs.Idct.{columns, rows, idct, dcOnly}
 use Rattle.prediction.specs.Samples.{sample}
 use Rattle.prediction.specs.Predict.{way, predicted}
+use Rattle.prediction.specs.Planes.{follow, next as following, predictedPlanes}
 use Rattle.prediction.specs.Writers.{setConst, overwrite}
 use Rattle.picture.specs.Ways.{also, leave, onward, plain}
 use Rattle.picture.specs.Increments.{incrementTurn, increment}
-use Rattle.picture.specs.Predictions.{plane, planeAs, predictPlane, predictFrom, predict}
+use Rattle.picture.specs.Predictions.{unlessRefused, predictFrom, predict}
 use Rattle.picture.specs.Heads.{macroblockType, scale, vector, forward, backward, vectors, head, pattern}
 use Rattle.picture.specs.Blocks.{placeOf, results, written, blockEnd, oneBlock, lastBlocks, blocks}
 use Rattle.picture.specs.Macroblocks.{advance, predictUnlessIntra, body, firstOf, laterOf, macroblock}
@@ -75,20 +76,20 @@ third = handOut (second .decoder) stream (second .store)
 
 -- the I picture is handed out of store 0
 pub hands : outcomeSays (second .answer) ≡ picture 0 (ofInt binary64 (pos 0))
-unfolding clamp255 half0 odd storeRow storeRows turns bitAt bitsAt got next codePrefix codeFrom found run bind loop findTurn findStartCode macroblockAddressIncrementIndex macroblockAddressIncrementValue macroblockTypeIntraIndex macroblockTypeIntraValue macroblockTypePredictiveIndex macroblockTypePredictiveValue motionIndex motionValue dctSizeLuminanceIndex dctSizeLuminanceValue dctSizeChrominanceIndex dctSizeChrominanceValue dctCoeffIndex dctCoeffValue walkTurn walk vlc Codes.macroblockAddressIncrement Codes.macroblockTypeIntra Codes.macroblockTypePredictive Codes.motion Codes.dctSizeLuminance Codes.dctSizeChrominance Codes.dctCoeff downFrom diagonals zigZag intraQuantMatrix nonIntraQuantMatrix premultiplierMatrix displacement motionVector corrected Dcs.dcSize Dcs.added Dcs.dc Coefficients.runLevel Coefficients.coefficient dequantised Block.coefficientTurn Block.coefficients Block.block Block.intraBlock Block.leftOver butterfly columns rows idct dcOnly sample way predicted setConst overwrite also leave onward plain incrementTurn increment plane planeAs predictPlane predictFrom predict macroblockType scale vector forward backward vectors head pattern placeOf results written blockEnd oneBlock lastBlocks blocks advance predictUnlessIntra body firstOf laterOf macroblock extraTurn extra pastMacroblock sliceTurn slice P.direction P.forwardHeader P.pictureHeader P.pastSlice P.slicesTurn P.slices P.coded P.picture fresh cleared every possible matrix size rest findSequence accepted askSize askHeader askStore opened opening nextPicture isFollowed timeOf counted handed shown pastPicture decoded searched pictureTurn pictures ended askFirst begun goOn handOut ofInt
+unfolding clamp255 half0 odd storeRow storeRows turns bitAt bitsAt got next codePrefix codeFrom found run bind loop findTurn findStartCode macroblockAddressIncrementIndex macroblockAddressIncrementValue macroblockTypeIntraIndex macroblockTypeIntraValue macroblockTypePredictiveIndex macroblockTypePredictiveValue motionIndex motionValue dctSizeLuminanceIndex dctSizeLuminanceValue dctSizeChrominanceIndex dctSizeChrominanceValue dctCoeffIndex dctCoeffValue walkTurn walk vlc Codes.macroblockAddressIncrement Codes.macroblockTypeIntra Codes.macroblockTypePredictive Codes.motion Codes.dctSizeLuminance Codes.dctSizeChrominance Codes.dctCoeff downFrom diagonals zigZag intraQuantMatrix nonIntraQuantMatrix premultiplierMatrix displacement motionVector corrected Dcs.dcSize Dcs.added Dcs.dc Coefficients.runLevel Coefficients.coefficient dequantised Block.coefficientTurn Block.coefficients Block.block Block.intraBlock Block.leftOver butterfly columns rows idct dcOnly sample way predicted setConst overwrite also leave onward plain incrementTurn increment follow following predictedPlanes unlessRefused predictFrom predict macroblockType scale vector forward backward vectors head pattern placeOf results written blockEnd oneBlock lastBlocks blocks advance predictUnlessIntra body firstOf laterOf macroblock extraTurn extra pastMacroblock sliceTurn slice P.direction P.forwardHeader P.pictureHeader P.pastSlice P.slicesTurn P.slices P.coded P.picture fresh cleared every possible matrix size rest findSequence accepted askSize askHeader askStore opened opening nextPicture isFollowed timeOf counted handed shown pastPicture decoded searched pictureTurn pictures ended askFirst begun goOn handOut ofInt
 hands = refl
 
 -- the first row of plane Y of the I picture
 pub intra-row : take 32 (second .store) ≡ replicate 16 133 ++ replicate 16 128
-unfolding clamp255 half0 odd storeRow storeRows turns bitAt bitsAt got next codePrefix codeFrom found run bind loop findTurn findStartCode macroblockAddressIncrementIndex macroblockAddressIncrementValue macroblockTypeIntraIndex macroblockTypeIntraValue macroblockTypePredictiveIndex macroblockTypePredictiveValue motionIndex motionValue dctSizeLuminanceIndex dctSizeLuminanceValue dctSizeChrominanceIndex dctSizeChrominanceValue dctCoeffIndex dctCoeffValue walkTurn walk vlc Codes.macroblockAddressIncrement Codes.macroblockTypeIntra Codes.macroblockTypePredictive Codes.motion Codes.dctSizeLuminance Codes.dctSizeChrominance Codes.dctCoeff downFrom diagonals zigZag intraQuantMatrix nonIntraQuantMatrix premultiplierMatrix displacement motionVector corrected Dcs.dcSize Dcs.added Dcs.dc Coefficients.runLevel Coefficients.coefficient dequantised Block.coefficientTurn Block.coefficients Block.block Block.intraBlock Block.leftOver butterfly columns rows idct dcOnly sample way predicted setConst overwrite also leave onward plain incrementTurn increment plane planeAs predictPlane predictFrom predict macroblockType scale vector forward backward vectors head pattern placeOf results written blockEnd oneBlock lastBlocks blocks advance predictUnlessIntra body firstOf laterOf macroblock extraTurn extra pastMacroblock sliceTurn slice P.direction P.forwardHeader P.pictureHeader P.pastSlice P.slicesTurn P.slices P.coded P.picture fresh cleared every possible matrix size rest findSequence accepted askSize askHeader askStore opened opening nextPicture isFollowed timeOf counted handed shown pastPicture decoded searched pictureTurn pictures ended askFirst begun goOn handOut
+unfolding clamp255 half0 odd storeRow storeRows turns bitAt bitsAt got next codePrefix codeFrom found run bind loop findTurn findStartCode macroblockAddressIncrementIndex macroblockAddressIncrementValue macroblockTypeIntraIndex macroblockTypeIntraValue macroblockTypePredictiveIndex macroblockTypePredictiveValue motionIndex motionValue dctSizeLuminanceIndex dctSizeLuminanceValue dctSizeChrominanceIndex dctSizeChrominanceValue dctCoeffIndex dctCoeffValue walkTurn walk vlc Codes.macroblockAddressIncrement Codes.macroblockTypeIntra Codes.macroblockTypePredictive Codes.motion Codes.dctSizeLuminance Codes.dctSizeChrominance Codes.dctCoeff downFrom diagonals zigZag intraQuantMatrix nonIntraQuantMatrix premultiplierMatrix displacement motionVector corrected Dcs.dcSize Dcs.added Dcs.dc Coefficients.runLevel Coefficients.coefficient dequantised Block.coefficientTurn Block.coefficients Block.block Block.intraBlock Block.leftOver butterfly columns rows idct dcOnly sample way predicted setConst overwrite also leave onward plain incrementTurn increment follow following predictedPlanes unlessRefused predictFrom predict macroblockType scale vector forward backward vectors head pattern placeOf results written blockEnd oneBlock lastBlocks blocks advance predictUnlessIntra body firstOf laterOf macroblock extraTurn extra pastMacroblock sliceTurn slice P.direction P.forwardHeader P.pictureHeader P.pastSlice P.slicesTurn P.slices P.coded P.picture fresh cleared every possible matrix size rest findSequence accepted askSize askHeader askStore opened opening nextPicture isFollowed timeOf counted handed shown pastPicture decoded searched pictureTurn pictures ended askFirst begun goOn handOut
 intra-row = refl
 
 -- and of the P picture in store 1, where one sample is the average of 133 and 128
 pub predictive-row : take 32 (drop 768 (second .store)) ≡ replicate 16 133 ++ (131 ∷ replicate 15 128)
-unfolding clamp255 half0 odd storeRow storeRows turns bitAt bitsAt got next codePrefix codeFrom found run bind loop findTurn findStartCode macroblockAddressIncrementIndex macroblockAddressIncrementValue macroblockTypeIntraIndex macroblockTypeIntraValue macroblockTypePredictiveIndex macroblockTypePredictiveValue motionIndex motionValue dctSizeLuminanceIndex dctSizeLuminanceValue dctSizeChrominanceIndex dctSizeChrominanceValue dctCoeffIndex dctCoeffValue walkTurn walk vlc Codes.macroblockAddressIncrement Codes.macroblockTypeIntra Codes.macroblockTypePredictive Codes.motion Codes.dctSizeLuminance Codes.dctSizeChrominance Codes.dctCoeff downFrom diagonals zigZag intraQuantMatrix nonIntraQuantMatrix premultiplierMatrix displacement motionVector corrected Dcs.dcSize Dcs.added Dcs.dc Coefficients.runLevel Coefficients.coefficient dequantised Block.coefficientTurn Block.coefficients Block.block Block.intraBlock Block.leftOver butterfly columns rows idct dcOnly sample way predicted setConst overwrite also leave onward plain incrementTurn increment plane planeAs predictPlane predictFrom predict macroblockType scale vector forward backward vectors head pattern placeOf results written blockEnd oneBlock lastBlocks blocks advance predictUnlessIntra body firstOf laterOf macroblock extraTurn extra pastMacroblock sliceTurn slice P.direction P.forwardHeader P.pictureHeader P.pastSlice P.slicesTurn P.slices P.coded P.picture fresh cleared every possible matrix size rest findSequence accepted askSize askHeader askStore opened opening nextPicture isFollowed timeOf counted handed shown pastPicture decoded searched pictureTurn pictures ended askFirst begun goOn handOut
+unfolding clamp255 half0 odd storeRow storeRows turns bitAt bitsAt got next codePrefix codeFrom found run bind loop findTurn findStartCode macroblockAddressIncrementIndex macroblockAddressIncrementValue macroblockTypeIntraIndex macroblockTypeIntraValue macroblockTypePredictiveIndex macroblockTypePredictiveValue motionIndex motionValue dctSizeLuminanceIndex dctSizeLuminanceValue dctSizeChrominanceIndex dctSizeChrominanceValue dctCoeffIndex dctCoeffValue walkTurn walk vlc Codes.macroblockAddressIncrement Codes.macroblockTypeIntra Codes.macroblockTypePredictive Codes.motion Codes.dctSizeLuminance Codes.dctSizeChrominance Codes.dctCoeff downFrom diagonals zigZag intraQuantMatrix nonIntraQuantMatrix premultiplierMatrix displacement motionVector corrected Dcs.dcSize Dcs.added Dcs.dc Coefficients.runLevel Coefficients.coefficient dequantised Block.coefficientTurn Block.coefficients Block.block Block.intraBlock Block.leftOver butterfly columns rows idct dcOnly sample way predicted setConst overwrite also leave onward plain incrementTurn increment follow following predictedPlanes unlessRefused predictFrom predict macroblockType scale vector forward backward vectors head pattern placeOf results written blockEnd oneBlock lastBlocks blocks advance predictUnlessIntra body firstOf laterOf macroblock extraTurn extra pastMacroblock sliceTurn slice P.direction P.forwardHeader P.pictureHeader P.pastSlice P.slicesTurn P.slices P.coded P.picture fresh cleared every possible matrix size rest findSequence accepted askSize askHeader askStore opened opening nextPicture isFollowed timeOf counted handed shown pastPicture decoded searched pictureTurn pictures ended askFirst begun goOn handOut
 predictive-row = refl
 
 -- the P picture is handed out of store 1, a 25th of a second later (RULES 8.9)
 pub hands-next : outcomeSays (third .answer) ≡ picture 1 (div binary64 (ofInt binary64 (pos 1)) (ofInt binary64 (pos 25)))
-unfolding clamp255 half0 odd storeRow storeRows turns bitAt bitsAt got next codePrefix codeFrom found run bind loop findTurn findStartCode macroblockAddressIncrementIndex macroblockAddressIncrementValue macroblockTypeIntraIndex macroblockTypeIntraValue macroblockTypePredictiveIndex macroblockTypePredictiveValue motionIndex motionValue dctSizeLuminanceIndex dctSizeLuminanceValue dctSizeChrominanceIndex dctSizeChrominanceValue dctCoeffIndex dctCoeffValue walkTurn walk vlc Codes.macroblockAddressIncrement Codes.macroblockTypeIntra Codes.macroblockTypePredictive Codes.motion Codes.dctSizeLuminance Codes.dctSizeChrominance Codes.dctCoeff downFrom diagonals zigZag intraQuantMatrix nonIntraQuantMatrix premultiplierMatrix displacement motionVector corrected Dcs.dcSize Dcs.added Dcs.dc Coefficients.runLevel Coefficients.coefficient dequantised Block.coefficientTurn Block.coefficients Block.block Block.intraBlock Block.leftOver butterfly columns rows idct dcOnly sample way predicted setConst overwrite also leave onward plain incrementTurn increment plane planeAs predictPlane predictFrom predict macroblockType scale vector forward backward vectors head pattern placeOf results written blockEnd oneBlock lastBlocks blocks advance predictUnlessIntra body firstOf laterOf macroblock extraTurn extra pastMacroblock sliceTurn slice P.direction P.forwardHeader P.pictureHeader P.pastSlice P.slicesTurn P.slices P.coded P.picture fresh cleared every possible matrix size rest findSequence accepted askSize askHeader askStore opened opening nextPicture isFollowed timeOf counted handed shown pastPicture decoded searched pictureTurn pictures ended askFirst begun goOn handOut pixelAspectRatio pictureRate div ofInt
+unfolding clamp255 half0 odd storeRow storeRows turns bitAt bitsAt got next codePrefix codeFrom found run bind loop findTurn findStartCode macroblockAddressIncrementIndex macroblockAddressIncrementValue macroblockTypeIntraIndex macroblockTypeIntraValue macroblockTypePredictiveIndex macroblockTypePredictiveValue motionIndex motionValue dctSizeLuminanceIndex dctSizeLuminanceValue dctSizeChrominanceIndex dctSizeChrominanceValue dctCoeffIndex dctCoeffValue walkTurn walk vlc Codes.macroblockAddressIncrement Codes.macroblockTypeIntra Codes.macroblockTypePredictive Codes.motion Codes.dctSizeLuminance Codes.dctSizeChrominance Codes.dctCoeff downFrom diagonals zigZag intraQuantMatrix nonIntraQuantMatrix premultiplierMatrix displacement motionVector corrected Dcs.dcSize Dcs.added Dcs.dc Coefficients.runLevel Coefficients.coefficient dequantised Block.coefficientTurn Block.coefficients Block.block Block.intraBlock Block.leftOver butterfly columns rows idct dcOnly sample way predicted setConst overwrite also leave onward plain incrementTurn increment follow following predictedPlanes unlessRefused predictFrom predict macroblockType scale vector forward backward vectors head pattern placeOf results written blockEnd oneBlock lastBlocks blocks advance predictUnlessIntra body firstOf laterOf macroblock extraTurn extra pastMacroblock sliceTurn slice P.direction P.forwardHeader P.pictureHeader P.pastSlice P.slicesTurn P.slices P.coded P.picture fresh cleared every possible matrix size rest findSequence accepted askSize askHeader askStore opened opening nextPicture isFollowed timeOf counted handed shown pastPicture decoded searched pictureTurn pictures ended askFirst begun goOn handOut pixelAspectRatio pictureRate div ofInt
 hands-next = refl

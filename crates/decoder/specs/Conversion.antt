@@ -2,12 +2,14 @@
 use mathlib.Core.Bool.{Bool, not, _&&_}
 use mathlib.Core.List.{List}
 use Prim.Native.Nat.{ℕ, _*_}
+use borrow.Rule.Slice.PartMut.{midOf}
 use lib.Dec.{leb}
 use lib.ListN.{length}
 use Rattle.bits.specs.Programs.{if_then_else_}
+use Rattle.prediction.specs.declared.planes.Plane.{Plane}
 use Rattle.prediction.specs.declared.planes.Plane.the-variants.{Y, Cr, Cb}
+use Rattle.prediction.specs.Planes.{planeLength, planeStart}
 use Rattle.argb.specs.Scaled as Argb
-use Rattle.picture.specs.Predictions.{plane}
 use Rattle.decoder.specs.declared.record.Decoder.{Decoder}
 use Rattle.decoder.specs.declared.answers.Converted.{Converted}
 use Rattle.decoder.specs.declared.answers.Converted.the-variants.{Written, Refused}
@@ -25,7 +27,8 @@ area x a = record { answer = x; area = a }
 abbrev pub pictureIn : Decoder → List ℕ → ℕ → Argb.Picture
 pictureIn d l k =
     let n = d .sequence .sizes .«mb_size» in
-    Argb.picture (d .sequence .width) (d .sequence .height) (d .sequence .sizes .«mb_width» * 16) (plane n k Y l) (plane n k Cr l) (plane n k Cb l)
+    let plane : Plane → List ℕ = λ p. midOf (planeStart k p n) (planeLength p n) l in
+    Argb.picture (d .sequence .width) (d .sequence .height) (d .sequence .sizes .«mb_width» * 16) (plane Y) (plane Cr) (plane Cb)
 
 -- RULES Q11, QE
 abbrev pub fits : ℕ → ℕ → List ℕ → Bool

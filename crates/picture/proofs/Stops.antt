@@ -13,11 +13,9 @@ use Rattle.bits.proofs.Programs.{run-bind}
 use Rattle.coefficients.specs.Blocks.{Read}
 use Rattle.coefficients.specs.declared.block.BlockEnd.{BlockEnd}
 use Rattle.coefficients.specs.declared.block.BlockEnd.the-variants.{Whole, Dropped, Outside}
-use Rattle.prediction.specs.declared.planes.Plane.{Plane}
-use Rattle.prediction.specs.declared.planes.Plane.the-variants.{Y, Cr, Cb}
-use Rattle.prediction.specs.Predict as Predict
-use Rattle.prediction.specs.declared.place.Way as Place
-use Rattle.prediction.specs.declared.place.Way.the-variants.{Alone, Past, Copied}
+use Rattle.prediction.specs.declared.predict.Predicted.{Predicted}
+use Rattle.prediction.specs.declared.predict.Predicted.the-variants.{Done, Refused}
+use Rattle.prediction.specs.Planes.{After}
 use Rattle.picture.specs.declared.state.Motion.{Motion}
 use Rattle.picture.specs.declared.state.Sizes.{Sizes}
 use Rattle.picture.specs.declared.state.Matrices.{Matrices}
@@ -25,7 +23,7 @@ use Rattle.picture.specs.declared.state.Slice.{Slice}
 use Rattle.picture.specs.declared.state.Picture.{Picture}
 use Rattle.picture.specs.State.{Given, World, world}
 use Rattle.picture.specs.Ways.{Way, on, out, also, leave, onward, plain, step, give}
-use Rattle.picture.specs.Predictions.{place, predictPlane, predictFrom, predictBoth, predict, predictSkipped}
+use Rattle.picture.specs.Predictions.{unlessRefused, predictFrom, predictBoth, predict, predictSkipped}
 use Rattle.picture.specs.Heads.{isIntra, flag}
 use Rattle.picture.specs.Blocks.{blockEnd, oneBlock, lastBlocks, blocks}
 use Rattle.picture.specs.Macroblocks.{nowhere, further, advance, predictUnlessIntra, body, firstOf, laterOf, macroblock}
@@ -106,22 +104,18 @@ turn-done : {S A : Type 0} (t : Turn S (Way A)) → TurnKnown t → TurnStops (d
 unfolding run
 turn-done t h = record { known = λ s a. h }
 
--- RULES 6.10: prediction leaves with 9
-plane-known : (g : Given) (address : ℕ) (p : Plane) (k : ℕ) (h v : ℤ) (interpolate : Bool) (l : List ℕ) → Known (predictPlane g address p k h v interpolate l)
-unfolding predictPlane
-plane-known g address p k h v interpolate l = go (Predict.way (place (g .sizes) address p) h v) _
+-- RULES Q9: a prediction leaves with 9
+refused-known : (o : After) → Known (unlessRefused o)
+unfolding unlessRefused
+refused-known o = go (o .answer) (o .store)
   where
-    go : (t : Place.Way) (f : ℕ → List ℕ) → Known {A = List ℕ} (elim t [ Alone ↦ on l | Past ↦ out 9 l | Copied a ↦ on (f a) ])
-    go Alone f = tt
-    go Past f = inr refl
-    go (Copied a) f = tt
+    go : (p : Predicted) (l : List ℕ) → Known {A = List ℕ} (elim p [ Done ↦ on l | Refused ↦ out 9 l ])
+    go Done l = tt
+    go Refused l = inr refl
 
 from-known : (g : Given) (address k : ℕ) (m : Motion) (interpolate : Bool) (l : List ℕ) → Known (predictFrom g address k m interpolate l)
 unfolding predictFrom
-from-known g address k m interpolate l =
-    also-known _ _ (plane-known g address Y k _ _ interpolate l) (λ l₁.
-    also-known _ _ (plane-known g address Cr k _ _ interpolate l₁) (λ l₂.
-    plane-known g address Cb k _ _ interpolate l₂))
+from-known g address k m interpolate l = refused-known _
 
 both-known : (g : Given) (address : ℕ) (s : Slice) (l : List ℕ) → Known (predictBoth g address s l)
 unfolding predictBoth

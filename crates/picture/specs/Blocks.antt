@@ -2,6 +2,7 @@
 use mathlib.Core.Bool.{Bool}
 use mathlib.Core.List.{List}
 use Prim.Native.Nat.{ℕ, zero, suc, _-_, _*_, _/_, _%_, _^_}
+use borrow.Rule.Slice.PartMut.{midOf, putMid}
 use lib.Dec.{eqb, ltb}
 use lib.IntN.{ℤ, pos, natAbs}
 use lib.ListN.{getD, set}
@@ -12,13 +13,12 @@ use Rattle.coefficients.specs.declared.block.BlockEnd.the-variants.{Whole, Drop
 use Rattle.transform.specs.Idct.{idct, dcOnly}
 use Rattle.prediction.specs.declared.planes.Plane.{Plane}
 use Rattle.prediction.specs.declared.planes.Plane.the-variants.{Y, Cr, Cb}
-use Rattle.prediction.specs.Planes.{blockSize}
+use Rattle.prediction.specs.Planes.{blockSize, planeLength, planeStart}
 use Rattle.prediction.specs.Writers.{setConst, overwrite, addConst, addBlock, lumaPlace, chromaPlace}
 use Rattle.picture.specs.declared.state.Sizes.{Sizes}
 use Rattle.picture.specs.declared.state.Slice.{Slice}
 use Rattle.picture.specs.State.{Given, World, world, blockAs}
 use Rattle.picture.specs.Ways.{Way, on, out, leave, onward, plain, step, give, _>>=_, _>>_}
-use Rattle.picture.specs.Predictions.{plane, planeAs}
 use Rattle.picture.specs.Heads.{flag}
 
 -- RULES 3.1: the plane of block 0 to 5
@@ -49,10 +49,11 @@ results intra n c di dw d =
 -- the store with the results of a block that was read whole
 unfoldable pub written : Given → Bool → ℕ → ℕ → Read → List ℕ → List ℕ
 written g intra number address r l =
-    let n = g .sizes .«mb_size» in
-    let k = g .stores .cur in
     let p = planeOf number in
-    planeAs n k p (results intra (r .filled .n) (r .filled .coefficients) (placeOf (g .sizes) address number) (widthOf (g .sizes) number) (plane n k p l)) l
+    let start = planeStart (g .stores .cur) p (g .sizes .«mb_size») in
+    let size = planeLength p (g .sizes .«mb_size») in
+    let before = midOf start size l in
+    putMid start size l (results intra (r .filled .n) (r .filled .coefficients) (placeOf (g .sizes) address number) (widthOf (g .sizes) number) before)
 
 -- RULES 3.3, 3.9, 3.12: the predictor and the left-over coefficients behind a block
 abbrev pub behind : ℕ → Read → Slice → Slice
