@@ -37,7 +37,8 @@ use Rattle.picture.specs.Slices.{extraTurn, extra, pastMacroblock, sliceTurn, s
 use Rattle.picture.specs.Pictures as P
 use Rattle.decoder.specs.Record.{Left, fresh, cleared}
 use Rattle.decoder.specs.Answers.{picture, outcomeSays}
-use Rattle.decoder.specs.Possible.{every, possible}
+use Rattle.picture.specs.Possible.{every}
+use Rattle.decoder.specs.Possible.{possible}
 use Rattle.decoder.specs.Sequences.{matrix, size, rest}
 use Rattle.decoder.specs.Headers.{findSequence, accepted, askSize, askHeader, askStore}
 use Rattle.decoder.specs.Opening.{opened, opening}

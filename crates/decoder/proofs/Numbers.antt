@@ -22,7 +22,8 @@ use Rattle.decoder.specs.declared.answers.Outcome.the-variants as H
 use Rattle.decoder.specs.declared.answers.Converted.{Converted}
 use Rattle.decoder.specs.declared.answers.Converted.the-variants as C
 use Rattle.decoder.specs.Record.{Left, left, fresh, place, startCode, stopAs, storeBytes}
-use Rattle.decoder.specs.Possible.{possibleSequence, possiblePicture, possible}
+use Rattle.picture.specs.Possible.{possiblePicture}
+use Rattle.decoder.specs.Possible.{possibleSequence, possible}
 use Rattle.decoder.specs.Headers.{Asked, refused, passed, findSequence, askSize, askHeader, askStore}
 use Rattle.decoder.specs.Opening.{opened, opening}
 use Rattle.decoder.specs.Turns.{Going, Ended, gave, stopped, nextPicture, hasEnded, isFollowed, isReference, handed, shown, flushed, pastPicture, decoded, searched, pictureTurn}

@@ -1,4 +1,5 @@
 pub mod State
+pub mod Possible
 pub mod Ways
 pub mod Increments
 pub mod Predictions
