@@ -5,4 +5,4 @@ pub mod TwoTurns
 pub mod Numbers
 pub mod Cleared
 pub mod Example
-pub mod Again
+pub mod Searches

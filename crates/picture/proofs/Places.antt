@@ -1,0 +1,217 @@
+-- For RULES R.1, R.2: where a picture's run ends. It takes 29 bits at least, and where the start code behind it is that of a picture, bits are left.
+use mathlib.Core.Path.{_≡_, refl, ap, sym, _∙_}
+use mathlib.Core.Bool.{Bool, true, false, cond, not, _&&_, _||_, true≢false, false≢true}
+use mathlib.Core.List.{List}
+use Prim.Native.Nat.{ℕ, zero, suc, _+_, _-_, _*_, _≤_, _<_}
+use native.Mathlib.Omega.{arith}
+use lib.Dec.{eqb, ltb}
+use lib.IntN.{ℤ, pos, negsuc, natAbs}
+use lib.ListN.{length}
+use Rattle.laws.specs.Turns.{Turn, again, stop}
+use Rattle.bits.specs.Bits.{Found, boundary, has, got, next, found}
+use Rattle.bits.specs.Programs.{Prog, done, bind, bits, skips, loop, many, run, turn}
+use Rattle.bits.proofs.Start.{isCode, Searched, first, none, found-is-first}
+use Rattle.bits.proofs.Programs.{run-bind, run-on, served-next}
+use Rattle.picture.specs.declared.state.Motion.{Motion}
+use Rattle.picture.specs.declared.state.Stores.{Stores}
+use Rattle.picture.specs.declared.state.Sizes.{Sizes}
+use Rattle.picture.specs.declared.state.Matrices.{Matrices}
+use Rattle.picture.specs.declared.state.Picture.{Picture}
+use Rattle.picture.specs.State.{Given, World, world, startCodeAs, storesAs}
+use Rattle.picture.specs.Ways.{Way, on, out, leave, onward, give}
+use Rattle.picture.specs.Slices.{isLast, slice}
+use Rattle.picture.specs.Pictures as P
+
+-- ---- programs that take at most n bits
+
+record Takes {A : Type 0} (n : ℕ) (p : Prog A) : Type 0 where
+  pub most : (s : List ℕ) (a : ℕ) → run p s a .at ≤ a + n
+
+next-near : (s : List ℕ) (a n : ℕ) → next s a n ≤ a + n
+unfolding next
+next-near s a n = go (has s a n)
+  where
+    go : (b : Bool) → cond b (a + n) a ≤ a + n
+    go true = omega arith
+    go false = omega arith
+
+takes-done : {A : Type 0} {n : ℕ} {x : A} → Takes n (done x)
+unfolding run
+takes-done = record { most = λ s a. omega arith }
+
+takes-bits : {n : ℕ} → Takes n (bits n)
+unfolding run
+takes-bits {n} = record { most = λ s a. next-near s a n }
+
+takes-skips : {n : ℕ} → Takes n (skips n)
+unfolding run
+takes-skips {n} = record { most = λ s a. next-near s a n }
+
+takes-bind : {A B : Type 0} {n m k : ℕ} (p : Prog A) (f : A → Prog B) → Takes n p → ((x : A) → Takes m (f x)) → n + m ≤ k → Takes k (bind p f)
+takes-bind {n = n} {m} {k} p f h g le = record {
+  most = λ s a. rw (run-bind p f s a) (omega (arith, h .most s a, g (run p s a .value) .most s (run p s a .at)));
+}
+
+takes-if : {A : Type 0} {n : ℕ} {p q : Prog A} (b : Bool) → Takes n p → Takes n q → Takes n (cond b p q)
+takes-if true h g = h
+takes-if false h g = g
+
+direction-takes : (m : Motion) → Takes 4 (P.direction m)
+unfolding P.direction
+direction-takes m =
+    takes-bind {n = 1} {m = 3} (bits 1) _ takes-bits (λ full. takes-bind {n = 3} {m = 0} (bits 3) _ takes-bits (λ f. takes-if (eqb f 0) takes-done takes-done) (omega arith)) (omega arith)
+
+backward-takes : (p : Picture) → Takes 4 (P.backwardHeader p)
+unfolding P.backwardHeader
+backward-takes p = takes-bind {n = 4} {m = 0} (P.direction _) _ (direction-takes _) (λ b. takes-done) (omega arith)
+
+forward-takes : (p : Picture) → Takes 8 (P.forwardHeader p)
+unfolding P.forwardHeader
+forward-takes p =
+    takes-bind {n = 4} {m = 4} (P.direction _) _ (direction-takes _) (λ f. takes-if (f .decoded && eqb (p .«picture_type») 3) (backward-takes _) takes-done) (omega arith)
+
+header-takes : (p : Picture) → Takes 37 (P.pictureHeader p)
+unfolding P.pictureHeader
+header-takes p =
+    takes-bind {n = 10} {m = 27} (skips 10) _ takes-skips (λ u.
+    takes-bind {n = 3} {m = 24} (bits 3) _ takes-bits (λ type.
+    takes-bind {n = 16} {m = 8} (skips 16) _ takes-skips (λ v.
+    takes-if (eqb type 0 || ltb 3 type) takes-done (takes-if (eqb type 1) takes-done (forward-takes _))) (omega arith)) (omega arith)) (omega arith)
+
+-- ---- programs that from the place a come to the place b
+
+record Comes {A : Type 0} (s : List ℕ) (a b : ℕ) (p : Prog A) : Type 0 where
+  pub least : b ≤ run p s a .at
+
+comes-here : {A : Type 0} {s : List ℕ} {a : ℕ} {p : Prog A} → Comes s a a p
+comes-here {s = s} {a} {p} = record { least = run-on p s a }
+
+comes-first : {A B : Type 0} {s : List ℕ} {a b : ℕ} (p : Prog A) (f : A → Prog B) → Comes s a b p → Comes s a b (bind p f)
+comes-first {s = s} {a} p f c = record { least = rw (run-bind p f s a) (omega (arith, c .least, run-on (f (run p s a .value)) s (run p s a .at))) }
+
+comes-skips : {A : Type 0} {s : List ℕ} {a b : ℕ} (n : ℕ) (f : Unit {0} → Prog A) → a + n ≤ length s * 8 → Comes s (a + n) b (f tt) → Comes s a b (bind (skips n) f)
+unfolding run bind
+comes-skips {s = s} {a} {b} n f h c = record { least = rw (served-next s a n h) (c .least) }
+
+comes-bits : {A : Type 0} {s : List ℕ} {a b : ℕ} (n : ℕ) (f : ℕ → Prog A) → a + n ≤ length s * 8 → ((x : ℕ) → Comes s (a + n) b (f x)) → Comes s a b (bind (bits n) f)
+unfolding run bind
+comes-bits {s = s} {a} {b} n f h c = record { least = rw (served-next s a n h) (c (got s a n) .least) }
+
+header-comes : (p : Picture) (s : List ℕ) (a : ℕ) → a + 29 ≤ length s * 8 → Comes s a (a + 10 + 3 + 16) (P.pictureHeader p)
+unfolding P.pictureHeader
+header-comes p s a h = comes-skips 10 _ (omega arith) (comes-bits 3 _ (omega arith) (λ type. comes-skips 16 _ (omega arith) comes-here))
+
+pub picture-past : (z : Sizes) (m : Matrices) (p : Picture) (l s : List ℕ) (a : ℕ) → a + 29 ≤ length s * 8 → a + 29 ≤ run (P.picture z m p l) s a .at
+unfolding P.picture
+picture-past z m p l s a h =
+    let c : Comes s a (a + 10 + 3 + 16) (P.picture z m p l) = comes-first (P.pictureHeader p) _ (header-comes p s a h) in
+    omega arith
+
+-- ---- bits are left before a picture start code
+
+-- where a picture went on and its start code is 0, the place e is not the end
+abbrev pub Ahead : List ℕ → ℕ → Way P.Frame → Type 0
+Ahead s e (on f) = f .picture .«start_code» ≡ pos 0 → e < length s * 8
+Ahead s e (out n l) = Unit {0}
+
+-- a turn from a on that goes on has found a start code
+abbrev TurnAhead : List ℕ → ℕ → ℕ → Turn P.Slices (Way P.Frame) → Type 0
+TurnAhead s a e (again x) = (a + 32 ≤ e) × (a + 40 ≤ length s * 8)
+TurnAhead s a e (stop w) = Ahead s e w
+
+abbrev Turned : List ℕ → ℕ → ℕ → Prog (Turn P.Slices (Way P.Frame)) → Type 0
+Turned s a e p = TurnAhead s a (run p s e .at) (run p s e .value)
+
+-- a start code that is no picture's was found
+pub record Other (s : List ℕ) (a e : ℕ) (c : ℤ) : Type 0 where
+  pub past : a + 32 ≤ e
+  pub five : a + 40 ≤ length s * 8
+  pub other : c ≡ pos 0 → ⊥
+
+both : {A : Type 0} (P : A → Type 0) (b : Bool) {x y : A} → (b ≡ true → P x) → (b ≡ false → P y) → P (cond b x y)
+both P true p q = p refl
+both P false p q = q refl
+
+past-ahead : (g : Given) (p : Picture) (s : List ℕ) (a e f : ℕ) (w : Way World) → Other s a e (p .«start_code») → e ≤ f → Turned s a f (P.pastSlice g p w)
+unfolding P.pastSlice run
+past-ahead g p s a e f (out n l) h k = tt
+past-ahead g p s a e f (on w) h k =
+    both (Turned s a f) (isLast g w) (λ i z. absurd (h .other z)) (λ i. (omega arith, omega arith))
+
+-- a start code that is found has its four bytes behind a, and one more byte behind it
+pub code-ahead : (s : List ℕ) (a : ℕ) → isCode (found s a .code) ≡ true → (a + 32 ≤ found s a .at) × (found s a .at + 8 ≤ length s * 8)
+code-ahead s a = go (found s a) (found-is-first s a)
+  where
+    go : (f : Found) → Searched s (boundary a) f → isCode (f .code) ≡ true → (a + 32 ≤ f .at) × (f .at + 8 ≤ length s * 8)
+    go f (first p w q) h = rw q (omega (arith, w .from), omega (arith, w .five))
+    go f (none w q) h = absurd (false≢true (sym (ap (λ (x : Found). isCode (x .code)) q) ∙ h))
+
+slice-other : (v : ℕ) → P.isSlice (pos v) ≡ true → pos v ≡ pos 0 → ⊥
+slice-other zero h e = false≢true h
+slice-other (suc v) h e = let z : suc v ≡ 0 = ap natAbs e in omega arith
+
+turn-ahead : (g : Given) (x : P.Slices) (s : List ℕ) (a : ℕ) → Turned s a a (P.slicesTurn g x)
+unfolding P.slicesTurn run bind
+turn-ahead g x s a = go (found s a .code) (found s a .at) (code-ahead s a)
+  where
+    go : (c : ℤ) (e : ℕ) → (isCode c ≡ true → (a + 32 ≤ e) × (e + 8 ≤ length s * 8))
+        → Turned s a e (
+        let p = startCodeAs c (x .frame .picture) in
+        let l = x .frame .store in
+        cond (P.isSlice c) (bind (slice g (natAbs c) (world (p .slice) l)) (P.pastSlice g p))
+        (cond (P.isExtra c && not (x .begun)) (done (again (P.slicesOf false (P.frame p l)))) (done (stop (on (P.frame p l))))))
+    go (pos v) e h =
+        let p = startCodeAs (pos v) (x .frame .picture) in
+        let w = slice g v (world (p .slice) (x .frame .store)) in
+        let k = h refl in
+        both (Turned s a e) (P.isSlice (pos v))
+        (λ i. rw (run-bind w (P.pastSlice g p) s e) (past-ahead g p s a e (run w s e .at) (run w s e .value) (record { past = k .0; five = omega arith; other = slice-other v i }) (run-on w s e)))
+        (λ i. both (Turned s a e) (P.isExtra (pos v) && not (x .begun)) (λ j. (k .0, omega arith)) (λ j z. omega arith))
+    go (negsuc v) e h = λ z. absurd (true≢false (sym (ap isCode z)))
+
+abbrev Left : List ℕ → ℕ → Prog (Way P.Frame) → Type 0
+Left s a p = Ahead s (run p s a .at) (run p s a .value)
+
+left-turn : (g : Given) (d : Way P.Frame) (s : List ℕ) (a n : ℕ) (t : Turn P.Slices (Way P.Frame)) (e : ℕ) → length s * 8 - a < suc n → TurnAhead s a e t
+    → ((y : P.Slices) (b : ℕ) → length s * 8 - b < n → Left s b (loop n (P.slicesTurn g) d y)) → Left s e (turn (loop n (P.slicesTurn g) d) t)
+unfolding run
+left-turn g d s a n (again y) e h k r = r y e (omega arith)
+left-turn g d s a n (stop w) e h k r = k
+
+-- each turn that goes on brings the bits left down, so the fuel is not spent
+slices-ahead : (g : Given) (d : Way P.Frame) (s : List ℕ) (n : ℕ) (x : P.Slices) (a : ℕ) → length s * 8 - a < n → Left s a (loop n (P.slicesTurn g) d x)
+unfolding loop
+slices-ahead g d s zero x a h = let z : ⊥ = omega arith in absurd z
+slices-ahead g d s (suc n) x a h =
+    rw (run-bind (P.slicesTurn g x) (turn (loop n (P.slicesTurn g) d)) s a)
+    (left-turn g d s a n (run (P.slicesTurn g x) s a .value) (run (P.slicesTurn g x) s a .at) h (turn-ahead g x s a) (λ y b. slices-ahead g d s n y b))
+
+all-ahead : (g : Given) (f : P.Frame) (s : List ℕ) (a : ℕ) → length s ≤ 16777216 → Left s a (P.slices g f)
+unfolding P.slices
+all-ahead g f s a h = slices-ahead g (on f) s many (P.slicesOf false f) a (omega arith)
+
+turned-ahead : (t : Stores) (s : List ℕ) (e : ℕ) (w : Way P.Frame) → Ahead s e w → Left s e (leave (λ f. give (P.frame (storesAs t (f .picture)) (f .store))) w)
+unfolding leave run
+turned-ahead t s e (on f) k = k
+turned-ahead t s e (out n l) k = tt
+
+coded-ahead : (z : Sizes) (m : Matrices) (p : Picture) (l s : List ℕ) (a : ℕ) → length s ≤ 16777216 → Left s a (P.coded z m p l)
+unfolding P.coded onward
+coded-ahead z m p l s a h =
+    let q = storesAs (P.before (p .stores)) p in
+    let c = P.slices (P.given z m q) (P.frame q l) in
+    both (Left s a) (eqb (p .«picture_type») 3) (λ e. all-ahead (P.given z m p) (P.frame p l) s a h)
+    (λ e. rw (run-bind c _ s a) (turned-ahead (P.after (p .stores)) s (run c s a .at) (run c s a .value) (all-ahead (P.given z m q) (P.frame q l) s a h)))
+
+given-ahead : (s : List ℕ) (a : ℕ) (f : P.Frame) → a < length s * 8 → Left s a (give f)
+unfolding run
+given-ahead s a f h = λ c. h
+
+-- 40 bits at a are what a start code further on takes with the byte behind it
+pub picture-ahead : (z : Sizes) (m : Matrices) (p : Picture) (l s : List ℕ) (a : ℕ) → length s ≤ 16777216 → a + 40 ≤ length s * 8
+    → Ahead s (run (P.picture z m p l) s a .at) (run (P.picture z m p l) s a .value)
+unfolding P.picture
+picture-ahead z m p l s a h k =
+    let o = run (P.pictureHeader p) s a in
+    rw (run-bind (P.pictureHeader p) _ s a)
+    (both (Left s (o .at)) (o .value .decoded) (λ e. coded-ahead z m (o .value .picture) l s (o .at) h) (λ e. given-ahead s (o .at) _ (omega (arith, header-takes p .most s a))))
