@@ -6,3 +6,6 @@ pub mod Numbers
 pub mod Cleared
 pub mod Example
 pub mod Searches
+pub mod RunTurns
+pub mod RunOpened
+pub mod Run

@@ -8,3 +8,4 @@ pub mod Turns
 pub mod HandOut
 pub mod Conversion
 pub mod Listing
+pub mod Run
