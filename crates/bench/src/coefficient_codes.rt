@@ -18,7 +18,7 @@ pub extern "C" fn bench_codes(bytes: &[u8]) -> u32
     let value = DCT_COEFF_VALUE;
     let mut reader = Reader::new();
     let mut sum: u64 = 0;
-    while reader.has(bytes, 1) {
+    while reader.has(bytes, 1).value {
         let code = read_vlc_uint(bytes, reader, &index, &value);
         reader = code.reader;
         sum += code.value as u64;

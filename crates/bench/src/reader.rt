@@ -20,7 +20,7 @@ pub extern "C" fn bench_read(bytes: &[u8], count: u32) -> u32
     }
     let mut reader = Reader::new();
     let mut sum: u64 = 0;
-    while reader.has(bytes, n) {
+    while reader.has(bytes, n).value {
         let r = reader.read(bytes, n);
         reader = r.reader;
         sum += r.value as u64;
@@ -38,7 +38,7 @@ pub extern "C" fn bench_read_bit(bytes: &[u8]) -> u32
     }
     let mut reader = Reader::new();
     let mut sum: u64 = 0;
-    while reader.has(bytes, 1) {
+    while reader.has(bytes, 1).value {
         let r = reader.read_bit(bytes);
         reader = r.reader;
         sum += r.value as u64;

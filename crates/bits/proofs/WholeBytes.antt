@@ -1,14 +1,12 @@
 -- Laws of whole bytes. Assumes nothing.
-use mathlib.Core.Path.{_≡_, refl, ap, sym, _∙_}
-use mathlib.Core.Bool.{Bool, true, false, cond, _&&_, false≢true}
-use mathlib.Core.List.{List, []}
-use Prim.Native.Nat.{ℕ, zero, suc, _+_, _-_, _*_, _/_, _≤_, _<_}
-use native.Mathlib.Numerals.{add-one}
+use mathlib.Core.Path.{_≡_}
+use mathlib.Core.List.{List}
+use Prim.Native.Nat.{ℕ, suc, _+_, _-_, _/_, _≤_, _<_}
 use native.Mathlib.Omega.{arith}
-use lib.ListN.{length, getD, take, drop}
-use lib.Dec.{leb}
-use borrow.Author.Tests.{leb-true, eq-eqb, ne-eqb}
-use Rattle.bits.specs.Bits.{equalBytes, hasBytes, bytesAt}
+use lib.ListN.{length, getD}
+use borrow.Author.Tests.{le-leb, lt-leb, eq-eqb, ne-eqb}
+use Rattle.bits.specs.Bits.{equalBytes, partAt}
+use Rattle.bits.specs.declared.bytes.Part.the-variants.{Bytes, Absent}
 
 left : (l b : ℕ) → b < l → l - b ≡ suc (l - (b + 1))
 left l b h = omega arith
@@ -30,17 +28,8 @@ equal-end s v b h =
     rw e
 
 -- bytes that lie inside, and bytes that do not
-pub inside : (s : List ℕ) (a n : ℕ) → hasBytes s a n ≡ true → (a / 8 ≤ length s) × (n ≤ length s - a / 8)
-inside s a n = go (leb (a / 8) (length s)) (leb n (length s - a / 8)) (leb-true _ _) (leb-true _ _)
-  where
-    go : {P Q : Type 0} (x y : Bool) → (x ≡ true → P) → (y ≡ true → Q) → (x && y) ≡ true → P × Q
-    go true y f g e = (f refl, g e)
-    go false y f g e = absurd (false≢true e)
+pub part-there : (s : List ℕ) (a n : ℕ) → a / 8 + n ≤ length s → partAt s a n ≡ Bytes (record { 0 = a / 8 }) (record { 0 = a / 8 + n })
+part-there s a n h = simp (le-leb (a / 8 + n) (length s) h)
 
-pub bytes-there : (s : List ℕ) (a n : ℕ) → hasBytes s a n ≡ true → bytesAt s a n ≡ take n (drop (a / 8) s)
-unfolding bytesAt
-bytes-there s a n e = simp e
-
-pub bytes-none : (s : List ℕ) (a n : ℕ) → hasBytes s a n ≡ false → bytesAt s a n ≡ []
-unfolding bytesAt
-bytes-none s a n e = simp e
+pub part-absent : (s : List ℕ) (a n : ℕ) → length s < a / 8 + n → partAt s a n ≡ Absent
+part-absent s a n h = simp (lt-leb (a / 8 + n) (length s) h)

@@ -1,11 +1,13 @@
 -- A stream is a list of bytes, and a place in it a count of bits from its beginning. What stands at a place: the value of a string of bits,
 -- the next byte boundary, a run of equal bytes, the first start code.
-use Prim.Native.Nat.{ℕ, zero, suc, _+_, _-_, _*_, _/_, _%_, _^_}
+use Prim.Native.Nat.{ℕ, zero, suc, _+_, _-_, _*_, _/_, _%_, _^_, _≤_}
 use mathlib.Core.List.{List, []}
 use mathlib.Core.Bool.{Bool, true, false, cond, _&&_}
 use lib.ListN.{length, getD, take, drop}
 use lib.Dec.{leb, eqb}
 use lib.IntN.{ℤ, pos, negsuc}
+use Rattle.bits.specs.declared.bytes.Part.{Part}
+use Rattle.bits.specs.declared.bytes.Part.the-variants.{Bytes, Absent}
 
 -- RULES 1.1: the bit k of s, counted from the highest bit of the first byte; 0 past the end
 unfoldable pub bitAt : List ℕ → ℕ → ℕ
@@ -57,8 +59,18 @@ found s a = codeFrom s (boundary a) (length s - 4 - boundary a)
 
 -- RULES 1.15: n bytes from the byte of the place a on lie inside
 abbrev pub hasBytes : List ℕ → ℕ → ℕ → Bool
-hasBytes s a n = leb (a / 8) (length s) && leb n (length s - a / 8)
+hasBytes s a n = leb (a / 8 + n) (length s)
 
--- RULES 1.15: those bytes, or none
-unfoldable pub bytesAt : List ℕ → ℕ → ℕ → List ℕ
-bytesAt s a n = cond (hasBytes s a n) (take n (drop (a / 8) s)) []
+-- RULES 1.15: the places of those bytes, or none
+abbrev pub partAt : List ℕ → ℕ → ℕ → Part
+partAt s a n = cond (hasBytes s a n) (Bytes (record { 0 = a / 8 }) (record { 0 = a / 8 + n })) Absent
+
+-- a part lies inside the first n bytes
+abbrev pub Within : Part → ℕ → Type 0
+Within (Bytes from to) n = (from .0 ≤ to .0) × (to .0 ≤ n)
+Within Absent n = Unit {0}
+
+-- the bytes of a part
+abbrev pub bytesOf : List ℕ → Part → List ℕ
+bytesOf s (Bytes from to) = take (to .0 - from .0) (drop (from .0) s)
+bytesOf s Absent = []

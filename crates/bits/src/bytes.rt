@@ -5,11 +5,22 @@ use crate::reader::Reader;
 ghost use mathlib.Core.Path.{_≡_};
 ghost use Prim.Native.Nat.{_+_, _-_, _*_, _≤_};
 ghost use lib.ListN.{length};
-ghost use Rattle.bits.specs.Bits.{boundary, equalBytes, hasBytes, bytesAt};
+ghost use Rattle.bits.specs.Bits.{boundary, equalBytes, partAt, Within};
 
 pub struct SkippedBytes {
     pub reader: Reader,
     pub count: usize,
+}
+
+// A part of the stream: its first byte and the one behind its last.
+pub enum Part {
+    Bytes(BytePosition, BytePosition),
+    Absent,
+}
+
+pub struct PeekedBytes {
+    pub reader: Reader,
+    pub part: Part,
 }
 
 impl Reader {
@@ -21,47 +32,51 @@ impl Reader {
         ensures { λ r. ⌜ r .reader .at .0 ≡ (boundary (self .at .0) + r .count) * 8 ⌝ }
         ensures { λ r. ⌜ r .reader .at .0 ≤ 134217728 ⌝ }
     {
-        let from = self.align().tell().0;
+        let from = self.align().tell().at.0;
         let mut b = from;
         while b < s.len() {
             if s[b] != v {
+                let count = b - from;
                 return SkippedBytes {
                     reader: Reader {
                         at: bit_of(BytePosition(b)),
                     },
-                    count: b - from,
+                    count: count,
                 };
             }
             b += 1;
         }
+        let count = b - from;
         SkippedBytes {
             reader: Reader {
                 at: bit_of(BytePosition(b)),
             },
-            count: b - from,
+            count: count,
         }
     }
 
-    // Whether count bytes from the byte of the place on lie inside.
-    pub fn has_bytes(self, s: &[u8], count: usize) -> bool
-        ensures { λ r. ⌜ r ≡ hasBytes (now (s .entry)) (self .at .0) count ⌝ }
+    // Where the count bytes from the byte of the place on stand, if they lie inside.
+    pub fn peek_bytes(self, s: &[u8], count: usize) -> PeekedBytes
+        ensures { λ r. ⌜ (r .part ≡ partAt (now (s .entry)) (self .at .0) count) × (r .reader .at .0 ≡ self .at .0) ⌝ }
+        ensures { λ r. ⌜ Within (r .part) (length (now (s .entry))) ⌝ }
     {
-        let start = self.tell().0;
-        if s.len() < start {
-            return false;
+        let from = self.tell().at.0;
+        if s.len() < from {
+            return PeekedBytes {
+                reader: self,
+                part: Part::Absent,
+            };
         }
-        count <= s.len() - start
-    }
-
-    // Those bytes; none where they do not lie inside.
-    pub fn peek_bytes(self, s: &[u8], count: usize) -> &[u8]
-        ensures { λ r. ⌜ now r ≡ bytesAt (now (s .entry)) (self .at .0) count ⌝ }
-    {
-        let start = self.tell().0;
-        if self.has_bytes(s, count) {
-            let end = start + count;
-            return &s[start..end];
+        if s.len() - from < count {
+            return PeekedBytes {
+                reader: self,
+                part: Part::Absent,
+            };
         }
-        &s[0..0]
+        let part = Part::Bytes(BytePosition(from), BytePosition(from + count));
+        PeekedBytes {
+            reader: self,
+            part: part,
+        }
     }
 }

@@ -27,6 +27,11 @@ pub struct Peeked {
     pub value: bool,
 }
 
+pub struct Told {
+    pub reader: Reader,
+    pub at: BytePosition,
+}
+
 // A byte of the stream.
 fn byte(s: &[u8], i: usize) -> u64
     requires { ⌜ i < length (now s) ⌝ }
@@ -81,25 +86,36 @@ impl Reader {
     }
 
     // Whether count more bits are there.
-    pub fn has(self, s: &[u8], count: usize) -> bool
+    pub fn has(self, s: &[u8], count: usize) -> Peeked
         requires { ⌜ length (now s) ≤ 16777216 ⌝ }
-        ensures { λ r. ⌜ r ≡ has (now (s .entry)) (self .at .0) count ⌝ }
+        ensures { λ r. ⌜ (r .value ≡ has (now (s .entry)) (self .at .0) count) × (r .reader .at .0 ≡ self .at .0) ⌝ }
     {
         let at = self.at.0;
         let end = s.len() * 8;
         if end < at {
-            return count == 0;
+            return Peeked {
+                reader: self,
+                value: count == 0,
+            };
         }
-        count <= end - at
+        let left = end - at;
+        Peeked {
+            reader: self,
+            value: count <= left,
+        }
     }
 
     // Whether no bit is left.
-    pub fn has_ended(self, s: &[u8]) -> bool
+    pub fn has_ended(self, s: &[u8]) -> Peeked
         requires { ⌜ length (now s) ≤ 16777216 ⌝ }
-        ensures { λ r. ⌜ r ≡ leb (length (now (s .entry)) * 8) (self .at .0) ⌝ }
+        ensures { λ r. ⌜ (r .value ≡ leb (length (now (s .entry)) * 8) (self .at .0)) × (r .reader .at .0 ≡ self .at .0) ⌝ }
     {
         let at = self.at.0;
-        s.len() * 8 <= at
+        let end = s.len() * 8;
+        Peeked {
+            reader: self,
+            value: end <= at,
+        }
     }
 
     // Up to 32 bits, the highest first; 0 and no advance where fewer are left.
@@ -164,7 +180,7 @@ impl Reader {
         ensures { λ r. ⌜ Runs (skips count) (now (s .entry)) (self .at .0) tt (r .at .0) ⌝ }
         ensures { λ r. ⌜ r .at .0 ≤ 134217728 ⌝ }
     {
-        if self.has(s, count) {
+        if self.has(s, count).value {
             let at = self.at.0;
             return Reader {
                 at: BitPosition(at + count),
@@ -199,10 +215,14 @@ impl Reader {
     }
 
     // The byte of the place.
-    pub fn tell(self) -> BytePosition
-        ensures { λ r. ⌜ r .0 ≡ self .at .0 / 8 ⌝ }
+    pub fn tell(self) -> Told
+        ensures { λ r. ⌜ (r .at .0 ≡ self .at .0 / 8) × (r .reader .at .0 ≡ self .at .0) ⌝ }
     {
-        byte_of(self.at)
+        let at = byte_of(self.at);
+        Told {
+            reader: self,
+            at: at,
+        }
     }
 
     // To the beginning of a byte.

@@ -23,7 +23,7 @@ impl Reader {
         ensures { λ r. ⌜ Runs nextStartCode (now (s .entry)) (self .at .0) (r .code) (r .reader .at .0) ⌝ }
         ensures { λ r. ⌜ (r .reader .at .0 ≤ 134217728) × (natAbs (r .code) ≤ 255) ⌝ }
     {
-        let mut b = self.align().tell().0;
+        let mut b = self.align().tell().at.0;
         while b + 5 <= s.len() {
             if s[b] == 0 {
                 if s[b + 1] == 0 {

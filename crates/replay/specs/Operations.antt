@@ -6,8 +6,10 @@ use lib.Dec.{leb, ltb}
 use lib.ListN.{length, getD}
 use mir.Syntax.{w32}
 use mir.Val.{ofZ, toZ}
-use Rattle.bits.specs.Bits.{has, boundary, equalBytes, hasBytes}
+use Rattle.bits.specs.Bits.{has, boundary, equalBytes, partAt}
 use Rattle.bits.specs.Programs.{run, bits, reads, skips, nonZero, nextStartCode, findStartCode}
+use Rattle.bits.specs.declared.bytes.Part.{Part}
+use Rattle.bits.specs.declared.bytes.Part.the-variants.{Bytes, Absent}
 use Rattle.replay.specs.declared.reader_operations.Operation.{Operation}
 use Rattle.replay.specs.declared.reader_operations.Operation.the-variants.{New, Read, ReadBit, Has, HasEnded, Skip, Align, Tell, Seek, SkipBytes, NextStartCode, FindStartCode, HasStartCode, PeekNonZero, PeekBytes, Unknown}
 use Rattle.replay.specs.declared.reader_operations.Outcome.{Outcome}
@@ -31,9 +33,10 @@ gives v a = record { reader = record { at = record { 0 = a } }; answer = v; know
 abbrev pub unknown : ℕ → Outcome
 unknown a = record { reader = record { at = record { 0 = a } }; answer = 0; known = false }
 
--- a peek of n bytes at a is n + 1, or 0 where they do not lie inside
-abbrev pub peek : List ℕ → ℕ → ℕ → ℕ
-peek s a n = cond (hasBytes s a n) (n + 1) 0
+-- a peek answers one more than the bytes of its part, or 0 where they are absent
+abbrev pub peek : Part → ℕ
+peek (Bytes from to) = to .0 - from .0 + 1
+peek Absent = 0
 
 -- the bytes from the place a on that equal x are passed
 abbrev pub passed : List ℕ → ℕ → ℕ → Outcome
@@ -55,5 +58,5 @@ outcome NextStartCode x s a = gives (ofZ w32 (run nextStartCode s a .value)) (ru
 outcome FindStartCode x s a = gives (ofZ w32 (run (findStartCode (toZ w32 x)) s a .value)) (run (findStartCode (toZ w32 x)) s a .at)
 outcome HasStartCode x s a = gives (ofZ w32 (run (findStartCode (toZ w32 x)) s a .value)) a
 outcome PeekNonZero x s a = gives (flag (run (nonZero x) s a .value)) a
-outcome PeekBytes x s a = gives (peek s a x) a
+outcome PeekBytes x s a = gives (peek (partAt s a x)) a
 outcome Unknown x s a = unknown a

@@ -4,7 +4,7 @@ use mathlib.Core.Bool.{Bool, true, false, cond, _&&_}
 use mathlib.Core.List.{List}
 use lib.Dec.{eqb, ltb}
 use lib.ListN.{length, getD}
-use Rattle.bits.specs.Bits.{bytesAt}
+use Rattle.bits.specs.Bits.{partAt, bytesOf}
 use Rattle.bits.specs.declared.reader.Reader.{Reader}
 use Rattle.replay.specs.declared.reader_operations.Outcome.{Outcome}
 use Rattle.replay.specs.declared.reader_list.Along.{Along}
@@ -31,7 +31,7 @@ agree o v e = o .known && eqb (o .answer) v && eqb (o .reader .at .0) e
 
 -- a peek gave the bytes that stand behind its case
 abbrev pub bytesAgree : ℕ → List ℕ → List ℕ → ℕ → ℕ → Bool
-bytesAgree n t s a x = cond (eqb n peekBytes) (sameBytes t (bytesAt s a x)) true
+bytesAgree n t s a x = cond (eqb n peekBytes) (sameBytes t (bytesOf s (partAt s a x))) true
 
 -- on to the next case, which stands at j: a new stream stands from i up to j
 abbrev pub onward : Along → ℕ → ℕ → ℕ → Reader → Along

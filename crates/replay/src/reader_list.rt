@@ -9,6 +9,7 @@ use crate::reader_operations::Outcome;
 use crate::reader_operations::operate;
 use crate::reader_operations::operation_of;
 use crate::tally::Tally;
+use bits::bytes::Part;
 use bits::reader::Reader;
 ghost use mathlib.Core.Path.{_≡_};
 ghost use Prim.Native.Nat.{_+_, _≤_};
@@ -62,7 +63,13 @@ fn bytes_agree(number: u8, bytes: &[u8], s: &[u8], reader: Reader, argument: u32
     ensures { λ r. ⌜ r ≡ bytesAgree number (now (bytes .entry)) (now (s .entry)) (reader .at .0) argument ⌝ }
 {
     if number == PEEK_BYTES {
-        return same(bytes, reader.peek_bytes(s, argument as usize));
+        let part = reader.peek_bytes(s, argument as usize).part;
+        let Part::Bytes(first, end) = part else {
+            return same(bytes, &s[0..0]);
+        };
+        let from = first.0;
+        let to = end.0;
+        return same(bytes, &s[from..to]);
     }
     true
 }

@@ -1,6 +1,7 @@
 // The operations of the reader, as the list reader.bin names them, and ours for each.
 use crate::list::held;
 use crate::list::signed;
+use bits::bytes::Part;
 use bits::position::BytePosition;
 use bits::reader::Reader;
 use bits::start_codes::StartCode;
@@ -9,6 +10,7 @@ ghost use Prim.Native.Nat.{_≤_};
 ghost use lib.ListN.{length};
 ghost use mir.Syntax.{w32};
 ghost use mir.Val.{ofZ};
+ghost use Rattle.bits.specs.Bits.{partAt};
 ghost use Rattle.replay.specs.Operations.{operationOf, gives, unknown, flag, peek, outcome};
 
 pub enum Operation {
@@ -105,16 +107,18 @@ fn flagged(reader: Reader, b: bool) -> Outcome
     given(reader, 0)
 }
 
-// One more than the bytes that a peek gives; 0 where there is none.
+// One more than the bytes that a peek gives; 0 where they are absent.
 fn peeked(s: &[u8], reader: Reader, count: usize) -> Outcome
     requires { ⌜ length (now s) ≤ 16777216 ⌝ }
-    ensures { λ r. ⌜ r ≡ gives (peek (now (s .entry)) (reader .at .0) count) (reader .at .0) ⌝ }
+    ensures { λ r. ⌜ r ≡ gives (peek (partAt (now (s .entry)) (reader .at .0) count)) (reader .at .0) ⌝ }
 {
-    if reader.has_bytes(s, count) {
-        let bytes = reader.peek_bytes(s, count);
-        return given(reader, bytes.len() as u32 + 1);
-    }
-    given(reader, 0)
+    let ahead = reader.peek_bytes(s, count);
+    let part = ahead.part;
+    let Part::Bytes(from, to) = part else {
+        return given(ahead.reader, 0);
+    };
+    let bytes = to.0 - from.0;
+    given(ahead.reader, bytes as u32 + 1)
 }
 
 // Ours, on the stream s.
@@ -134,11 +138,20 @@ pub fn operate(s: &[u8], reader: Reader, op: Operation, argument: u32) -> Outcom
             let r = reader.read_bit(s);
             given(r.reader, r.value)
         }
-        Operation::Has => flagged(reader, reader.has(s, count)),
-        Operation::HasEnded => flagged(reader, reader.has_ended(s)),
+        Operation::Has => {
+            let r = reader.has(s, count);
+            flagged(r.reader, r.value)
+        }
+        Operation::HasEnded => {
+            let r = reader.has_ended(s);
+            flagged(r.reader, r.value)
+        }
         Operation::Skip => given(reader.skip(s, count), 0),
         Operation::Align => given(reader.align(), 0),
-        Operation::Tell => given(reader, reader.tell().0 as u32),
+        Operation::Tell => {
+            let r = reader.tell();
+            given(r.reader, r.at.0 as u32)
+        }
         Operation::Seek => {
             if 16777216 < count {
                 return refused(reader);

@@ -58,14 +58,14 @@ loop-less c =
     let r = c .before .before in
     let l = r .before .before .before .before .before in
     adding-less (l .before .before .before .before .args .bytes .now) _ (l .loop .sum) _ _ (omega (arith, l .before .before .if1 .left))
-    (sym (r .before .before .before .before .has .ensures) ∙ r .before .before .before .if2 .taken) (r .read-vlc-uint .ensures .0) (l .loop .inv .most)
+    (sym (r .before .before .before .before .has .ensures .0) ∙ r .before .before .before .if2 .taken) (r .read-vlc-uint .ensures .0) (l .loop .inv .most)
 
 loop-again : tie.Need-loop-again Inv-loop μ-loop
 unfolding dctCoeff dctCoeffIndex dctCoeffValue
 loop-again c =
     let r = c .before .before in
     let l = r .before .before .before .before .before in
-    adding-on _ _ _ _ _ (omega (arith, l .before .before .if1 .left)) (sym (r .before .before .before .before .has .ensures) ∙ r .before .before .before .if2 .taken)
+    adding-on _ _ _ _ _ (omega (arith, l .before .before .if1 .left)) (sym (r .before .before .before .before .has .ensures .0) ∙ r .before .before .before .if2 .taken)
     (r .read-vlc-uint .ensures .0) (omega (arith, c .struct-known .given)) (l .loop .inv)
 
 cast-result : tie.Need-cast-result Inv-loop μ-loop
@@ -77,7 +77,7 @@ returns-2 c =
     let l = c .before .before in
     let s = l .before .before .before .before in
     simp (le-ltb _ _ (l .before .before .if1 .left))
-    (ap (λ (x : ℕ). x % 4294967296) (sym (adding-end (s .args .bytes .now) _ _ (sym (c .before .has .ensures) ∙ c .if2 .left) (l .loop .inv))))
+    (ap (λ (x : ℕ). x % 4294967296) (sym (adding-end (s .args .bytes .now) _ _ (sym (c .before .has .ensures .0) ∙ c .if2 .left) (l .loop .inv))))
 
 pub bench-codes-spec : {M : Type 1} → statement M
 bench-codes-spec =

@@ -47,15 +47,16 @@ add-sum c = omega (arith, c .struct-known .given)
 loop-less : tie.Need-loop-less Inv-loop μ-loop
 loop-less c =
     let r = c .before .before in
-    let s = r .before .before .before .before .before .before .before .before .before in
-    summing-less _ (s .args .bytes .now) _ (r .before .before .before .loop .sum) _ _ (omega arith) (omega arith) (sym (r .before .before .has .ensures) ∙ r .before .if4 .taken) (few (s .args .count) (omega arith) (r .read .ensures .0))
+    let l = r .before .before .before in
+    let s = l .before .before .before .before .before .before in
+    summing-less _ (s .args .bytes .now) _ (l .loop .sum) _ _ (omega arith) (omega (arith, l .before .before .before .before .if1 .left)) (sym (r .before .before .has .ensures .0) ∙ r .before .if4 .taken) (few (s .args .count) (omega arith) (r .read .ensures .0))
 
 loop-again : tie.Need-loop-again Inv-loop μ-loop
 loop-again c =
     let r = c .before .before in
     let l = r .before .before .before in
     let s = l .before .before .before .before .before .before in
-    summing-on _ _ _ _ _ _ (omega arith) (omega arith) (sym (r .before .before .has .ensures) ∙ r .before .if4 .taken) (few (s .args .count) (omega arith) (r .read .ensures .0)) (omega (arith, c .struct-known .given)) (l .loop .inv)
+    summing-on _ _ _ _ _ _ (omega arith) (omega (arith, l .before .before .before .before .if1 .left)) (sym (r .before .before .has .ensures .0) ∙ r .before .if4 .taken) (few (s .args .count) (omega arith) (r .read .ensures .0)) (omega (arith, c .struct-known .given)) (l .loop .inv)
 
 cast-result : tie.Need-cast-result Inv-loop μ-loop
 cast-result c = omega arith
@@ -66,7 +67,7 @@ returns-4 c =
     let l = c .before .before in
     let s = l .before .before .before .before .before .before in
     simp (le-ltb _ _ (l .before .before .before .before .if1 .left), ne-eqb _ _ (l .before .before .before .if2 .left), le-ltb _ _ (l .before .before .if3 .left))
-    (ap (λ (x : ℕ). x % 4294967296) (sym (summing-end (s .args .count) (s .args .bytes .now) _ _ (sym (c .before .has .ensures) ∙ c .if4 .left) (l .loop .inv))))
+    (ap (λ (x : ℕ). x % 4294967296) (sym (summing-end (s .args .count) (s .args .bytes .now) _ _ (sym (c .before .has .ensures .0) ∙ c .if4 .left) (l .loop .inv))))
 
 pub bench-read-spec : {M : Type 1} → statement M
 bench-read-spec =

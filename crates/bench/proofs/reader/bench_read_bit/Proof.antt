@@ -41,13 +41,13 @@ loop-less : tie.Need-loop-less Inv-loop μ-loop
 loop-less c =
     let r = c .before .before in
     let l = r .before .before .before in
-    summing-less 1 (l .before .before .before .before .args .bytes .now) _ (l .loop .sum) _ _ (omega arith) (omega arith) (sym (r .before .before .has .ensures) ∙ r .before .if2 .taken) (r .read-bit .ensures .0)
+    summing-less 1 (l .before .before .before .before .args .bytes .now) _ (l .loop .sum) _ _ (omega arith) (omega arith) (sym (r .before .before .has .ensures .0) ∙ r .before .if2 .taken) (r .read-bit .ensures .0)
 
 loop-again : tie.Need-loop-again Inv-loop μ-loop
 loop-again c =
     let r = c .before .before in
     let l = r .before .before .before in
-    summing-on _ _ _ _ _ _ (omega arith) (omega arith) (sym (r .before .before .has .ensures) ∙ r .before .if2 .taken) (r .read-bit .ensures .0) (omega arith) (l .loop .inv)
+    summing-on _ _ _ _ _ _ (omega arith) (omega arith) (sym (r .before .before .has .ensures .0) ∙ r .before .if2 .taken) (r .read-bit .ensures .0) (omega arith) (l .loop .inv)
 
 cast-result : tie.Need-cast-result Inv-loop μ-loop
 cast-result c = omega arith
@@ -58,7 +58,7 @@ returns-2 c =
     let l = c .before .before in
     let s = l .before .before .before .before in
     simp (le-ltb _ _ (l .before .before .if1 .left))
-    (ap (λ (x : ℕ). x % 4294967296) (sym (summing-end 1 (s .args .bytes .now) _ _ (sym (c .before .has .ensures) ∙ c .if2 .left) (l .loop .inv))))
+    (ap (λ (x : ℕ). x % 4294967296) (sym (summing-end 1 (s .args .bytes .now) _ _ (sym (c .before .has .ensures .0) ∙ c .if2 .left) (l .loop .inv))))
 
 pub bench-read-bit-spec : {M : Type 1} → statement M
 bench-read-bit-spec =

@@ -195,11 +195,11 @@ returns-5 c = ends (c .given3 .ensures) (rw (c .before .before .enum-told3 .give
 
 returns-6 : tie.Need-returns-6
 unfolding outcome
-returns-6 c = ends (c .flagged .ensures) (rw (c .before .before .enum-told4 .given .1, c .before .has .ensures)) (omega arith)
+returns-6 c = ends (c .flagged .ensures) (rw (c .before .before .enum-told4 .given .1, c .before .has .ensures .0, c .before .has .ensures .1)) (omega arith)
 
 returns-7 : tie.Need-returns-7
 unfolding outcome
-returns-7 c = ends (c .flagged2 .ensures) (rw (c .before .before .enum-told5 .given .1, c .before .has-ended .ensures)) (omega arith)
+returns-7 c = ends (c .flagged2 .ensures) (rw (c .before .before .enum-told5 .given .1, c .before .has-ended .ensures .0, c .before .has-ended .ensures .1)) (omega arith)
 
 returns-8 : tie.Need-returns-8
 unfolding outcome
@@ -211,7 +211,7 @@ returns-9 c = ends (c .given5 .ensures) (rw (c .before .before .enum-told7 .give
 
 returns-10 : tie.Need-returns-10
 unfolding outcome
-returns-10 c = ends (c .given6 .ensures) (rw (c .before .before .before .enum-told8 .given .1, c .before .before .tell .ensures)) (omega arith)
+returns-10 c = ends (c .given6 .ensures) (rw (c .before .before .before .enum-told8 .given .1, c .before .before .tell .ensures .0, c .before .before .tell .ensures .1)) (omega arith)
 
 returns-11 : tie.Need-returns-11
 unfolding outcome

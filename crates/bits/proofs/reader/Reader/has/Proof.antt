@@ -1,4 +1,4 @@
-use mathlib.Core.Path.{sym}
+use mathlib.Core.Path.{refl, sym}
 use native.Mathlib.Omega.{arith}
 use denote.Ref.{now}
 use Rattle.bits.proofs.Programs.{ended-has}
@@ -12,7 +12,7 @@ mul-end c = search needs
 returns : tie.Need-returns
 returns c =
     let a = c .before .args in
-    sym (ended-has (now (a .s)) (a .self .at .0) (a .count) (omega arith))
+    (sym (ended-has (now (a .s)) (a .self .at .0) (a .count) (omega arith)), refl)
 
 returns-2 : tie.Need-returns-2
 returns-2 c = search needs

@@ -13,21 +13,21 @@ use Rattle.bits.proofs.reader.Reader.skip.Tie as tie
 has-requires : tie.Need-has-requires
 has-requires c κs = search needs
 
-add-t6 : tie.Need-add-t6
-add-t6 c =
+add-t7 : tie.Need-add-t7
+add-t7 c =
     let a = c .before .before .before .args in
-    omega (arith, leb-true (a .count) (length (now (a .s)) * 8 - a .self .at .0) (sym (c .before .has .ensures) ∙ c .if1 .taken))
+    omega (arith, leb-true (a .count) (length (now (a .s)) * 8 - a .self .at .0) (sym (c .before .has .ensures .0) ∙ c .if1 .taken))
 
 returns : tie.Need-returns
 returns c =
     let a = c .before .before .before .args in
-    let yes = sym (c .before .has .ensures) ∙ c .if1 .taken in
+    let yes = sym (c .before .has .ensures .0) ∙ c .if1 .taken in
     (is-skips (sym (next-has (now (a .s)) (a .self .at .0) (a .count) yes)), omega (arith, leb-true (a .count) (length (now (a .s)) * 8 - a .self .at .0) yes))
 
 returns-2 : tie.Need-returns-2
 returns-2 c =
     let a = c .before .before .before .args in
-    (is-skips (sym (next-not (now (a .s)) (a .self .at .0) (a .count) (sym (c .before .has .ensures) ∙ c .if1 .left))), omega arith)
+    (is-skips (sym (next-not (now (a .s)) (a .self .at .0) (a .count) (sym (c .before .has .ensures .0) ∙ c .if1 .left))), omega arith)
 
 pub skip-spec : {M : Type 1} → statement M
-skip-spec = tie.close (tie.spec has-requires add-t6 returns returns-2)
+skip-spec = tie.close (tie.spec has-requires add-t7 returns returns-2)

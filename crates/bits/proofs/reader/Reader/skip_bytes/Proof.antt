@@ -28,17 +28,17 @@ loop-holds c = (omega arith, omega arith, omega arith)
 shared-slice-read-if1 : tie.Need-shared-slice-read-if1 Inv-loop μ-loop
 shared-slice-read-if1 c = search needs
 
+sub-count : tie.Need-sub-count Inv-loop μ-loop
+sub-count c = search needs
+
 bit-of-requires : tie.Need-bit-of-requires Inv-loop μ-loop
 bit-of-requires c κs = search needs
-
-sub-t15 : tie.Need-sub-t15 Inv-loop μ-loop
-sub-t15 c = search needs
 
 returns : tie.Need-returns Inv-loop μ-loop
 returns c =
     let x = c .before .before .before .before in
     let a = x .before .before .before .before .args in
-    let at : x .before .tell .result .0 ≡ boundary (a .self .at .0) = omega arith in (
+    let at : x .before .tell .result .at .0 ≡ boundary (a .self .at .0) = omega arith in (
       rw (← at) (omega (arith, x .loop .inv .2, equal-off (now (a .s)) (a .v) (x .loop .b) (c .before .before .before .loop-test .taken) (c .before .if1 .taken))),
       (omega arith, omega arith),
     )
@@ -55,17 +55,17 @@ loop-again c =
     let a = x .before .before .before .before .args in
     (omega arith, omega arith, omega (arith, x .loop .inv .2, equal-on (now (a .s)) (a .v) (x .loop .b) (c .before .before .loop-test .taken) (c .if1 .left)))
 
+sub-count-2 : tie.Need-sub-count-2 Inv-loop μ-loop
+sub-count-2 c = search needs
+
 bit-of-requires-2 : tie.Need-bit-of-requires-2 Inv-loop μ-loop
 bit-of-requires-2 c κs = search needs
-
-sub-t17 : tie.Need-sub-t17 Inv-loop μ-loop
-sub-t17 c = search needs
 
 returns-2 : tie.Need-returns-2 Inv-loop μ-loop
 returns-2 c =
     let x = c .before .before in
     let a = x .before .before .before .before .args in
-    let at : x .before .tell .result .0 ≡ boundary (a .self .at .0) = omega arith in
+    let at : x .before .tell .result .at .0 ≡ boundary (a .self .at .0) = omega arith in
     (rw (← at) (omega (arith, x .loop .inv .2, equal-end (now (a .s)) (a .v) (x .loop .b) (c .before .loop-test .left))), (omega arith, omega arith))
 
 pub skip-bytes-spec : {M : Type 1} → statement M
@@ -78,12 +78,12 @@ skip-bytes-spec =
     tell-requires
     loop-holds
     shared-slice-read-if1
+    sub-count
     bit-of-requires
-    sub-t15
     returns
     add-b
     loop-less
     loop-again
+    sub-count-2
     bit-of-requires-2
-    sub-t17
     returns-2)
