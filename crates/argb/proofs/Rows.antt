@@ -1,22 +1,12 @@
--- The area row by row: row y of the output is the pixels from y × w on, and rows that follow one another are one row of stores.
+-- The area row by row: row y of the output is the pixels from y × w on.
 use mathlib.Core.Path.{_≡_, sym, ap, ap₂, _∙_}
 use mathlib.Core.List.{List}
-use Prim.Native.Nat.{ℕ, zero, suc, _+_, _*_, _/_, _%_, _<_}
-use native.Mathlib.Nat.{add-zero, add-suc, mul-add-div-right, mul-add-mod-self-right, mod-eq-of-lt, div-eq-of-lt}
+use Prim.Native.Nat.{ℕ, _+_, _*_, _/_, _%_, _<_}
+use native.Mathlib.Nat.{mul-add-div-right, mul-add-mod-self-right, mod-eq-of-lt, div-eq-of-lt}
 use native.Mathlib.Omega.{arith}
-use lib.ListN.{set}
 use Rattle.laws.specs.Stores.{storeRow}
+use Rattle.laws.proofs.Lists.{row-join}
 use Rattle.argb.specs.Scaled.{Picture, outputPixel, pixelAt}
-
--- a row of stores from the place k on, where another ends
-row-join : {A : Type 0} (l : List A) (at : ℕ) (f g : ℕ → A) (n k m : ℕ) → k ≡ at + n → ((i : ℕ) → i < m → g i ≡ f (n + i))
-    → storeRow (storeRow l at f n) k g m ≡ storeRow l at f (n + m)
-unfolding storeRow
-row-join l at f g n k zero e h = ap (storeRow l at f) (sym (add-zero n))
-row-join {A} l at f g n k (suc m) e h =
-    ap (λ (z : List A). set z (k + m) (g m)) (row-join l at f g n k m e (λ i q. h i (omega arith)))
-    ∙ ap₂ (set (storeRow l at f (n + m))) (omega arith) (h m (omega arith))
-    ∙ ap (storeRow l at f) (sym (add-suc n m))
 
 module _ (p : Picture) (w h y : ℕ) where
   -- the pixel at row y and column x stands at y × w + x

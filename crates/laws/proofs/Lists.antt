@@ -1,11 +1,11 @@
 -- Parts of a list that are taken and put back (`midOf a k xs`, `putMid a k xs ys`), and the stores of specs/Stores.antt: one more, their length, what
 -- stands inside and outside of them, and a store in a part said of the whole list.
-use mathlib.Core.Path.{_≡_, refl, sym, ap, _∙_}
+use mathlib.Core.Path.{_≡_, refl, sym, ap, ap₂, _∙_}
 use mathlib.Core.List.{List, [], _∷_, _++_, append-assoc}
 use mathlib.Core.Logic.{_⊎_, inl, inr, ⊎-elim}
 use Prim.Native.Nat.{ℕ, zero, suc, _+_, _*_, _-_, _≤_, _<_}
 use native.Mathlib.Decide.{decLt}
-use native.Mathlib.Nat.{mul-le-mul-right, zero-add, suc-add}
+use native.Mathlib.Nat.{mul-le-mul-right, zero-add, add-zero, suc-add, add-suc}
 use native.Mathlib.Numerals.{add-one}
 use native.Mathlib.Omega.{arith}
 use borrow.Rule.Slice.PartMut.{putMid, midOf, postOf, same-len-mid, put-same}
@@ -88,6 +88,15 @@ module _ {A : Type 0} where
   row-alike l at f g (suc n) h =
       ap (λ (z : List A). set z (at + n) (f n)) (row-alike l at f g n (λ i q. h i (omega arith)))
       ∙ ap (λ (x : A). set (storeRow l at g n) (at + n) x) (h n (omega arith))
+
+  -- a row that goes on at the place where another ends
+  pub row-join : (l : List A) (at : ℕ) (f g : ℕ → A) (n k m : ℕ) → k ≡ at + n → ((i : ℕ) → i < m → g i ≡ f (n + i)) → storeRow (storeRow l at f n) k g m ≡ storeRow l at f (n + m)
+  unfolding storeRow
+  row-join l at f g n k zero e h = ap (storeRow l at f) (sym (add-zero n))
+  row-join l at f g n k (suc m) e h =
+      ap (λ (z : List A). set z (k + m) (g m)) (row-join l at f g n k m e (λ i q. h i (omega arith)))
+      ∙ ap₂ (set (storeRow l at f (n + m))) (omega arith) (h m (omega arith))
+      ∙ ap (storeRow l at f) (sym (add-suc n m))
 
   pub row-out : (l : List A) (at : ℕ) (f : ℕ → A) (n k : ℕ) (d : A) → (k < at) ⊎ (at + n ≤ k) → getD (storeRow l at f n) k d ≡ getD l k d
   unfolding storeRow

@@ -1,57 +1,95 @@
--- Rows of stores as the code makes them: eight numbers at once, a row by runs, a block by rows. What is stored at a place is made of what stood there before.
-use mathlib.Core.Path.{_≡_, sym, ap, _∙_}
+-- Stores as the code makes them: eight numbers at once, a row by eights, a block by rows. What is stored at a place is made of what stood there before.
+use mathlib.Core.Path.{_≡_, refl, ap, ap₂, _∙_}
 use mathlib.Core.List.{List, [], _∷_}
 use mathlib.Core.Logic.{inr}
-use Prim.Native.Nat.{ℕ, zero, suc, _+_, _*_, _≤_, _<_}
-use native.Mathlib.Nat.{add-zero, add-suc, add-assoc, mul-le-mul}
+use Prim.Native.Nat.{ℕ, _+_, _*_, _-_, _%_, _≤_, _<_}
+use native.Mathlib.Nat.{add-zero, add-assoc, mul-le-mul}
 use native.Mathlib.Omega.{arith}
-use lib.ListN.{getD, set}
+use lib.ListN.{length, getD}
 use Rattle.laws.specs.Stores.{storeRow, storeRows}
-use Rattle.laws.proofs.Lists.{row-alike, row-out, rows-on, rows-fresh}
+use Rattle.laws.proofs.Lists.{length-row, row-alike, row-join, row-out, length-rows, rows-on, rows-fresh, last-row}
 
--- eight numbers that are those of f
-pub eight-row : (l : List ℕ) (at : ℕ) (f : ℕ → ℕ) {v0 v1 v2 v3 v4 v5 v6 v7 : ℕ} → v0 ≡ f 0 → v1 ≡ f 1 → v2 ≡ f 2 → v3 ≡ f 3 → v4 ≡ f 4 → v5 ≡ f 5 → v6 ≡ f 6 → v7 ≡ f 7
-    → storeRow l at (λ x. getD (v0 ∷ v1 ∷ v2 ∷ v3 ∷ v4 ∷ v5 ∷ v6 ∷ v7 ∷ []) x 0) 8 ≡ storeRow l at f 8
+-- ---- eight numbers: g makes each of what stood at its place and of the place it is read from
+
+pub eight-row : (l : List ℕ) (at from : ℕ) (g : ℕ → ℕ → ℕ) {now : List ℕ} {v0 v1 v2 v3 v4 v5 v6 v7 : ℕ} → now ≡ storeRow l at (λ x. getD (v0 ∷ v1 ∷ v2 ∷ v3 ∷ v4 ∷ v5 ∷ v6 ∷ v7 ∷ []) x 0) 8
+    → v0 ≡ g (getD l at 0) from → v1 ≡ g (getD l (at + 1) 0) (from + 1) → v2 ≡ g (getD l (at + 2) 0) (from + 2) → v3 ≡ g (getD l (at + 3) 0) (from + 3)
+    → v4 ≡ g (getD l (at + 4) 0) (from + 4) → v5 ≡ g (getD l (at + 5) 0) (from + 5) → v6 ≡ g (getD l (at + 6) 0) (from + 6) → v7 ≡ g (getD l (at + 7) 0) (from + 7)
+    → now ≡ storeRow l at (λ x. g (getD l (at + x) 0) (from + x)) 8
 unfolding storeRow
-eight-row l at f e0 e1 e2 e3 e4 e5 e6 e7 = rw (e0, e1, e2, e3, e4, e5, e6, e7)
+eight-row l at from g e e0 e1 e2 e3 e4 e5 e6 e7 = e ∙ rw (e0, e1, e2, e3, e4, e5, e6, e7, add-zero at, add-zero from)
 
--- a row that goes on
-row-more : (l : List ℕ) (at : ℕ) (f : ℕ → ℕ) (x k : ℕ) → storeRow (storeRow l at f x) (at + x) (λ i. f (x + i)) k ≡ storeRow l at f (x + k)
-unfolding storeRow
-row-more l at f x zero = ap (storeRow l at f) (sym (add-zero x))
-row-more l at f x (suc k) =
-    ap (λ (z : List ℕ). set z (at + x + k) (f (x + k))) (row-more l at f x k)
-    ∙ ap (λ (m : ℕ). set (storeRow l at f (x + k)) m (f (x + k))) (add-assoc at x k)
-    ∙ ap (storeRow l at f) (sym (add-suc x k))
+-- ---- a row by eights
 
-module _ (d : List ℕ) where
-  -- the turn of a loop that writes a row by runs of k
-  pub run-on : (at : ℕ) (g : ℕ → ℕ → ℕ) (x k : ℕ) (h : ℕ → ℕ) {before now : List ℕ} → before ≡ storeRow d at (λ i. g (getD d (at + i) 0) i) x → now ≡ storeRow before (at + x) h k
-      → ((i : ℕ) → h i ≡ g (getD before (at + x + i) 0) (x + i)) → now ≡ storeRow d at (λ i. g (getD d (at + i) 0) i) (x + k)
-  run-on at g x k h {before} e p same =
+-- x numbers of a row of `size` are written; g as above
+pub record Run (d : List ℕ) (at from : ℕ) (g : ℕ → ℕ → ℕ) (size : ℕ) (now : List ℕ) (x : ℕ) : Type 0 where
+  pub most : x ≤ size
+  pub eights : (x % 8 ≡ 0) × (size % 8 ≡ 0)
+  pub long : length now ≡ length d
+  pub is : now ≡ storeRow d at (λ i. g (getD d (at + i) 0) (from + i)) x
+
+module _ {d : List ℕ} {at from : ℕ} {g : ℕ → ℕ → ℕ} {size : ℕ} where
+  pub no-run : size % 8 ≡ 0 → Run d at from g size d 0
+  unfolding storeRow
+  no-run e = record { most = omega arith; eights = (refl, e); long = refl; is = refl }
+
+  -- the loop's turn
+  pub run-on : {before now : List ℕ} {x : ℕ} → Run d at from g size before x → x < size
+      → now ≡ storeRow before (at + x) (λ i. g (getD before (at + x + i) 0) (from + x + i)) 8 → Run d at from g size now (x + 8)
+  run-on {before} {now} {x} r h p =
+      let e : now ≡ storeRow d at (λ i. g (getD d (at + i) 0) (from + i)) (x + 8) =
       p
-      ∙ row-alike before (at + x) h (λ i. g (getD d (at + (x + i)) 0) (x + i)) k
+      ∙ ap (λ (z : List ℕ). storeRow z (at + x) (λ i. g (getD z (at + x + i) 0) (from + x + i)) 8) (r .is)
+      ∙ row-join d at (λ i. g (getD d (at + i) 0) (from + i)) (λ i. g (getD (storeRow d at (λ i. g (getD d (at + i) 0) (from + i)) x) (at + x + i) 0) (from + x + i)) x (at + x) 8 refl
       (λ i q.
-      same i
-      ∙ ap (λ (n : ℕ). g n (x + i))
-      (ap (λ (z : List ℕ). getD z (at + x + i) 0) e
-      ∙ row-out d at (λ i. g (getD d (at + i) 0) i) x (at + x + i) 0 (inr (omega arith))
-      ∙ ap (λ (m : ℕ). getD d m 0) (add-assoc at x i)))
-      ∙ ap (λ (z : List ℕ). storeRow z (at + x) (λ i. g (getD d (at + (x + i)) 0) (x + i)) k) e
-      ∙ row-more d at (λ i. g (getD d (at + i) 0) i) x k
+      ap₂ g (row-out d at (λ i. g (getD d (at + i) 0) (from + i)) x (at + x + i) 0 (inr (omega arith)) ∙ ap (λ (m : ℕ). getD d m 0) (add-assoc at x i)) (add-assoc from x i)) in
+      let k = r .eights in
+      record { most = omega arith; eights = (omega arith, k .1); long = ap length e ∙ length-row d at (λ i. g (getD d (at + i) 0) (from + i)) (x + 8); is = e }
 
-  -- the turn of a loop that writes a block by rows of b
-  pub line-on : (di dw b : ℕ) (g : ℕ → ℕ → ℕ → ℕ) (y : ℕ) {before now : List ℕ} → b ≤ dw → before ≡ storeRows d di dw b (λ y x. g (getD d (di + y * dw + x) 0) y x) y
-      → now ≡ storeRow before (di + y * dw) (λ x. g (getD before (di + y * dw + x) 0) y x) b → now ≡ storeRows d di dw b (λ y x. g (getD d (di + y * dw + x) 0) y x) (y + 1)
-  line-on di dw b g y {before} h e p =
-      rows-on d di dw b (λ y x. g (getD d (di + y * dw + x) 0) y x) y e
+  pub run-all : {now : List ℕ} {x : ℕ} → Run d at from g size now x → size ≤ x → now ≡ storeRow d at (λ i. g (getD d (at + i) 0) (from + i)) size
+  run-all {now} {x} r h = let e : x ≡ size = omega arith in r .is ∙ ap (storeRow d at (λ i. g (getD d (at + i) 0) (from + i))) e
+
+-- ---- a block by rows
+
+-- y rows of a block of n rows of b are written, which begins at di in rows of dw; g makes each number of what stood at its place, and of its row and column
+pub record Lines (d : List ℕ) (di dw b n : ℕ) (g : ℕ → ℕ → ℕ → ℕ) (now : List ℕ) (y : ℕ) : Type 0 where
+  pub wide : b ≤ dw
+  pub fit : di + (n - 1) * dw + b ≤ length d
+  pub most : y ≤ n
+  pub long : length now ≡ length d
+  pub is : now ≡ storeRows d di dw b (λ y x. g (getD d (di + y * dw + x) 0) y x) y
+
+module _ {d : List ℕ} {di dw b n : ℕ} {g : ℕ → ℕ → ℕ → ℕ} where
+  pub no-line : b ≤ dw → di + (n - 1) * dw + b ≤ length d → Lines d di dw b n g d 0
+  unfolding storeRows
+  no-line h f = record { wide = h; fit = f; most = omega arith; long = refl; is = refl }
+
+  -- the next row lies in the list
+  pub in-line : {now : List ℕ} {y : ℕ} → Lines d di dw b n g now y → y < n → di + y * dw + b ≤ length d
+  in-line {now} {y} l q = last-row di dw b n (length d) (l .fit) y q
+
+  -- the loop's turn
+  pub line-on : {before now : List ℕ} {y : ℕ} → Lines d di dw b n g before y → y < n
+      → now ≡ storeRow before (di + y * dw) (λ x. g (getD before (di + y * dw + x) 0) y x) b → Lines d di dw b n g now (y + 1)
+  line-on {before} {now} {y} l q p =
+      let e : now ≡ storeRows d di dw b (λ y x. g (getD d (di + y * dw + x) 0) y x) (y + 1) =
+      rows-on d di dw b (λ y x. g (getD d (di + y * dw + x) 0) y x) y (l .is)
       (p
       ∙ row-alike before (di + y * dw) (λ x. g (getD before (di + y * dw + x) 0) y x) (λ x. g (getD d (di + y * dw + x) 0) y x) b
       (λ x q.
       ap (λ (n : ℕ). g n y x)
-      (ap (λ (z : List ℕ). getD z (di + y * dw + x) 0) e
-      ∙ rows-fresh d di dw b (λ y x. g (getD d (di + y * dw + x) 0) y x) y (di + y * dw + x) 0 h (omega arith))))
+      (ap (λ (z : List ℕ). getD z (di + y * dw + x) 0) (l .is)
+      ∙ rows-fresh d di dw b (λ y x. g (getD d (di + y * dw + x) 0) y x) y (di + y * dw + x) 0 (l .wide) (omega arith)))) in
+      record {
+        wide = l .wide;
+        fit = l .fit;
+        most = omega arith;
+        long = ap length e ∙ length-rows d di dw b (λ y x. g (getD d (di + y * dw + x) 0) y x) (y + 1);
+        is = e;
+      }
+
+  pub lines-all : {now : List ℕ} {y : ℕ} → Lines d di dw b n g now y → n ≤ y → now ≡ storeRows d di dw b (λ y x. g (getD d (di + y * dw + x) 0) y x) n
+  lines-all {now} {y} l h = let e : y ≡ n = omega arith in l .is ∙ ap (storeRows d di dw b (λ y x. g (getD d (di + y * dw + x) 0) y x)) e
 
 -- the rows of a predicted block lie in 256 bytes
-pub in-block : (size y : ℕ) → size ≤ 16 → y < size → y * size + size ≤ 256
+pub in-block : (size y : ℕ) → size ≤ 16 → y < 16 → y * size + size ≤ 256
 in-block size y h q = let r : y + 1 ≤ 16 = omega arith in omega (arith, mul-le-mul r h)

@@ -1,8 +1,5 @@
 -- `planes::plane_length` meets its contract.
-use mathlib.Core.Path.{sym, ap}
 use borrow.Author.Needs.{needs}
-use Rattle.prediction.specs.declared.planes.Plane.{Plane}
-use Rattle.prediction.specs.Planes.{planeLength}
 use Rattle.prediction.proofs.planes.plane_length.Statement.{statement}
 use Rattle.prediction.proofs.planes.plane_length.Tie as tie
 
@@ -25,13 +22,13 @@ mul-result-3 : tie.Need-mul-result-3
 mul-result-3 c = search needs
 
 returns : tie.Need-returns
-returns c = ap (λ (q : Plane). planeLength q (c .before .before .args .n)) (sym (c .enum-told .given .1))
+returns c = rw (c .enum-told .given .1)
 
 returns-2 : tie.Need-returns-2
-returns-2 c = ap (λ (q : Plane). planeLength q (c .before .before .args .n)) (sym (c .enum-told2 .given .1))
+returns-2 c = rw (c .enum-told2 .given .1)
 
 returns-3 : tie.Need-returns-3
-returns-3 c = ap (λ (q : Plane). planeLength q (c .before .before .args .n)) (sym (c .enum-told3 .given .1))
+returns-3 c = rw (c .enum-told3 .given .1)
 
 pub plane-length-spec : {M : Type 1} → statement M
 plane-length-spec =

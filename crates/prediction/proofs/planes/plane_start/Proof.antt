@@ -1,11 +1,6 @@
 -- `planes::plane_start` meets its contract.
-use mathlib.Core.Path.{sym, ap, _∙_}
-use Prim.Native.Nat.{_*_}
-use native.Mathlib.Nat.{add-zero}
 use native.Mathlib.Omega.{arith}
 use borrow.Author.Needs.{needs}
-use Rattle.prediction.specs.declared.planes.Plane.{Plane}
-use Rattle.prediction.specs.Planes.{planeStart}
 use Rattle.prediction.proofs.Macroblocks.{store-most}
 use Rattle.prediction.proofs.planes.plane_start.Statement.{statement}
 use Rattle.prediction.proofs.planes.plane_start.Tie as tie
@@ -38,15 +33,13 @@ add-result-2 : tie.Need-add-result-2
 add-result-2 c = let s = c .before .before in omega (arith, store-most (s .args .k) (s .args .n) (s .pre .0))
 
 returns : tie.Need-returns
-returns c =
-    let a = c .before .before .args in
-    sym (add-zero (a .k * (384 * a .n))) ∙ ap (λ (q : Plane). planeStart (a .k) q (a .n)) (sym (c .enum-told .given .1))
+returns c = rw (c .enum-told .given .1) (omega arith)
 
 returns-2 : tie.Need-returns-2
-returns-2 c = let a = c .before .before .args in ap (λ (q : Plane). planeStart (a .k) q (a .n)) (sym (c .enum-told2 .given .1))
+returns-2 c = rw (c .enum-told2 .given .1)
 
 returns-3 : tie.Need-returns-3
-returns-3 c = let a = c .before .before .args in ap (λ (q : Plane). planeStart (a .k) q (a .n)) (sym (c .enum-told3 .given .1))
+returns-3 c = rw (c .enum-told3 .given .1)
 
 pub plane-start-spec : {M : Type 1} → statement M
 plane-start-spec =

@@ -6,7 +6,6 @@ use denote.Ref.{now}
 use lib.IntN.{ℤ}
 use mir.Facts.{toZ-ofZ}
 use Rattle.prediction.specs.declared.place.Way.{Way}
-use Rattle.prediction.specs.declared.place.Way.the-variants.{Alone, Past, Copied}
 use Rattle.prediction.specs.Planes.{After, follow}
 use Rattle.prediction.specs.Predict.{bytes, way, predicted}
 use Rattle.prediction.proofs.Ways.{copied-in}
@@ -18,6 +17,13 @@ way-is c = c .way-of .ensures ∙ ap₂ (way (c .before .before .args .p)) (toZ-
 
 abbrev did : tie.Start → Way → After
 did s w = follow w (s .args .p) (s .args .from) (s .args .to) (s .args .h) (s .args .v) (s .args .interpolate) (now (s .args .store))
+
+-- what is done by the way that was found is what is to be done
+answered : (c : tie.After-way-of) {w : Way} → w ≡ c .way-of .result
+    → let s = c .before .before in let o = did s (way (s .args .p) (s .args .h) (s .args .v)) in (did s w .answer ≡ o .answer) × (did s w .store ≡ o .store)
+answered c e =
+    let s = c .before .before in
+    (ap (λ (w : Way). did s w .answer) (e ∙ way-is c), ap (λ (w : Way). did s w .store) (e ∙ way-is c))
 
 way-of-requires : tie.Need-way-of-requires
 way-of-requires c κs = search needs
@@ -41,17 +47,11 @@ copy-block-requires c κs =
 
 returns : tie.Need-returns
 unfolding follow
-returns c =
-    let s = c .before .before .before .before in
-    let e : Alone ≡ way (s .args .p) (s .args .h) (s .args .v) = sym (c .enum-told .given .1) ∙ way-is (c .before .before) in
-    (ap (λ (w : Way). did s w .answer) e, ap (λ (w : Way). did s w .store) e)
+returns c = answered (c .before .before) (sym (c .enum-told .given .1))
 
 returns-2 : tie.Need-returns-2
 unfolding follow
-returns-2 c =
-    let s = c .before .before .before .before in
-    let e : Past ≡ way (s .args .p) (s .args .h) (s .args .v) = sym (c .enum-told2 .given .1) ∙ way-is (c .before .before) in
-    (ap (λ (w : Way). did s w .answer) e, ap (λ (w : Way). did s w .store) e)
+returns-2 c = answered (c .before .before) (sym (c .enum-told2 .given .1))
 
 same-length : tie.Need-same-length
 same-length c = search needs
@@ -59,13 +59,13 @@ same-length c = search needs
 returns-3 : tie.Need-returns-3
 unfolding follow
 returns-3 c =
-    let s = c .before .before .before .before .before .before .before .before .before in
-    let at = c .before .before .before .before .before .at .given .0 .0 in
-    let e : Copied at ≡ way (s .args .p) (s .args .h) (s .args .v) = sym (c .before .before .before .before .before .at .given .1) ∙ way-is (c .before .before .before .before .before .before .before) in (
-      ap (λ (w : Way). did s w .answer) e,
+    let g = c .before .before .before .before .before in
+    let s = g .before .before .before .before in
+    let w = answered (g .before .before) (sym (g .at .given .1)) in (
+      w .0,
       c .before .before .copy-block .ensures
-          ∙ ap₂ (λ (h v : ℤ). putMid (s .args .to) (bytes (s .args .p)) (now (s .args .store)) (predicted (s .args .p) (midOf (s .args .from) (bytes (s .args .p)) (now (s .args .store))) (midOf (s .args .to) (bytes (s .args .p)) (now (s .args .store))) h v (s .args .interpolate) at)) (toZ-ofZ (s .fits .h)) (toZ-ofZ (s .fits .v))
-          ∙ ap (λ (w : Way). did s w .store) e,
+          ∙ ap₂ (λ (h v : ℤ). putMid (s .args .to) (bytes (s .args .p)) (now (s .args .store)) (predicted (s .args .p) (midOf (s .args .from) (bytes (s .args .p)) (now (s .args .store))) (midOf (s .args .to) (bytes (s .args .p)) (now (s .args .store))) h v (s .args .interpolate) (g .at .given .0 .0))) (toZ-ofZ (s .fits .h)) (toZ-ofZ (s .fits .v))
+          ∙ w .1,
     )
 
 pub predict-plane-spec : {M : Type 1} → statement M

@@ -1,76 +1,50 @@
 -- `writers::block_set_add` meets its contract: each turn of the loop writes a row.
-use mathlib.Core.Path.{_≡_, refl, ap, _∙_}
-use mathlib.Core.List.{List}
-use Prim.Native.Nat.{ℕ, _+_, _*_, _-_, _≤_}
+use Prim.Native.Nat.{_+_, _*_, _-_}
 use native.Mathlib.Omega.{arith}
-use borrow.Author.Needs.{needs}
-use denote.Ref.{now}
-use lib.IntN.{ℤ, pos, _+ℤ_}
-use lib.ListN.{length, getD}
+use lib.IntN.{pos, _+ℤ_}
+use lib.ListN.{getD}
 use Rattle.laws.specs.Signed.{clamp255}
-use Rattle.laws.specs.Stores.{storeRows}
-use Rattle.laws.proofs.Lists.{length-rows, last-row}
 use Rattle.prediction.specs.Writers.{addBlock}
-use Rattle.prediction.proofs.Lines.{line-on}
+use Rattle.prediction.proofs.Lines.{Lines, no-line, in-line, line-on, lines-all}
 use Rattle.prediction.proofs.writers.block_set_add.Statement.{statement}
 use Rattle.prediction.proofs.writers.block_set_add.Tie as tie
 
--- what row y stores at x, made of what stood there
-abbrev g : List ℤ → ℕ → ℕ → ℕ → ℕ
-g s old y x = clamp255 (pos old +ℤ getD s (y * 8 + x) (pos 0))
-
-abbrev rows : List ℕ → ℕ → ℕ → List ℤ → ℕ → List ℕ
-rows d di dw s = storeRows d di dw 8 (λ y x. g s (getD d (di + y * dw + x) 0) y x)
-
 abbrev Inv-loop : tie.InvT-loop
-Inv-loop d₀ di dw s y₀ d y = (y ≤ 8) × (length d ≡ length d₀) × (d ≡ rows d₀ di dw s y)
+Inv-loop d₀ di dw s y₀ d y = Lines d₀ di dw 8 8 (λ old y x. clamp255 (pos old +ℤ getD s (y * 8 + x) (pos 0))) d y
 
 abbrev μ-loop : tie.MeasureT-loop
 μ-loop d₀ di dw s y₀ d y = 8 - y
 
 loop-holds : tie.Need-loop-holds Inv-loop μ-loop
-unfolding storeRows
-loop-holds c = (omega arith, refl, refl)
-
-inside : (c : tie.In-loop Inv-loop μ-loop) → let a = c .before .before .before .args in a .di + c .before .loop .y * a .dw + 8 ≤ length (now (a .d))
-inside c =
-    let a = c .before .before .before .args in
-    last-row (a .di) (a .dw) 8 8 (length (now (a .d))) (omega arith) (c .before .loop .y) (c .loop-test .taken)
+loop-holds c = no-line (omega arith) (omega arith)
 
 mul-add-row : tie.Need-mul-add-row Inv-loop μ-loop
-mul-add-row c = omega (arith, inside (c .before))
+mul-add-row c = omega (arith, in-line (c .before .before .loop .inv) (c .before .loop-test .taken))
 
 add-add-row : tie.Need-add-add-row Inv-loop μ-loop
-add-add-row c = omega (arith, inside (c .before))
+add-add-row c = omega (arith, in-line (c .before .before .loop .inv) (c .before .loop-test .taken))
 
 mul-add-row-2 : tie.Need-mul-add-row-2 Inv-loop μ-loop
-mul-add-row-2 c = search needs
+mul-add-row-2 c = omega arith
 
 add-row-requires : tie.Need-add-row-requires Inv-loop μ-loop
-add-row-requires c κs = let s = c .before .before .before .before in (omega (arith, inside (c .before)), (omega (arith, inside (c .before)), s .pre .1 .1))
+add-row-requires c κs = (omega (arith, in-line (c .before .before .loop .inv) (c .before .loop-test .taken)), (omega arith, c .before .before .before .before .pre .1 .1))
 
 add-y : tie.Need-add-y Inv-loop μ-loop
-add-y c = search needs
+add-y c = omega arith
 
 loop-less : tie.Need-loop-less Inv-loop μ-loop
-loop-less c = search needs
+loop-less c = omega arith
 
 loop-again : tie.Need-loop-again Inv-loop μ-loop
-loop-again c =
-    let l = c .before .before .before .before .before in
-    let a = l .before .before .args in
-    let e = line-on (now (a .d)) (a .di) (a .dw) 8 (g (now (a .s))) (l .loop .y) (omega arith) (l .loop .inv .2) (c .before .before .add-row .ensures) in
-    (omega arith, ap length e ∙ length-rows (now (a .d)) (a .di) (a .dw) 8 (λ y x. g (now (a .s)) (getD (now (a .d)) (a .di + y * a .dw + x) 0) y x) (l .loop .y + 1), e)
+loop-again c = let t = c .before .before .before .before in line-on (t .before .loop .inv) (t .loop-test .taken) (c .before .before .add-row .ensures)
 
 same-length : tie.Need-same-length Inv-loop μ-loop
-same-length c = c .before .loop .inv .1
+same-length c = c .before .loop .inv .long
 
 returns : tie.Need-returns Inv-loop μ-loop
 unfolding addBlock
-returns c =
-    let a = c .before .before .before .args in
-    let e : c .before .loop .y ≡ 8 = omega arith in
-    c .before .loop .inv .2 ∙ ap (rows (now (a .d)) (a .di) (a .dw) (now (a .s))) e
+returns c = lines-all (c .before .loop .inv) (c .loop-test .left)
 
 pub block-set-add-spec : {M : Type 1} → statement M
 block-set-add-spec =

@@ -4,7 +4,7 @@ use mathlib.Core.List.{List, [], _∷_}
 use Prim.Native.Nat.{ℕ, _*_, _≤_}
 use native.Mathlib.Omega.{arith}
 use borrow.Author.Needs.{needs}
-use lib.IntN.{ℤ, pos, _+ℤ_, _*ℤ_}
+use lib.IntN.{pos, _+ℤ_, _*ℤ_}
 use lib.Signed.{shrZ}
 use mir.Syntax.{w32}
 use Rattle.laws.proofs.Exprs.{Exp, var, shr, _⊹_, _×̇_, Input, natural, signed, need, value}
