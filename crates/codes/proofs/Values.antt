@@ -11,3 +11,8 @@ use Rattle.codes.proofs.Vlc.{vlc-passes}
 pub at-most : (n : ℕ) (ix vs : List ℤ) → T (every (λ k z. leb (natAbs z) n) 0 vs) → {s : List ℕ} {a e : ℕ} {v : ℤ}
     → Runs (vlc ix vs (pos 0)) s a v e → natAbs v ≤ n
 at-most n ix vs all r = leb→le _ _ (vlc-passes ix vs (pos 0) r (λ z. leb (natAbs z) n) (le→leb 0 n zero-le) all)
+
+-- so what `read_vlc` ensures gives what the functions of the tables ensure
+pub bounded : (n : ℕ) (ix vs : List ℤ) → T (every (λ k z. leb (natAbs z) n) 0 vs) → {s : List ℕ} {a e : ℕ} {v : ℤ}
+    → Runs (vlc ix vs (pos 0)) s a v e × (e ≤ 134217728) → Runs (vlc ix vs (pos 0)) s a v e × ((e ≤ 134217728) × (natAbs v ≤ n))
+bounded n ix vs all r = (r .0, (r .1, at-most n ix vs all (r .0)))

@@ -1,12 +1,11 @@
 -- RULES 2.2: the walk through a code table, a bit at a time, as a program over reads.
 use Prim.Native.Nat.{ℕ, _+_}
 use mathlib.Core.List.{List}
-use mathlib.Core.Bool.{cond}
 use lib.ListN.{length, getD}
 use lib.IntN.{ℤ, pos, natAbs}
 use lib.Signed.{leZ}
 use Rattle.laws.specs.Turns.{Turn, again, stop}
-use Rattle.bits.specs.Programs.{Prog, done, bind, bits, loop, _>>=_, _>>_, if_then_else_}
+use Rattle.bits.specs.Programs.{Prog, done, bits, loop, _>>=_, if_then_else_}
 
 -- one bit: on to a further pair of entries, or the end of the walk at an entry
 unfoldable pub walkTurn : List ℤ → ℕ → Prog (Turn ℕ ℕ)

@@ -22,10 +22,9 @@ use crate::walk::VlcUint;
 use crate::walk::read_vlc;
 use crate::walk::read_vlc_uint;
 use bits::reader::Reader;
-ghost use mathlib.Core.Path.{_≡_};
 ghost use Prim.Native.Nat.{_≤_};
 ghost use lib.ListN.{length};
-ghost use lib.IntN.{pos, natAbs};
+ghost use lib.IntN.{natAbs};
 ghost use Rattle.bits.specs.Runs.{Runs};
 ghost use Rattle.codes.specs.Codes.{macroblockAddressIncrement, macroblockTypeIntra, macroblockTypePredictive, macroblockTypeB, codeBlockPattern, motion, dctSizeLuminance, dctSizeChrominance, dctCoeff};
 

@@ -6,12 +6,6 @@ use Rattle.codes.proofs.Good.{good-dct-coeff}
 use Rattle.codes.proofs.codes.read_dct_coeff.Statement.{statement}
 use Rattle.codes.proofs.codes.read_dct_coeff.Tie as tie
 
-slice-aggregate-read-vlc-uint : tie.Need-slice-aggregate-read-vlc-uint
-slice-aggregate-read-vlc-uint c = search needs
-
-slice-aggregate-read-vlc-uint-2 : tie.Need-slice-aggregate-read-vlc-uint-2
-slice-aggregate-read-vlc-uint-2 c = search needs
-
 read-vlc-uint-requires : tie.Need-read-vlc-uint-requires
 unfolding dctCoeffIndex
 read-vlc-uint-requires c κs = let p = c .before .before .before .pre in (p .0, (p .1, (good-dct-coeff, refl)))
@@ -21,6 +15,4 @@ unfolding dctCoeff dctCoeffIndex dctCoeffValue
 returns c = c .read-vlc-uint .ensures
 
 pub read-dct-coeff-spec : {M : Type 1} → statement M
-read-dct-coeff-spec =
-    tie.close
-    (tie.spec slice-aggregate-read-vlc-uint slice-aggregate-read-vlc-uint-2 read-vlc-uint-requires returns)
+read-dct-coeff-spec = tie.close (tie.spec (λ c. search needs) (λ c. search needs) read-vlc-uint-requires returns)
