@@ -1,5 +1,5 @@
 -- A pass of the transform: the step on one lane after the other, each read and written back. Lane i starts at start i; its numbers are step apart.
-use mathlib.Core.Path.{_≡_, refl, sym, ap, _∙_}
+use mathlib.Core.Path.{_≡_, refl, sym, ap, _∙_, subst}
 use mathlib.Core.List.{List}
 use mathlib.Core.Logic.{_⊎_, inl, inr}
 use Prim.Native.Nat.{ℕ, _+_, _*_, _≤_, _<_}
@@ -39,8 +39,12 @@ module _ {start : ℕ → ℕ} {step : ℕ} (L : Lanes start step) (f : Eight �
 
   module _ {a : List ℤ} {i : ℕ} (inv : After a i) (h : i < 8) where
     -- the lane that is read is as it was
-    pub fresh : lane a (start i) step ≡ lane l (start i) step
+    fresh : lane a (start i) step ≡ lane l (start i) step
     fresh = eight-same (λ k. at a (start i + k * step)) (λ k. at l (start i + k * step)) (λ k q. inv .left i k (omega arith) h q)
+
+    -- so what holds of it holds of what is read
+    pub kept : (P : Eight → Type 0) {e : Eight} → e ≡ lane a (start i) step → P (lane l (start i) step) → P e
+    kept P r = subst P (sym (r ∙ fresh))
 
     -- the block with the lane written back
     abbrev put : Eight → List ℤ

@@ -1,10 +1,9 @@
-use mathlib.Core.Path.{sym, ap, _∙_, subst}
+use mathlib.Core.Path.{ap, _∙_}
 use Prim.Native.Nat.{_-_}
 use native.Mathlib.Omega.{arith}
-use Rattle.transform.specs.declared.butterfly.Eight.{Eight}
 use Rattle.transform.specs.Butterfly.{nth, butterfly}
 use Rattle.transform.specs.Bounds.{AtMost, inputSize}
-use Rattle.transform.proofs.Passes.{After, start-pass, fresh, turn-pass, by-columns, end-columns}
+use Rattle.transform.proofs.Passes.{After, start-pass, kept, turn-pass, by-columns, end-columns}
 use Rattle.transform.proofs.Sizes.{column-within}
 use Rattle.transform.proofs.idct.columns.Statement.{statement}
 use Rattle.transform.proofs.idct.columns.Tie as tie
@@ -26,8 +25,7 @@ butterfly-requires c κs =
     let l = c .before .before .before in
     let s = l .before in
     let h = c .before .before .loop-test .taken in
-    subst (λ (e : Eight). AtMost 8 inputSize (nth e)) (sym (c .lane .ensures ∙ fresh by-columns butterfly (s .args .block .now) (l .loop .inv) h))
-    (column-within (s .args .block .now) (s .pre .1) (l .loop .i) h)
+    kept by-columns butterfly (s .args .block .now) (l .loop .inv) h (λ e. AtMost 8 inputSize (nth e)) (c .lane .ensures) (column-within (s .args .block .now) (s .pre .1) (l .loop .i) h)
 
 put-lane-requires : tie.Need-put-lane-requires Inv-loop μ-loop
 put-lane-requires c κs = omega arith

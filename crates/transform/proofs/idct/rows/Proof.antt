@@ -4,7 +4,7 @@ use native.Mathlib.Omega.{arith}
 use Rattle.transform.specs.declared.butterfly.Eight.{Eight}
 use Rattle.transform.specs.Butterfly.{eight, nth, over256, butterfly}
 use Rattle.transform.specs.Bounds.{AtMost, inputSize, outputSize}
-use Rattle.transform.proofs.Passes.{After, start-pass, fresh, turn-pass, by-rows, row-step, end-rows}
+use Rattle.transform.proofs.Passes.{After, start-pass, kept, turn-pass, by-rows, row-step, end-rows}
 use Rattle.transform.proofs.Sizes.{row-within, outputs-within}
 use Rattle.transform.proofs.idct.rows.Statement.{statement}
 use Rattle.transform.proofs.idct.rows.Tie as tie
@@ -29,8 +29,7 @@ butterfly-requires c κs =
     let l = c .before .before .before in
     let s = l .before in
     let h = c .before .before .loop-test .taken in
-    subst (λ (e : Eight). AtMost 8 inputSize (nth e)) (sym (c .lane .ensures ∙ fresh by-rows row-step (s .args .block .now) (l .loop .inv) h))
-    (row-within (s .args .block .now) (s .pre .1) (l .loop .i) h)
+    kept by-rows row-step (s .args .block .now) (l .loop .inv) h (λ e. AtMost 8 inputSize (nth e)) (c .lane .ensures) (row-within (s .args .block .now) (s .pre .1) (l .loop .i) h)
 
 rounded-requires : tie.Need-rounded-requires Inv-loop μ-loop
 rounded-requires c κs =
