@@ -1,6 +1,7 @@
 pub mod Bits
 pub mod Codes
 pub mod Fuel
+pub mod Gives
 pub mod Local
 pub mod Programs
 pub mod Rules

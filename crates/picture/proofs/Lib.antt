@@ -1,3 +1,8 @@
-pub mod Stops
 pub mod Example
+pub mod Increments
+pub mod Kept
+pub mod Lengths
 pub mod Places
+pub mod Possible
+pub mod Stops
+pub mod Syntax

@@ -1,0 +1,196 @@
+-- What is read keeps a possible state possible: scale, vectors, the coefficients of a block, a picture's header. Assumes nothing.
+use mathlib.Core.Path.{_≡_, ap}
+use mathlib.Core.Bool.{Bool, true, _&&_, _||_}
+use mathlib.Core.List.{List}
+use Prim.Native.Nat.{ℕ, _+_, _≤_, _<_}
+use native.Mathlib.Nat.{mul-le-mul-right}
+use native.Mathlib.Omega.{arith}
+use lib.Dec.{eqb, ltb}
+use lib.IntN.{ℤ, pos, negℤ, natAbs, _*ℤ_}
+use lib.ListN.{getD, replicate, getD-replicate}
+use lib.Pow.{pow-mono}
+use lib.Signed.{ltZ, shrZ}
+use Rattle.laws.proofs.Ints.{v, lit, neg, lt-no, abs-by}
+use Rattle.laws.proofs.Nums.{mul-abs}
+use Rattle.bits.specs.Programs.{run}
+use Rattle.bits.proofs.Gives.{Gives, Turned, by-case, g-done, g-any, g-bind, g-if, g-loop, g-bits}
+use Rattle.codes.specs.Matrices.{zigZag, premultiplierMatrix}
+use Rattle.motion.specs.Displacement.{InRange}
+use Rattle.motion.specs.Vector.{displacement, motionVector}
+use Rattle.motion.proofs.Correction.{corrected-in}
+use Rattle.motion.proofs.OneStep.{displacement-small, step-is}
+use Rattle.coefficients.specs.declared.coefficient.Coefficient.{Coefficient}
+use Rattle.coefficients.specs.declared.coefficient.Coefficient.the-variants.{EndOfBlock, RunLevel}
+use Rattle.coefficients.specs.declared.block.BlockEnd.{BlockEnd}
+use Rattle.coefficients.specs.declared.block.BlockEnd.the-variants.{Whole, Dropped, Outside}
+use Rattle.coefficients.specs.Coefficients.{coefficient}
+use Rattle.coefficients.specs.Dcs.{dc, dcInside}
+use Rattle.coefficients.specs.Dequantise.{doubled, madeOdd, clipped, dequantised}
+use Rattle.coefficients.specs.Blocks.{Bounded, Quantiser, Filled, Coded, Read, placed, taken, coefficientTurn, coefficients, intraBlock, nonIntraBlock, block, leftOver}
+use Rattle.coefficients.proofs.Bounds.{bounded-set, bounded-dc, bounded-zero}
+use Rattle.picture.specs.declared.state.Motion.{Motion}
+use Rattle.picture.specs.declared.state.Slice.{Slice}
+use Rattle.picture.specs.declared.state.Picture.{Picture}
+use Rattle.picture.specs.State.{zeroed, isSetAs, scaleAs, motionsAs, dcReset, blockAs, typeAs, sliceAs}
+use Rattle.picture.specs.Heads.{flag, isIntra, scale, vector, forward, backward, vectors, flagged, still, head}
+use Rattle.picture.specs.Pictures.{Direction, direction, Headed, backwardHeader, forwardHeader, pictureHeader}
+use Rattle.picture.proofs.Possible.{PossibleMotion, PossibleSlice, PossiblePicture}
+
+-- ---- changes of a state
+
+zeroed-kept : {m : Motion} → PossibleMotion m → PossibleMotion (zeroed m)
+zeroed-kept k = record { size = k .size; h = record { low = record { le = tt }; high = record { lt = tt } }; v = record { low = record { le = tt }; high = record { lt = tt } } }
+
+set-kept : {m : Motion} (b : Bool) → PossibleMotion m → PossibleMotion (isSetAs b m)
+set-kept b k = record { size = k .size; h = k .h; v = k .v }
+
+module _ {s : Slice} (k : PossibleSlice s) where
+  scale-kept : {q : ℕ} → q ≤ 31 → PossibleSlice (scaleAs q s)
+  scale-kept h = record { scale = h; address = k .address; forward = k .forward; backward = k .backward; predictors = k .predictors; block = k .block }
+
+  pub motions-kept : {f b : Motion} → PossibleMotion f → PossibleMotion b → PossibleSlice (motionsAs f b s)
+  motions-kept f b = record { scale = k .scale; address = k .address; forward = f; backward = b; predictors = k .predictors; block = k .block }
+
+  pub block-kept : {d c : List ℤ} → ((i : ℕ) → i < 3 → dcInside (getD d i (pos 0)) ≡ true) → Bounded c → PossibleSlice (blockAs d c s)
+  block-kept d c = record { scale = k .scale; address = k .address; forward = k .forward; backward = k .backward; predictors = d; block = c }
+
+  pub still-kept : PossibleSlice (still s)
+  still-kept = motions-kept (zeroed-kept (k .forward)) (zeroed-kept (k .backward))
+
+  flagged-kept : (t : ℕ) → PossibleSlice (flagged t s)
+  flagged-kept t = motions-kept (set-kept (flag t 8) (k .forward)) (set-kept (flag t 4) (k .backward))
+
+-- the DC predictors at 128
+pub predictors-reset : (i : ℕ) → i < 3 → dcInside (getD (replicate 3 (pos 128)) i (pos 0)) ≡ true
+predictors-reset i h = ap dcInside (getD-replicate 3 i (pos 128) (pos 0) h)
+
+pub reset-kept : {s : Slice} → PossibleSlice s → PossibleSlice (dcReset s)
+reset-kept k = block-kept k predictors-reset (k .block)
+
+module _ {s : List ℕ} where
+  -- ---- the head of a macroblock
+
+  component-in : (r : ℕ) (z : ℤ) → r ≤ 6 → InRange 64 z → Gives s (InRange 64) (motionVector r z)
+  component-in r z h i = record { value = λ a. rw (step-is r z s a) (corrected-in (run (displacement r) s a .value) (pow-mono h) (displacement-small r s a) i) }
+
+  vector-gives : {m : Motion} → PossibleMotion m → Gives s PossibleMotion (vector m)
+  unfolding vector
+  vector-gives {m} k =
+      g-bind _ (component-in (m .«r_size») (m .h) (k .size) (k .h)) (λ h i.
+      g-bind _ (component-in (m .«r_size») (m .v) (k .size) (k .v)) (λ v j. g-done (record { size = k .size; h = i; v = j })))
+
+  forward-gives : (type : ℕ) {m : Motion} → PossibleMotion m → Gives s PossibleMotion (forward type m)
+  unfolding forward
+  forward-gives type {m} k = g-if (m .«is_set») (λ e. vector-gives k) (λ e. g-if (eqb type 2) (λ e. g-done (zeroed-kept k)) (λ e. g-done k))
+
+  backward-gives : {m : Motion} → PossibleMotion m → Gives s PossibleMotion (backward m)
+  unfolding backward
+  backward-gives {m} k = g-if (m .«is_set») (λ e. vector-gives k) (λ e. g-done k)
+
+  vectors-give : (type : ℕ) {x : Slice} → PossibleSlice x → Gives s PossibleSlice (vectors type x)
+  unfolding vectors
+  vectors-give type k = g-bind _ (forward-gives type (k .forward)) (λ f i. g-bind _ (backward-gives (k .backward)) (λ b j. g-done (motions-kept k i j)))
+
+  scale-gives : (t : ℕ) {x : Slice} → PossibleSlice x → Gives s PossibleSlice (scale t x)
+  unfolding scale
+  scale-gives t k = g-if (flag t 16) (λ e. g-bind _ (g-bits 5) (λ q h. g-done (scale-kept k (omega arith)))) (λ e. g-done k)
+
+  pub head-gives : (type t : ℕ) {x : Slice} → PossibleSlice x → Gives s PossibleSlice (head type t x)
+  unfolding head
+  head-gives type t k =
+      g-bind _ (scale-gives t (flagged-kept k t)) (λ q i. g-if (isIntra t) (λ e. g-done (still-kept i)) (λ e. vectors-give type (reset-kept i)))
+
+-- ---- a block
+
+clipped-small : (x : ℤ) → natAbs (clipped x) ≤ 2048
+clipped-small x =
+    by-case (λ z. natAbs z ≤ 2048) (ltZ x (negℤ (pos 2048))) (λ e. omega arith) (λ e.
+    by-case (λ z. natAbs z ≤ 2048) (ltZ (pos 2047) x) (λ g. omega arith) (λ g.
+    abs-by 2048 (v x) (omega (arith, lt-no (lit 2047) (v x) g)) (omega (arith, lt-no (v x) (neg (lit 2048)) e))))
+
+dequantised-small : (intra : Bool) (level : ℤ) (scale entry : ℕ) → natAbs (dequantised intra level scale entry) ≤ 2048
+unfolding dequantised
+dequantised-small intra level scale entry = clipped-small (madeOdd (shrZ (doubled intra level *ℤ pos scale *ℤ pos entry) 16))
+
+placed-bounded : (q : Quantiser) (f : Filled) (n : ℕ) (level : ℤ) → Bounded (f .coefficients) → Bounded (placed q f n level .coefficients)
+placed-bounded q f n level b =
+    let place = getD zigZag n 0 in
+    let entry = getD (q .matrix) place 0 in
+    let factor = getD premultiplierMatrix place (pos 0) in
+    bounded-set place _
+    (omega (arith, mul-abs (dequantised (q .intra) level (q .scale) entry) factor, mul-le-mul-right (natAbs factor) (dequantised-small (q .intra) level (q .scale) entry))) b
+
+abbrev Within : Coded → Type 0
+Within c = Bounded (c .filled .coefficients)
+
+-- the predictor inside, and the coefficients bounded
+pub record Kept (r : Read) : Type 0 where
+  pub predictor : dcInside (r .predictor) ≡ true
+  pub bounded : Bounded (r .filled .coefficients)
+
+module _ {s : List ℕ} where
+  taken-gives : (q : Quantiser) (f : Filled) (c : Coefficient) → Bounded (f .coefficients) → Gives s (Turned (λ f. Bounded (f .coefficients)) Within) (taken q f c)
+  taken-gives q f EndOfBlock b = g-done b
+  taken-gives q f (RunLevel run level) b = g-if (ltb (f .n + run) 64) (λ e. g-done (placed-bounded q f (f .n + run) level b)) (λ e. g-done b)
+
+  coefficients-give : (q : Quantiser) (f : Filled) → Bounded (f .coefficients) → Gives s Within (coefficients q f)
+  unfolding coefficients coefficientTurn
+  coefficients-give q f b = g-loop (λ f. Bounded (f .coefficients)) 65 _ _ (λ x i. g-bind _ (g-any (coefficient (x .n))) (λ c u. taken-gives q x c i)) b f b
+
+  pub block-gives : (q : Quantiser) (luminance : Bool) (predictor : ℤ) (left : List ℤ) → dcInside predictor ≡ true → Bounded left → Gives s Kept (block q luminance predictor left)
+  unfolding block intraBlock nonIntraBlock
+  block-gives q luminance predictor left p b =
+      g-if (q .intra)
+      (λ e. g-bind _ (g-any (dc luminance predictor)) (λ x u. g-if (dcInside x)
+      (λ i. g-bind _ (coefficients-give q _ (bounded-dc x i b)) (λ c j. g-done (record { predictor = i; bounded = j })))
+      (λ i. g-done (record { predictor = p; bounded = b }))))
+      (λ e. g-bind _ (coefficients-give q _ b) (λ c j. g-done (record { predictor = p; bounded = j })))
+
+pub left-bounded : (r : Read) → Bounded (r .filled .coefficients) → Bounded (leftOver r)
+unfolding leftOver
+left-bounded r b = go (r .end)
+  where
+    go : (e : BlockEnd) → Bounded (elim e [ Whole ↦ replicate 64 (pos 0) | Dropped ↦ r .filled .coefficients | Outside ↦ r .filled .coefficients ])
+    go Whole = bounded-zero
+    go Dropped = b
+    go Outside = b
+
+-- ---- a picture's header
+
+slice-kept : {p : Picture} {x : Slice} → PossiblePicture p → PossibleSlice x → PossiblePicture (sliceAs x p)
+slice-kept k s = record { type = k .type; code = k .code; stores = k .stores; slice = s }
+
+type-kept : {p : Picture} {t : ℕ} → PossiblePicture p → t ≤ 7 → PossiblePicture (typeAs t p)
+type-kept k h = record { type = h; code = k .code; stores = k .stores; slice = k .slice }
+
+abbrev Directed : Direction → Type 0
+Directed d = PossibleMotion (d .motion)
+
+abbrev pub HeadedPossible : Headed → Type 0
+HeadedPossible h = PossiblePicture (h .picture)
+
+module _ {s : List ℕ} where
+  direction-gives : (m : Motion) → PossibleMotion m → Gives s Directed (direction m)
+  unfolding direction
+  direction-gives m k =
+      g-bind _ (g-bits 1) (λ full i. g-bind _ (g-bits 3) (λ f j. g-if (eqb f 0)
+      (λ e. g-done (record { size = k .size; h = k .h; v = k .v }))
+      (λ e. g-done (record { size = omega arith; h = k .h; v = k .v }))))
+
+  backward-header : {p : Picture} → PossiblePicture p → Gives s HeadedPossible (backwardHeader p)
+  unfolding backwardHeader
+  backward-header {p} k = g-bind _ (direction-gives (p .slice .«motion_backward») (k .slice .backward)) (λ b i. g-done (slice-kept k (motions-kept (k .slice) (k .slice .forward) i)))
+
+  forward-header : {p : Picture} → PossiblePicture p → Gives s HeadedPossible (forwardHeader p)
+  unfolding forwardHeader
+  forward-header {p} k =
+      g-bind _ (direction-gives (p .slice .«motion_forward») (k .slice .forward)) (λ f i.
+      let x = slice-kept k (motions-kept (k .slice) i (k .slice .backward)) in
+      g-if (f .decoded && eqb (p .«picture_type») 3) (λ e. backward-header x) (λ e. g-done x))
+
+  pub header-gives : {p : Picture} → PossiblePicture p → Gives s HeadedPossible (pictureHeader p)
+  unfolding pictureHeader
+  header-gives k =
+      g-bind _ (g-any _) (λ u i. g-bind _ (g-bits 3) (λ type j. g-bind _ (g-any _) (λ u i.
+      let x = type-kept k (omega arith) in
+      g-if (eqb type 0 || ltb 3 type) (λ e. g-done x) (λ e. g-if (eqb type 1) (λ e. g-done x) (λ e. forward-header x)))))
