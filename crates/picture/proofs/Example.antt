@@ -1,4 +1,5 @@
--- An I picture of two macroblocks, 32 × 16 samples, by computation: the bytes are those that the Rust gives.
+-- By computation: an I picture of two macroblocks, 32 × 16 samples, whose bytes are those that the Rust gives; and two pictures of one macroblock that
+-- leave early, one with 8 and one with 9.
 use mathlib.Core.Path.{_≡_, refl}
 use mathlib.Core.List.{List, [], _∷_, _++_}
 use Prim.Native.Nat.{ℕ}
@@ -8,20 +9,25 @@ use Rattle.laws.specs.Signed.{clamp255, odd}
 use Rattle.laws.specs.Stores.{storeRow, storeRows}
 use Rattle.bits.specs.Bits.{bitAt, bitsAt, got, next, codePrefix, codeFrom, found}
 use Rattle.bits.specs.Programs.{run, bind, loop}
-use Rattle.codes.specs.Tables.{macroblockAddressIncrementIndex, macroblockAddressIncrementValue, macroblockTypeIntraIndex, macroblockTypeIntraValue, dctSizeLuminanceIndex, dctSizeLuminanceValue, dctSizeChrominanceIndex, dctSizeChrominanceValue, dctCoeffIndex, dctCoeffValue}
+use Rattle.codes.specs.Tables.{macroblockAddressIncrementIndex, macroblockAddressIncrementValue, macroblockTypeIntraIndex, macroblockTypeIntraValue, macroblockTypePredictiveIndex, macroblockTypePredictiveValue, motionIndex, motionValue, dctSizeLuminanceIndex, dctSizeLuminanceValue, dctSizeChrominanceIndex, dctSizeChrominanceValue, dctCoeffIndex, dctCoeffValue}
 use Rattle.codes.specs.Walk.{walkTurn, walk, vlc}
 use Rattle.codes.specs.Codes as Codes
 use Rattle.codes.specs.Matrices.{downFrom, diagonals, zigZag, intraQuantMatrix, premultiplierMatrix}
+use Rattle.motion.specs.Displacement.{corrected}
+use Rattle.motion.specs.Vector.{displacement, motionVector}
 use Rattle.coefficients.specs.Dcs as Dcs
 use Rattle.coefficients.specs.Coefficients as Coefficients
 use Rattle.coefficients.specs.Dequantise.{dequantised}
 use Rattle.coefficients.specs.Blocks as Block
 use Rattle.transform.specs.Butterfly.{butterfly}
 use Rattle.transform.specs.Idct.{columns, rows, idct, dcOnly}
+use Rattle.prediction.specs.Predict.{way}
+use Rattle.prediction.specs.Planes.{follow, next as following, predictedPlanes}
 use Rattle.prediction.specs.Writers.{setConst, overwrite}
 use Rattle.picture.specs.Ways.{leave, onward, plain}
 use Rattle.picture.specs.Increments.{incrementTurn, increment}
-use Rattle.picture.specs.Heads.{macroblockType, scale, head, pattern}
+use Rattle.picture.specs.Predictions.{unlessRefused, predictFrom, predict}
+use Rattle.picture.specs.Heads.{macroblockType, scale, vector, forward, backward, vectors, head, pattern}
 use Rattle.picture.specs.Blocks.{placeOf, results, written, blockEnd, oneBlock, lastBlocks, blocks}
 use Rattle.picture.specs.Macroblocks.{advance, predictUnlessIntra, body, firstOf, laterOf, macroblock}
 use Rattle.picture.specs.Slices.{extraTurn, extra, pastMacroblock, sliceTurn, slice}
@@ -73,3 +79,24 @@ storeOf (out n l) = l
 pub row : take 32 (storeOf (decoded .value)) ≡ replicate 16 133 ++ replicate 16 128
 unfolding clamp255 odd storeRow storeRows bitAt bitsAt got next codePrefix codeFrom found run bind loop macroblockAddressIncrementIndex macroblockAddressIncrementValue macroblockTypeIntraIndex macroblockTypeIntraValue dctSizeLuminanceIndex dctSizeLuminanceValue dctSizeChrominanceIndex dctSizeChrominanceValue dctCoeffIndex dctCoeffValue walkTurn walk vlc Codes.macroblockAddressIncrement Codes.macroblockTypeIntra Codes.dctSizeLuminance Codes.dctSizeChrominance Codes.dctCoeff downFrom diagonals zigZag intraQuantMatrix premultiplierMatrix Dcs.dcSize Dcs.added Dcs.dc Coefficients.runLevel Coefficients.coefficient dequantised Block.coefficientTurn Block.coefficients Block.block Block.intraBlock Block.leftOver butterfly columns rows idct dcOnly setConst overwrite leave onward plain incrementTurn increment macroblockType scale head pattern placeOf results written blockEnd oneBlock lastBlocks blocks advance predictUnlessIntra body firstOf laterOf macroblock extraTurn extra pastMacroblock sliceTurn slice P.pictureHeader P.pastSlice P.slicesTurn P.slices P.coded P.picture
 row = refl
+
+abbrev one : Sizes
+one = record { «mb_width» = 1; «mb_height» = 1; «mb_size» = 1 }
+
+-- an I picture whose first block has the size 8 (1111110) and the differential 11111111
+abbrev outside : List ℕ
+outside = 0x00 ∷ 0x0f ∷ 0xff ∷ 0xf8 ∷ 0x00 ∷ 0x00 ∷ 0x01 ∷ 0x01 ∷ 0x0b ∷ 0xfd ∷ 0xfe ∷ []
+
+-- RULES Q8: the DC value is 128 + 255
+pub eight : run (P.picture one matrices fresh (replicate 1152 7)) outside 0 ≡ record { value = out 8 (replicate 1152 7); at = 87 }
+unfolding bitAt bitsAt got next codePrefix codeFrom found run bind loop macroblockAddressIncrementIndex macroblockAddressIncrementValue macroblockTypeIntraIndex macroblockTypeIntraValue dctSizeLuminanceIndex dctSizeLuminanceValue walkTurn walk vlc Codes.macroblockAddressIncrement Codes.macroblockTypeIntra Codes.dctSizeLuminance Dcs.dcSize Dcs.added Dcs.dc Block.block Block.intraBlock leave onward plain incrementTurn increment macroblockType scale head pattern blockEnd oneBlock lastBlocks blocks predictUnlessIntra body firstOf macroblock extraTurn extra pastMacroblock sliceTurn slice P.pictureHeader P.pastSlice P.slicesTurn P.slices P.coded P.picture
+eight = refl
+
+-- a P picture with f code 1 whose macroblock has the type 001, a forward vector, and the motion codes 010 and 1: (1, 0) in half samples
+abbrev past : List ℕ
+past = 0x00 ∷ 0x17 ∷ 0xff ∷ 0xf8 ∷ 0x80 ∷ 0x00 ∷ 0x00 ∷ 0x01 ∷ 0x01 ∷ 0x0a ∷ 0x54 ∷ []
+
+-- RULES Q9: the start 0 is max_address, and the half sample reaches 1 further
+pub nine : run (P.picture one matrices fresh (replicate 1152 7)) past 0 ≡ record { value = out 9 (replicate 1152 7); at = 86 }
+unfolding odd bitAt bitsAt got next codePrefix codeFrom found run bind loop macroblockAddressIncrementIndex macroblockAddressIncrementValue macroblockTypePredictiveIndex macroblockTypePredictiveValue motionIndex motionValue walkTurn walk vlc Codes.macroblockAddressIncrement Codes.macroblockTypePredictive Codes.motion displacement motionVector corrected way follow following predictedPlanes leave onward plain incrementTurn increment unlessRefused predictFrom predict macroblockType scale vector forward backward vectors head predictUnlessIntra body firstOf macroblock extraTurn extra pastMacroblock sliceTurn slice P.direction P.forwardHeader P.pictureHeader P.pastSlice P.slicesTurn P.slices P.coded P.picture
+nine = refl
