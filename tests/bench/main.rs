@@ -4,6 +4,7 @@ mod argb;
 mod blocks;
 mod codes;
 mod idct;
+mod prediction;
 mod reader;
 
 #[allow(dead_code)]
@@ -52,5 +53,6 @@ fn main() {
     codes::run();
     blocks::run();
     idct::run();
+    prediction::run();
     argb::run();
 }

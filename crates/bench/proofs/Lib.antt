@@ -1,3 +1,5 @@
 pub mod CodeTurns
 pub mod Coefficients
+pub mod Results
+pub mod Rooms
 pub mod Turns

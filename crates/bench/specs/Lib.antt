@@ -1,4 +1,5 @@
 pub mod Blocks
 pub mod Codes
 pub mod Loops
+pub mod Planes
 pub mod Transform

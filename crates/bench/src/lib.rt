@@ -3,4 +3,7 @@ mod blocks;
 mod coefficient_codes;
 mod conversion;
 mod idct;
+mod predictions;
 mod reader;
+mod room;
+mod writers;
