@@ -8,23 +8,20 @@ use native.Mathlib.Nat.{mul-le-mul}
 use borrow.Author.Tests.{eq-eqb, ne-eqb}
 use lib.ListN.{length}
 use Rattle.replay.specs.declared.cases.Kind.{Kind}
-use Rattle.replay.specs.declared.tally.Tally.{Tally}
+use Rattle.lists.specs.declared.tally.Tally.{Tally}
+use Rattle.lists.specs.Numbers.{numberAt}
+use Rattle.lists.specs.Tallies.{none, counted}
 use Rattle.replay.specs.Cases.{numbersOf, sizeOf, agreesAt, scoreFrom, scored}
-use Rattle.replay.specs.Lists.{numberAt}
-use Rattle.replay.specs.Tallies.{none, counted}
-use Rattle.replay.proofs.Scores.{counted-fewer}
 
 -- a list of n cases in the middle: with `left` cases from the byte i on, and those before them counted in t, it still comes to what the whole list
 -- comes to
 pub record Scoring (k : Kind) (l : List ℕ) (n i : ℕ) (t : Tally) (left : ℕ) : Type 0 where
   pub room : i + sizeOf k * left ≡ length l
-  pub few : t .cases + left ≤ 4294967295
-  pub fewer : t .agreed ≤ t .cases
   pub same : scoreFrom k l left i t ≡ scoreFrom k l n 4 none
 
 module _ (k : Kind) (l : List ℕ) (n : ℕ) where
-  pub scoring-start : (t : Tally) → length l ≡ 4 + sizeOf k * n → n ≤ 4294967295 → t ≡ none → Scoring k l n 4 t n
-  scoring-start t h m e = rw e (record { room = sym h; few = omega arith; fewer = omega arith; same = refl })
+  pub scoring-start : (t : Tally) → length l ≡ 4 + sizeOf k * n → t ≡ none → Scoring k l n 4 t n
+  scoring-start t h e = rw e (record { room = sym h; same = refl })
 
   module _ (i : ℕ) (t : Tally) where
     pub scoring-room : (left : ℕ) → Scoring k l n i t left → 0 < left → i + sizeOf k ≤ length l
@@ -39,8 +36,6 @@ module _ (k : Kind) (l : List ℕ) (n : ℕ) where
         let o : suc left - 1 ≡ left = omega arith in
         rw (o, f) (record {
           room = omega (arith, h .room);
-          few = omega (arith, h .few);
-          fewer = counted-fewer t b (h .fewer);
           same = rw e (h .same);
         })
 
@@ -62,6 +57,3 @@ module _ (k : Kind) (l : List ℕ) (n : ℕ) (is : n ≡ numberAt l 0) where
   pub not-sized : (length l ≡ 4 + sizeOf k * n → ⊥) → counted none false ≡ scored k l
   unfolding scored
   not-sized h = rw (← is, ne-eqb (length l) (4 + sizeOf k * n) h)
-
-pub no-number : (k : Kind) (l : List ℕ) → length l < 4 → counted none false ≡ scored k l
-no-number k l h = not-sized k l (numberAt l 0) refl (λ e. omega arith)

@@ -5,13 +5,15 @@ use mathlib.Core.List.{List}
 use Prim.Native.Nat.{ℕ, _+_, _*_, _/_, _%_, _≤_}
 use native.Mathlib.Omega.{arith}
 use native.Mathlib.Nat.{mul-le-mul}
-use borrow.Author.Tests.{leb-true, eqb-true}
+use borrow.Author.Tests.{leb-true, eqb-true, eq-eqb, ne-eqb}
 use lib.Dec.{eqb, leb}
-use lib.ListN.{length, length-take, length-drop}
+use lib.ListN.{length}
 use Rattle.argb.specs.Scaled.{picture, Whole, scaled}
-use Rattle.replay.specs.Lists.{numberAt, part, holds}
+use Rattle.lists.specs.Bytes.{part}
+use Rattle.lists.specs.Numbers.{numberAt, holds}
+use Rattle.lists.proofs.Each.{both}
+use Rattle.lists.proofs.Parts.{part-long}
 use Rattle.replay.specs.ScaledList.{blank, possible, scaledAgrees}
-use Rattle.replay.proofs.Readings.{both}
 
 record Sizes (width height luma w h : ℕ) : Type 0 where
   pub some : 1 ≤ width
@@ -22,9 +24,6 @@ record Sizes (width height luma w h : ℕ) : Type 0 where
   pub high-most : height ≤ 8
   pub w-most : w ≤ 8
   pub h-most : h ≤ 8
-
-part-long : (l : List ℕ) (i j m : ℕ) → i + m ≡ j → j ≤ length l → length (part l i j) ≡ m
-part-long l i j m e h = simp (length-take, length-drop) (omega arith)
 
 blank-long : length blank ≡ 64
 unfolding blank
@@ -67,10 +66,8 @@ module _ (width height luma w h : ℕ) {t : Bool} (tested : t ≡ possible width
       }
 
   -- what a conversion asks
-  pub whole : (l : List ℕ) (i : ℕ) → i + 660 ≤ length l
-      → Whole (picture width height luma (part l (i + 20) (i + 276)) (part l (i + 276) (i + 340)) (part l (i + 340) (i + 404)))
-  whole l i h =
-      planes _ _ _ (part-long l (i + 20) (i + 276) 256 (omega arith) (omega arith)) (part-long l (i + 276) (i + 340) 64 (omega arith) (omega arith)) (part-long l (i + 340) (i + 404) 64 (omega arith) (omega arith))
+  pub whole : (c y cr cb : List ℕ) → length c ≡ 660 → y ≡ part c 20 256 → cr ≡ part c 276 64 → cb ≡ part c 340 64 → Whole (picture width height luma y cr cb)
+  whole c y cr cb n ey er eb = planes _ _ _ (rw ey (part-long c 20 256 (omega arith))) (rw er (part-long c 276 64 (omega arith))) (rw eb (part-long c 340 64 (omega arith)))
 
   pub small : (w ≤ 4096) × (h ≤ 4096)
   small = let s = sizes in (omega (arith, s .w-most), omega (arith, s .h-most))
@@ -78,13 +75,16 @@ module _ (width height luma w h : ℕ) {t : Bool} (tested : t ≡ possible width
   pub room : (b : List ℕ) → b ≡ blank → w * h ≤ length b
   room b e = rw (e, blank-long) (mul-le-mul {n₁ = w} {m₁ = h} {n₂ = 8} {m₂ = 8} (sizes .w-most) (sizes .h-most))
 
-module _ (l : List ℕ) (i width height luma w h : ℕ) (is-width : width ≡ numberAt l i) (is-height : height ≡ numberAt l (i + 4)) (is-luma : luma ≡ numberAt l (i + 8)) (is-w : w ≡ numberAt l (i + 12)) (is-h : h ≡ numberAt l (i + 16)) {t : Bool} (tested : t ≡ possible width height luma w h) where
-  pub compared : (b a : List ℕ) → t ≡ true → b ≡ blank
-      → a ≡ scaled (picture width height luma (part l (i + 20) (i + 276)) (part l (i + 276) (i + 340)) (part l (i + 340) (i + 404))) w h b
-      → holds l (i + 404) a ≡ scaledAgrees l i
+module _ (c : List ℕ) (width height luma w h : ℕ) (is-width : width ≡ numberAt c 0) (is-height : height ≡ numberAt c 4) (is-luma : luma ≡ numberAt c 8) (is-w : w ≡ numberAt c 12) (is-h : h ≡ numberAt c 16) (long : length c ≡ 660) {t : Bool} (tested : t ≡ possible width height luma w h) where
+  pub compared : (y cr cb b a rest : List ℕ) → t ≡ true → y ≡ part c 20 256 → cr ≡ part c 276 64 → cb ≡ part c 340 64 → b ≡ blank → a ≡ scaled (picture width height luma y cr cb) w h b
+      → rest ≡ part c 404 256 → holds rest a ≡ scaledAgrees c
   unfolding scaledAgrees
-  compared b a e is-b is-a = rw (← is-width, ← is-height, ← is-luma, ← is-w, ← is-h, ← tested, e, is-a, is-b)
+  compared y cr cb b a rest e ey er eb is-b is-a is-rest = rw (is-rest, is-a, is-b, ey, er, eb, eq-eqb (length c) 660 long, ← is-width, ← is-height, ← is-luma, ← is-w, ← is-h, ← tested, e)
 
-  pub refused : t ≡ false → false ≡ scaledAgrees l i
+  pub refused : t ≡ false → false ≡ scaledAgrees c
   unfolding scaledAgrees
-  refused e = rw (← is-width, ← is-height, ← is-luma, ← is-w, ← is-h, ← tested, e)
+  refused e = rw (eq-eqb (length c) 660 long, ← is-width, ← is-height, ← is-luma, ← is-w, ← is-h, ← tested, e)
+
+pub cut : (c : List ℕ) → (length c ≡ 660 → ⊥) → false ≡ scaledAgrees c
+unfolding scaledAgrees
+cut c h = rw (ne-eqb (length c) 660 h)

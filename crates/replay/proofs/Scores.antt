@@ -1,33 +1,26 @@
 -- A list's cases are taken and counted one after the other.
 use mathlib.Core.Path.{_≡_, refl, sym, _∙_}
-use mathlib.Core.Bool.{Bool, true, false}
+use mathlib.Core.Bool.{false}
 use mathlib.Core.List.{List}
-use Prim.Native.Nat.{ℕ, zero, suc, _+_, _-_, _≤_, _<_}
+use Prim.Native.Nat.{ℕ, zero, suc, _-_, _≤_, _<_}
 use native.Mathlib.Omega.{arith}
 use borrow.Author.Tests.{lt-ltb, le-ltb}
 use lib.ListN.{length}
+use Rattle.lists.specs.declared.tally.Tally.{Tally}
+use Rattle.lists.specs.Numbers.{numberAt}
+use Rattle.lists.specs.Tallies.{none, counted}
 use Rattle.replay.specs.declared.reader_list.Along.{Along}
 use Rattle.replay.specs.declared.reader_list.Step.{Step}
-use Rattle.replay.specs.declared.tally.Tally.{Tally}
-use Rattle.replay.specs.Tallies.{none, counted}
-use Rattle.replay.specs.Lists.{numberAt}
 use Rattle.replay.specs.ReaderList.{Inside, stepped, beginning, scoreFrom, scored}
 use Rattle.replay.proofs.Inside.{beginning-inside}
-
--- no more agree than there are
-pub counted-fewer : (t : Tally) (b : Bool) → t .agreed ≤ t .cases → counted t b .agreed ≤ counted t b .cases
-counted-fewer t true h = omega arith
-counted-fewer t false h = omega arith
 
 -- a list of n cases in the middle: with `left` cases from p on, and those before them counted in t, it still comes to what the whole list comes to
 pub record Scoring (l : List ℕ) (n : ℕ) (p : Along) (t : Tally) (left : ℕ) : Type 0 where
   pub inside : Inside l p
-  pub few : t .cases + left ≤ 16777216
-  pub fewer : t .agreed ≤ t .cases
   pub same : scoreFrom l left p t ≡ scoreFrom l n beginning none
 
-pub scoring-start : (l : List ℕ) (n : ℕ) (p : Along) (t : Tally) → 4 ≤ length l → n ≤ 16777216 → p ≡ beginning → t ≡ none → Scoring l n p t n
-scoring-start l n p t h m e f = rw (e, f) (record { inside = beginning-inside l h; few = omega arith; fewer = omega arith; same = refl })
+pub scoring-start : (l : List ℕ) (n : ℕ) (p : Along) (t : Tally) → 4 ≤ length l → p ≡ beginning → t ≡ none → Scoring l n p t n
+scoring-start l n p t h e f = rw (e, f) (record { inside = beginning-inside l h; same = refl })
 
 module _ (l : List ℕ) (n : ℕ) (p : Along) (t : Tally) where
   pub scoring-on : (left : ℕ) (s : Step) (u : Tally) → Scoring l n p t left → 0 < left → s ≡ stepped l p → Inside l (s .along) → u ≡ counted t (s .agrees)
@@ -38,8 +31,6 @@ module _ (l : List ℕ) (n : ℕ) (p : Along) (t : Tally) where
       let o : suc left - 1 ≡ left = omega arith in
       rw (o, f) (record {
         inside = i;
-        few = omega (arith, h .few);
-        fewer = counted-fewer t (s .agrees) (h .fewer);
         same = rw e (h .same);
       })
 

@@ -4,12 +4,13 @@ use mathlib.Core.Bool.{Bool, _&&_}
 use mathlib.Core.List.{List}
 use Prim.Native.Nat.{ℕ, _+_, _-_, _≤_, _<_}
 use borrow.Author.Tests.{lt-ltb, le-ltb}
-use lib.ListN.{length, getD}
+use lib.ListN.{length, getD, take, drop}
+use Rattle.lists.specs.Bytes.{part}
+use Rattle.lists.specs.Numbers.{numberAt}
 use Rattle.replay.specs.declared.reader_operations.Operation.{Operation}
 use Rattle.replay.specs.declared.reader_operations.Outcome.{Outcome}
 use Rattle.replay.specs.declared.reader_list.Along.{Along}
 use Rattle.replay.specs.declared.reader_list.Step.{Step}
-use Rattle.replay.specs.Lists.{numberAt, part}
 use Rattle.replay.specs.Operations.{operationOf, outcome}
 use Rattle.replay.specs.ReaderList.{behindOf, agree, bytesAgree, onward, cutOff, stepped}
 
@@ -23,9 +24,9 @@ module _ (l : List ℕ) (p : Along) (x v m : ℕ) (case : 13 ≤ length l - p .a
   cut-case h = rw (le-ltb _ _ case, ← ax, ← av, ← am, lt-ltb _ _ h)
 
   pub whole-case : (e : ℕ) (op : Operation) (o : Outcome) (q : Along) (t u : Bool) → e ≡ numberAt l (p .at + 9) → m ≤ length l - (p .at + 13)
-      → op ≡ operationOf (getD l (p .at) 0) → o ≡ outcome op x (part l (p .from) (p .to)) (p .reader .at .0)
-      → u ≡ bytesAgree (getD l (p .at) 0) (part l (p .at + 13) (p .at + 13 + m)) (part l (p .from) (p .to)) (p .reader .at .0) x
+      → op ≡ operationOf (getD l (p .at) 0) → o ≡ outcome op x (take (p .to - p .from) (drop (p .from) l)) (p .reader .at .0)
+      → u ≡ bytesAgree (getD l (p .at) 0) (take (p .at + 13 + m - (p .at + 13)) (drop (p .at + 13) l)) (take (p .to - p .from) (drop (p .from) l)) (p .reader .at .0) x
       → t ≡ agree o v e → q ≡ onward p (getD l (p .at) 0) (p .at + 13) (p .at + 13 + m) (o .reader)
       → _≡_ {A = Step} (record { along = q; agrees = t && u }) (stepped l p)
-  unfolding stepped
+  unfolding stepped part
   whole-case e op o q t u ae h aop ao au at aq = rw (le-ltb _ _ case, ← ax, ← av, ← am, ← ae, le-ltb _ _ h, ← aop, ← ao, au, at, aq)

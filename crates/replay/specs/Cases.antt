@@ -6,14 +6,15 @@ use lib.Dec.{eqb}
 use lib.ListN.{length}
 use Rattle.replay.specs.declared.cases.Kind.{Kind}
 use Rattle.replay.specs.declared.cases.Kind.the-variants.{Codes, Vectors, Pixels, Scaled, Dequantised, Transforms, Blocks}
-use Rattle.replay.specs.declared.tally.Tally.{Tally}
+use Rattle.lists.specs.declared.tally.Tally.{Tally}
+use Rattle.lists.specs.Bytes.{part}
+use Rattle.lists.specs.Numbers.{numberAt}
+use Rattle.lists.specs.Tallies.{none, counted}
 use Rattle.replay.specs.BlockList.{blockAgrees}
 use Rattle.replay.specs.CodeList.{codeAgrees}
 use Rattle.replay.specs.DequantisedList.{dequantisedAgrees}
-use Rattle.replay.specs.Lists.{numberAt}
 use Rattle.replay.specs.PixelList.{pixelAgrees}
 use Rattle.replay.specs.ScaledList.{scaledAgrees}
-use Rattle.replay.specs.Tallies.{none, counted}
 use Rattle.replay.specs.TransformList.{transformAgrees}
 use Rattle.replay.specs.VectorList.{vectorAgrees}
 
@@ -31,15 +32,19 @@ numbersOf Blocks = 76
 abbrev pub sizeOf : Kind → ℕ
 sizeOf k = 4 * numbersOf k
 
+-- a case agrees
+abbrev pub agrees : Kind → List ℕ → Bool
+agrees Codes c = codeAgrees c
+agrees Vectors c = vectorAgrees c
+agrees Pixels c = pixelAgrees c
+agrees Scaled c = scaledAgrees c
+agrees Dequantised c = dequantisedAgrees c
+agrees Transforms c = transformAgrees c
+agrees Blocks c = blockAgrees c
+
 -- the case at the byte i of a list agrees
 abbrev pub agreesAt : Kind → List ℕ → ℕ → Bool
-agreesAt Codes l i = codeAgrees l i
-agreesAt Vectors l i = vectorAgrees l i
-agreesAt Pixels l i = pixelAgrees l i
-agreesAt Scaled l i = scaledAgrees l i
-agreesAt Dequantised l i = dequantisedAgrees l i
-agreesAt Transforms l i = transformAgrees l i
-agreesAt Blocks l i = blockAgrees l i
+agreesAt k l i = agrees k (part l i (sizeOf k))
 
 -- n cases more, from the byte i on
 unfoldable pub scoreFrom : Kind → List ℕ → ℕ → ℕ → Tally → Tally

@@ -1,5 +1,5 @@
 -- The list codes.bin: the cases that agree with the tables' programs.
-use Prim.Native.Nat.{ℕ, _+_}
+use Prim.Native.Nat.{ℕ}
 use mathlib.Core.Bool.{Bool, _&&_}
 use mathlib.Core.List.{List, [], _∷_}
 use lib.Dec.{ltb}
@@ -7,7 +7,8 @@ use lib.IntN.{ℤ, pos}
 use lib.ListN.{getD}
 use Rattle.bits.specs.Programs.{Prog, done, bind}
 use Rattle.codes.specs.Codes.{macroblockAddressIncrement, macroblockTypeIntra, macroblockTypePredictive, macroblockTypeB, codeBlockPattern, motion, dctSizeLuminance, dctSizeChrominance, dctCoeff}
-use Rattle.replay.specs.Lists.{numberAt}
+use Rattle.lists.specs.Bytes.{part}
+use Rattle.lists.specs.Numbers.{numberAt}
 use Rattle.replay.specs.Readings.{runAgrees}
 
 -- RULES 2.1: a code of each table, in the order of the tables
@@ -19,6 +20,6 @@ tables =
 unfoldable pub codeOf : ℕ → Prog ℤ
 codeOf n = getD tables n (done (pos 0))
 
--- the case at the byte i: a table, and a reading of its code
-unfoldable pub codeAgrees : List ℕ → ℕ → Bool
-codeAgrees l i = ltb (numberAt l i) 9 && runAgrees (codeOf (numberAt l i)) l (i + 4)
+-- a case c: a table, and a reading of its code
+unfoldable pub codeAgrees : List ℕ → Bool
+codeAgrees c = ltb (numberAt c 0) 9 && runAgrees (codeOf (numberAt c 0)) (part c 4 24)

@@ -1,14 +1,13 @@
 pub mod BlockList
-pub mod Blocks
+pub mod Bounded
 pub mod Cases
 pub mod CodeList
 pub mod DequantisedList
-pub mod Lists
 pub mod Operations
 pub mod PixelList
 pub mod ReaderList
 pub mod Readings
+pub mod Replayed
 pub mod ScaledList
-pub mod Tallies
 pub mod TransformList
 pub mod VectorList

@@ -9,10 +9,11 @@ use Rattle.bits.specs.declared.reader.Reader.{Reader}
 use Rattle.replay.specs.declared.reader_operations.Outcome.{Outcome}
 use Rattle.replay.specs.declared.reader_list.Along.{Along}
 use Rattle.replay.specs.declared.reader_list.Step.{Step}
-use Rattle.replay.specs.declared.tally.Tally.{Tally}
-use Rattle.replay.specs.Lists.{numberAt, part, sameBytes}
+use Rattle.lists.specs.declared.tally.Tally.{Tally}
+use Rattle.lists.specs.Bytes.{part, sameBytes}
+use Rattle.lists.specs.Numbers.{numberAt}
+use Rattle.lists.specs.Tallies.{none, counted}
 use Rattle.replay.specs.Operations.{operationOf, outcome}
-use Rattle.replay.specs.Tallies.{none, counted}
 
 -- the operations behind whose cases bytes stand: a new stream, and a peek
 abbrev pub new : ℕ
@@ -51,9 +52,9 @@ cutOff l p = record { along = record { at = length l; from = p .from; to = p .to
 -- a whole case: the operation n with the argument x, the answer v and the place e, and the bytes from i up to j behind it
 abbrev pub compared : List ℕ → Along → ℕ → ℕ → ℕ → ℕ → ℕ → ℕ → Step
 compared l p n x v e i j =
-    let s = part l (p .from) (p .to) in
+    let s = part l (p .from) (p .to - p .from) in
     let o = outcome (operationOf n) x s (p .reader .at .0) in
-    record { along = onward p n i j (o .reader); agrees = agree o v e && bytesAgree n (part l i j) s (p .reader .at .0) x }
+    record { along = onward p n i j (o .reader); agrees = agree o v e && bytesAgree n (part l i (j - i)) s (p .reader .at .0) x }
 
 -- the same, where its bytes may be cut off
 abbrev pub taken : List ℕ → Along → ℕ → ℕ → ℕ → ℕ → ℕ → Step

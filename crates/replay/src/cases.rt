@@ -3,17 +3,18 @@
 use crate::block_list::blocks_agree;
 use crate::code_list::codes_agree;
 use crate::dequantised_list::dequantised_agree;
-use crate::list;
-use crate::list::number_at;
+use crate::load;
 use crate::pixel_list::pixels_agree;
 use crate::scaled_list::scaled_agree;
-use crate::tally::Tally;
 use crate::transform_list::transforms_agree;
 use crate::vector_list::vectors_agree;
+use lists::bytes::part;
+use lists::numbers::number_at;
+use lists::tally::Tally;
 ghost use mathlib.Core.Path.{_≡_};
-ghost use Prim.Native.Nat.{_+_, _≤_};
-ghost use lib.ListN.{length};
-ghost use Rattle.replay.specs.Cases.{numbersOf, sizeOf, agreesAt, scored};
+ghost use Prim.Native.Nat.{_≤_};
+ghost use Rattle.replay.specs.Cases.{numbersOf, agrees, scored};
+ghost use Rattle.replay.specs.Replayed.{Replayed};
 
 pub enum Kind {
     Codes,
@@ -40,19 +41,18 @@ fn numbers(kind: Kind) -> usize
     }
 }
 
-// Whether ours and the Rust agree on the case that stands at a byte of the list.
-fn case_agrees(list: &[u8], kind: Kind, at: usize) -> bool
-    requires { ⌜ at + sizeOf kind ≤ length (now list) ⌝ }
-    ensures { λ r. ⌜ r ≡ agreesAt kind (now (list .entry)) at ⌝ }
+// Whether ours and the Rust agree on a case.
+fn case_agrees(case: &[u8], kind: Kind) -> bool
+    ensures { λ r. ⌜ r ≡ agrees kind (now (case .entry)) ⌝ }
 {
     match kind {
-        Kind::Codes => codes_agree(list, at),
-        Kind::Vectors => vectors_agree(list, at),
-        Kind::Pixels => pixels_agree(list, at),
-        Kind::Scaled => scaled_agree(list, at),
-        Kind::Dequantised => dequantised_agree(list, at),
-        Kind::Transforms => transforms_agree(list, at),
-        Kind::Blocks => blocks_agree(list, at),
+        Kind::Codes => codes_agree(case),
+        Kind::Vectors => vectors_agree(case),
+        Kind::Pixels => pixels_agree(case),
+        Kind::Scaled => scaled_agree(case),
+        Kind::Dequantised => dequantised_agree(case),
+        Kind::Transforms => transforms_agree(case),
+        Kind::Blocks => blocks_agree(case),
     }
 }
 
@@ -61,9 +61,6 @@ pub fn score(list: &[u8], kind: Kind) -> Tally
     ensures { λ r. ⌜ r ≡ scored kind (now (list .entry)) ⌝ }
 {
     let none = Tally::new();
-    if list.len() < 4 {
-        return none.counted(false);
-    }
     let cases = number_at(list, 0);
     let size = 4 * numbers(kind);
     let length = 4 + size * cases as usize;
@@ -74,15 +71,18 @@ pub fn score(list: &[u8], kind: Kind) -> Tally
     let mut tally = none;
     let mut left = cases;
     while 0 < left {
-        tally = tally.counted(case_agrees(list, kind, at));
+        tally = tally.counted(case_agrees(part(list, at, size), kind));
         at += size;
         left -= 1;
     }
     tally
 }
 
-pub fn replay(kind: Kind, path: &[u8], name: &[u8]) {
-    let mut space = list::space();
-    let count = list::load(path, &mut space);
-    score(&space[..count], kind).print(name);
+// The list that a file holds.
+pub fn replay(kind: Kind, path: &[u8]) -> Tally
+    ensures { λ r. ⌜ Replayed (scored kind) r ⌝ }
+{
+    let mut space = load::space();
+    let count = load::load(path, &mut space);
+    score(&space[..count], kind)
 }

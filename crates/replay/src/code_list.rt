@@ -1,6 +1,5 @@
 // The list codes.bin: codes of the nine tables. A case is seven numbers: the table, counted from 0 in the order of RULES 2.1, and the reading of
 // one code.
-use crate::list::number_at;
 use crate::reading;
 use bits::reader::Reader;
 use codes::codes::read_code_block_pattern;
@@ -14,8 +13,10 @@ use codes::codes::read_macroblock_type_predictive;
 use codes::codes::read_motion;
 use codes::walk::Vlc;
 use codes::walk::VlcUint;
+use lists::bytes::part;
+use lists::numbers::number_at;
 ghost use mathlib.Core.Path.{_≡_};
-ghost use Prim.Native.Nat.{_+_, _≤_, _<_};
+ghost use Prim.Native.Nat.{_≤_, _<_};
 ghost use lib.IntN.{pos};
 ghost use lib.ListN.{length};
 ghost use Rattle.bits.specs.Runs.{Runs};
@@ -68,23 +69,18 @@ fn read_code(s: &[u8], reader: Reader, table: u32) -> Code
     }
 }
 
-pub fn codes_agree(list: &[u8], at: usize) -> bool
-    requires { ⌜ at + 28 ≤ length (now list) ⌝ }
-    ensures { λ r. ⌜ r ≡ codeAgrees (now (list .entry)) at ⌝ }
+pub fn codes_agree(case: &[u8]) -> bool
+    ensures { λ r. ⌜ r ≡ codeAgrees (now (case .entry)) ⌝ }
 {
-    let table = number_at(list, at);
+    let table = number_at(case, 0);
     if 9 <= table {
         return false;
     }
-    let from = at + 4;
-    if reading::possible(list, from) {
-        let code = read_code(
-            reading::stream(list, from),
-            reading::reader(list, from),
-            table,
-        );
+    let read = part(case, 4, 24);
+    if reading::possible(read) {
+        let code = read_code(reading::stream(read), reading::reader(read), table);
         let after = code.reader;
-        return reading::same_end(list, from, code.value, after);
+        return reading::same_end(read, code.value, after);
     }
     false
 }

@@ -1,30 +1,64 @@
 // Runs ours on the lists of the Rust's answers (tests/oracle writes them), and says of each list how many cases agree.
-mod block;
 mod block_list;
+mod bounded;
 mod cases;
 mod code_list;
 mod dequantised_list;
-mod list;
+mod load;
 mod pixel_list;
 mod reader_list;
 mod reader_operations;
 mod reading;
 mod scaled_list;
-mod tally;
 mod transform_list;
 mod vector_list;
 mod worked;
 
 use cases::Kind;
+use libc::STDOUT_FILENO;
+use lists::tally::Tally;
+use worked::Values;
+
+// The line of the worked case.
+fn print_values(values: Values) {
+    io::write_all(STDOUT_FILENO, b"reader A5: ");
+    io::print_decimal(STDOUT_FILENO, values.first as u64);
+    io::write_all(STDOUT_FILENO, b" ");
+    io::print_decimal(STDOUT_FILENO, values.second as u64);
+    io::write_all(STDOUT_FILENO, b" ");
+    io::print_decimal(STDOUT_FILENO, values.third as u64);
+    io::write_all(STDOUT_FILENO, b"\n");
+}
+
+// The line of a list.
+fn print(name: &[u8], tally: Tally) {
+    io::write_all(STDOUT_FILENO, name);
+    io::write_all(STDOUT_FILENO, b" ");
+    io::print_decimal(STDOUT_FILENO, tally.agreed as u64);
+    io::write_all(STDOUT_FILENO, b" of ");
+    io::print_decimal(STDOUT_FILENO, tally.cases as u64);
+    io::write_all(STDOUT_FILENO, b" agree");
+    if tally.first != 0 {
+        io::write_all(STDOUT_FILENO, b", the first that does not is ");
+        io::print_decimal(STDOUT_FILENO, tally.first as u64);
+    }
+    io::write_all(STDOUT_FILENO, b"\n");
+}
 
 fn main() {
-    worked::reader();
-    reader_list::replay();
-    cases::replay(Kind::Codes, b"codes.bin", b"codes");
-    cases::replay(Kind::Vectors, b"vectors.bin", b"vectors");
-    cases::replay(Kind::Pixels, b"pixels.bin", b"pixels");
-    cases::replay(Kind::Scaled, b"scaled.bin", b"scaled");
-    cases::replay(Kind::Dequantised, b"dequantised.bin", b"dequantised");
-    cases::replay(Kind::Transforms, b"transforms.bin", b"transforms");
-    cases::replay(Kind::Blocks, b"blocks.bin", b"blocks");
+    print_values(worked::reader());
+    print(b"reader", reader_list::replay());
+    print(b"codes", cases::replay(Kind::Codes, b"codes.bin"));
+    print(b"vectors", cases::replay(Kind::Vectors, b"vectors.bin"));
+    print(b"pixels", cases::replay(Kind::Pixels, b"pixels.bin"));
+    print(b"scaled", cases::replay(Kind::Scaled, b"scaled.bin"));
+    print(
+        b"dequantised",
+        cases::replay(Kind::Dequantised, b"dequantised.bin"),
+    );
+    print(
+        b"transforms",
+        cases::replay(Kind::Transforms, b"transforms.bin"),
+    );
+    print(b"blocks", cases::replay(Kind::Blocks, b"blocks.bin"));
 }

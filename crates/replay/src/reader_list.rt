@@ -2,19 +2,20 @@
 //
 // A case is the operation's number (a byte), its argument, the Rust's answer and the place after it in bits (three numbers). Behind a new stream
 // stand its bytes, as many as the argument says; behind a peek the bytes that it gave, one less than the answer.
-use crate::list;
-use crate::list::number_at;
-use crate::list::same;
+use crate::load;
 use crate::reader_operations::Outcome;
 use crate::reader_operations::operate;
 use crate::reader_operations::operation_of;
-use crate::tally::Tally;
 use bits::bytes::Part;
 use bits::reader::Reader;
+use lists::bytes::same;
+use lists::numbers::number_at;
+use lists::tally::Tally;
 ghost use mathlib.Core.Path.{_≡_};
 ghost use Prim.Native.Nat.{_+_, _≤_};
 ghost use lib.ListN.{length};
 ghost use Rattle.replay.specs.ReaderList.{behindOf, agree, bytesAgree, onward, cutOff, Inside, stepped, scored};
+ghost use Rattle.replay.specs.Replayed.{Replayed};
 
 // How far a list is taken: the next case stands at `at`, the present stream from `from` up to `to`, and our reader is in it.
 pub struct Along {
@@ -189,8 +190,11 @@ pub fn score(list: &[u8]) -> Tally
     tally
 }
 
-pub fn replay() {
-    let mut space = list::space();
-    let count = list::load(b"reader.bin", &mut space);
-    score(&space[..count]).print(b"reader");
+// The list that reader.bin holds.
+pub fn replay() -> Tally
+    ensures { λ r. ⌜ Replayed scored r ⌝ }
+{
+    let mut space = load::space();
+    let count = load::load(b"reader.bin", &mut space);
+    score(&space[..count])
 }

@@ -1,10 +1,10 @@
 // The operations of the reader, as the list reader.bin names them, and ours for each.
-use crate::list::held;
-use crate::list::signed;
 use bits::bytes::Part;
 use bits::position::BytePosition;
 use bits::reader::Reader;
 use bits::start_codes::StartCode;
+use lists::numbers::held;
+use lists::numbers::signed;
 ghost use mathlib.Core.Path.{_≡_};
 ghost use Prim.Native.Nat.{_≤_};
 ghost use lib.ListN.{length};

@@ -1,12 +1,11 @@
 // The list scaled.bin: pictures as pixels. A case is five numbers, the planes and the pixels: the width and height of the picture, the width of its
 // plane Y, the width and height of the output; plane Y of 256 bytes, planes Cr and Cb of 64 bytes each; the area of 64 pixels that the Rust
 // left, each of which was 0 before.
-use crate::list::holds;
-use crate::list::number_at;
 use argb::scaled::write_rgb_scaled;
+use lists::bytes::part;
+use lists::numbers::holds;
+use lists::numbers::number_at;
 ghost use mathlib.Core.Path.{_≡_};
-ghost use Prim.Native.Nat.{_+_, _≤_};
-ghost use lib.ListN.{length};
 ghost use Rattle.replay.specs.ScaledList.{blank, possible, scaledAgrees};
 
 fn blank() -> [u32; 64]
@@ -29,25 +28,23 @@ fn possible(width: usize, height: usize, luma: usize, w: usize, h: usize) -> boo
         & (h <= 8)
 }
 
-pub fn scaled_agree(list: &[u8], at: usize) -> bool
-    requires { ⌜ at + 660 ≤ length (now list) ⌝ }
-    ensures { λ r. ⌜ r ≡ scaledAgrees (now (list .entry)) at ⌝ }
+pub fn scaled_agree(case: &[u8]) -> bool
+    ensures { λ r. ⌜ r ≡ scaledAgrees (now (case .entry)) ⌝ }
 {
-    let width = number_at(list, at) as usize;
-    let height = number_at(list, at + 4) as usize;
-    let luma = number_at(list, at + 8) as usize;
-    let w = number_at(list, at + 12) as usize;
-    let h = number_at(list, at + 16) as usize;
+    if case.len() != 660 {
+        return false;
+    }
+    let width = number_at(case, 0) as usize;
+    let height = number_at(case, 4) as usize;
+    let luma = number_at(case, 8) as usize;
+    let w = number_at(case, 12) as usize;
+    let h = number_at(case, 16) as usize;
     if possible(width, height, luma, w, h) {
-        let y = at + 20;
-        let cr = at + 276;
-        let cb = at + 340;
-        let end = at + 404;
         let mut area = blank();
         write_rgb_scaled(
-            &list[y..cr],
-            &list[cr..cb],
-            &list[cb..end],
+            part(case, 20, 256),
+            part(case, 276, 64),
+            part(case, 340, 64),
             width,
             height,
             luma,
@@ -55,7 +52,7 @@ pub fn scaled_agree(list: &[u8], at: usize) -> bool
             w,
             h,
         );
-        return holds(list, end, &area);
+        return holds(part(case, 404, 256), &area);
     }
     false
 }

@@ -5,43 +5,43 @@ enum-told : tie.Need-enum-told
 enum-told c = c .match .keys1
 
 codes-agree-requires : tie.Need-codes-agree-requires
-codes-agree-requires c κs = rw (c .enum-told .given .1) at (c .before .before .before .pre)
+codes-agree-requires c κs = tt
 
 enum-told-2 : tie.Need-enum-told-2
 enum-told-2 c = c .match .keys2
 
 vectors-agree-requires : tie.Need-vectors-agree-requires
-vectors-agree-requires c κs = rw (c .enum-told2 .given .1) at (c .before .before .before .pre)
+vectors-agree-requires c κs = tt
 
 enum-told-3 : tie.Need-enum-told-3
 enum-told-3 c = c .match .keys3
 
 pixels-agree-requires : tie.Need-pixels-agree-requires
-pixels-agree-requires c κs = rw (c .enum-told3 .given .1) at (c .before .before .before .pre)
+pixels-agree-requires c κs = tt
 
 enum-told-4 : tie.Need-enum-told-4
 enum-told-4 c = c .match .keys4
 
 scaled-agree-requires : tie.Need-scaled-agree-requires
-scaled-agree-requires c κs = rw (c .enum-told4 .given .1) at (c .before .before .before .pre)
+scaled-agree-requires c κs = tt
 
 enum-told-5 : tie.Need-enum-told-5
 enum-told-5 c = c .match .keys5
 
 dequantised-agree-requires : tie.Need-dequantised-agree-requires
-dequantised-agree-requires c κs = rw (c .enum-told5 .given .1) at (c .before .before .before .pre)
+dequantised-agree-requires c κs = tt
 
 enum-told-6 : tie.Need-enum-told-6
 enum-told-6 c = c .match .keys6
 
 transforms-agree-requires : tie.Need-transforms-agree-requires
-transforms-agree-requires c κs = rw (c .enum-told6 .given .1) at (c .before .before .before .pre)
+transforms-agree-requires c κs = tt
 
 enum-told-7 : tie.Need-enum-told-7
 enum-told-7 c = c .match .keys7
 
 blocks-agree-requires : tie.Need-blocks-agree-requires
-blocks-agree-requires c κs = rw (c .enum-told7 .given .1) at (c .before .before .before .pre)
+blocks-agree-requires c κs = tt
 
 returns : tie.Need-returns
 returns c = rw (c .before .enum-told .given .1) (c .codes-agree .ensures)

@@ -1,4 +1,6 @@
+use native.Mathlib.Omega.{arith}
 use borrow.Author.Needs.{needs}
+use Rattle.replay.proofs.Replays.{replayed}
 use Rattle.replay.proofs.cases.replay.Statement.{statement}
 use Rattle.replay.proofs.cases.replay.Tie as tie
 
@@ -6,7 +8,7 @@ space-requires : tie.Need-space-requires
 space-requires c κs = tt
 
 slice-aggregate-load : tie.Need-slice-aggregate-load
-slice-aggregate-load c = c .before .space .ensures
+slice-aggregate-load c = search needs
 
 load-requires : tie.Need-load-requires
 load-requires c κs = tt
@@ -20,11 +22,8 @@ slice-aggregate-score c = search needs
 score-requires : tie.Need-score-requires
 score-requires c κs = tt
 
-print-requires : tie.Need-print-requires
-print-requires c κs = tt
-
 returns : tie.Need-returns
-returns c = tt
+returns c = replayed _ (c .score .ensures) (omega (arith, c .before .before .before .load .ensures, c .before .before .space3 .given))
 
 pub replay-spec : {M : Type 1} → statement M
 replay-spec =
@@ -36,5 +35,4 @@ replay-spec =
     array-share-prefix-space
     slice-aggregate-score
     score-requires
-    print-requires
     returns)

@@ -1,6 +1,7 @@
-use mathlib.Core.Path.{_∙_}
+use mathlib.Core.Path.{_∙_, ap}
 use native.Mathlib.Omega.{arith}
-use Rattle.replay.proofs.CaseScores.{Scoring, scoring-start, scoring-room, scoring-on, scoring-end, bytes-fit, sized, not-sized, no-number}
+use Rattle.replay.proofs.CaseScores.{Scoring, scoring-start, scoring-room, scoring-on, scoring-end, bytes-fit, sized, not-sized}
+use Rattle.replay.specs.Cases.{agrees}
 use Rattle.replay.proofs.cases.score.Statement.{statement}
 use Rattle.replay.proofs.cases.score.Tie as tie
 
@@ -13,14 +14,8 @@ abbrev μ-loop : tie.MeasureT-loop
 new-requires : tie.Need-new-requires Inv-loop μ-loop
 new-requires c κs = tt
 
-counted-requires : tie.Need-counted-requires Inv-loop μ-loop
-counted-requires c κs = rw (c .before .new .ensures) (omega arith)
-
-returns : tie.Need-returns Inv-loop μ-loop
-returns c = rw (c .counted .ensures, c .before .before .new .ensures) (no-number _ _ (c .before .if1 .taken))
-
 number-at-requires : tie.Need-number-at-requires Inv-loop μ-loop
-number-at-requires c κs = omega arith
+number-at-requires c κs = tt
 
 numbers-requires : tie.Need-numbers-requires Inv-loop μ-loop
 numbers-requires c κs = tt
@@ -37,30 +32,30 @@ mul-length c = omega (arith, bytes-fit (c .numbers .result) (c .before .number-a
 add-length : tie.Need-add-length Inv-loop μ-loop
 add-length c = omega (arith, bytes-fit (c .numbers .result) (c .before .number-at .result) (c .numbers .ensures .1) (omega arith))
 
-counted-requires-2 : tie.Need-counted-requires-2 Inv-loop μ-loop
-counted-requires-2 c κs = rw (c .before .before .before .before .new .ensures) (omega arith)
+counted-requires : tie.Need-counted-requires Inv-loop μ-loop
+counted-requires c κs = tt
 
-returns-2 : tie.Need-returns-2 Inv-loop μ-loop
-returns-2 c =
-    let k = c .before .before in
-    rw (c .counted2 .ensures, k .before .before .before .new .ensures) (not-sized _ _ _ (k .before .number-at .ensures) (rw (k .numbers .ensures .0) at (c .before .if2 .taken)))
+returns : tie.Need-returns Inv-loop μ-loop
+returns c = let k = c .before .before in
+    rw (c .counted .ensures, k .before .before .new .ensures) (not-sized _ _ _ (k .before .number-at .ensures) (rw (k .numbers .ensures .0) at (c .before .if1 .taken)))
 
 loop-holds : tie.Need-loop-holds Inv-loop μ-loop
-loop-holds c =
-    let k = c .before in
-    scoring-start _ _ _ _ (rw (k .numbers .ensures .0) at (c .if2 .left)) (omega arith) (k .before .before .before .new .ensures)
+loop-holds c = let k = c .before in
+    scoring-start _ _ _ _ (rw (k .numbers .ensures .0) at (c .if1 .left)) (k .before .before .new .ensures)
+
+part-requires : tie.Need-part-requires Inv-loop μ-loop
+part-requires c κs = tt
 
 case-agrees-requires : tie.Need-case-agrees-requires Inv-loop μ-loop
-case-agrees-requires c κs = scoring-room _ _ _ _ _ _ (c .before .loop .inv) (c .loop-test .taken)
+case-agrees-requires c κs = tt
 
-counted-requires-3 : tie.Need-counted-requires-3 Inv-loop μ-loop
-counted-requires-3 c κs = let h = c .before .before .loop .inv in omega (arith, h .few, h .fewer)
+counted-requires-2 : tie.Need-counted-requires-2 Inv-loop μ-loop
+counted-requires-2 c κs = tt
 
 add-at : tie.Need-add-at Inv-loop μ-loop
-add-at c =
-    let l = c .before .before .before in
-    let k = l .before .before in
-    rw (k .numbers .ensures .0) (omega (arith, scoring-room _ _ _ _ _ _ (l .loop .inv) (c .before .before .loop-test .taken), k .before .before .before .before .before .good))
+add-at c = let t = c .before .before .before in
+    let k = t .before .before .before in
+    rw (k .numbers .ensures .0) (omega (arith, scoring-room _ _ _ _ _ _ (t .before .loop .inv) (t .loop-test .taken), k .before .before .before .before .good))
 
 sub-left : tie.Need-sub-left Inv-loop μ-loop
 sub-left c = omega arith
@@ -69,16 +64,15 @@ loop-less : tie.Need-loop-less Inv-loop μ-loop
 loop-less c = omega arith
 
 loop-again : tie.Need-loop-again Inv-loop μ-loop
-loop-again c =
-    let l = c .before .before .before in
-    rw (l .before .before .numbers .ensures .0)
-    (scoring-on _ _ _ _ _ _ _ _ (l .loop .inv) (c .before .before .loop-test .taken) (c .before .case-agrees .ensures) (c .counted3 .ensures))
+loop-again c = let t = c .before .before .before in
+    let k = t .before .before .before in
+    rw (k .numbers .ensures .0)
+    (scoring-on _ _ _ _ _ _ _ _ (t .before .loop .inv) (t .loop-test .taken) (c .before .case-agrees .ensures ∙ ap (agrees (k .before .before .before .before .args .kind)) (rw (k .numbers .ensures .0) at (c .before .before .part .ensures))) (c .counted2 .ensures))
 
-returns-3 : tie.Need-returns-3 Inv-loop μ-loop
-returns-3 c =
-    let k = c .before .before .before in
+returns-2 : tie.Need-returns-2 Inv-loop μ-loop
+returns-2 c = let k = c .before .before .before in
     scoring-end _ _ _ _ _ _ (c .before .loop .inv) (c .loop-test .left)
-    ∙ sized _ _ _ (k .before .number-at .ensures) (rw (k .numbers .ensures .0) at (c .before .before .if2 .left))
+    ∙ sized _ _ _ (k .before .number-at .ensures) (rw (k .numbers .ensures .0) at (c .before .before .if1 .left))
 
 pub score-spec : {M : Type 1} → statement M
 score-spec =
@@ -87,21 +81,20 @@ score-spec =
     Inv-loop
     μ-loop
     new-requires
-    counted-requires
-    returns
     number-at-requires
     numbers-requires
     mul-size
     cast-length
     mul-length
     add-length
-    counted-requires-2
-    returns-2
+    counted-requires
+    returns
     loop-holds
+    part-requires
     case-agrees-requires
-    counted-requires-3
+    counted-requires-2
     add-at
     sub-left
     loop-less
     loop-again
-    returns-3)
+    returns-2)

@@ -1,8 +1,7 @@
 use mathlib.Core.Path.{_∙_, sym}
-use Prim.Native.Nat.{_+_}
 use native.Mathlib.Omega.{arith}
-use borrow.Author.Tests.{lt-ltb, le-ltb}
 use borrow.Author.Needs.{sfits-of}
+use borrow.Author.Tests.{lt-ltb, le-ltb}
 use mir.Syntax.{w32}
 use mir.Facts.{toZ-ofZ}
 use Rattle.replay.specs.CodeList.{codeAgrees}
@@ -11,53 +10,46 @@ use Rattle.replay.proofs.code_list.codes_agree.Statement.{statement}
 use Rattle.replay.proofs.code_list.codes_agree.Tie as tie
 
 number-at-requires : tie.Need-number-at-requires
-number-at-requires c κs = omega arith
+number-at-requires c κs = tt
 
 returns : tie.Need-returns
 unfolding codeAgrees
 returns c = rw (← c .before .number-at .ensures, le-ltb _ _ (c .if1 .taken))
 
-add-from : tie.Need-add-from
-add-from c = omega arith
+part-requires : tie.Need-part-requires
+part-requires c κs = tt
 
 possible-requires : tie.Need-possible-requires
-possible-requires c κs = omega arith
+possible-requires c κs = tt
 
 stream-requires : tie.Need-stream-requires
-stream-requires c κs = (omega arith, sym (c .before .possible .ensures) ∙ c .if2 .taken)
+stream-requires c κs = tt
 
 reader-requires : tie.Need-reader-requires
-reader-requires c κs = omega arith
+reader-requires c κs = tt
 
 read-code-requires : tie.Need-read-code-requires
-read-code-requires c κs =
-    let p = c .before .before .before in
-    let x = p .before .before .before .before in
-    let l = x .args .list .now in
-    let i = x .args .at + 4 in
+read-code-requires c κs = let p = c .before .before .before in
     let h = sym (p .possible .ensures) ∙ c .before .before .if2 .taken in
-    (omega (arith, c .reader .ensures, limits l i h), (short l i h _ (c .before .stream .ensures), p .before .if1 .left))
+    (omega (arith, c .reader .ensures, limits _ h), (short _ h _ (c .before .stream .ensures), p .before .before .if1 .left))
 
 same-end-requires : tie.Need-same-end-requires
-same-end-requires c κs = omega arith
+same-end-requires c κs = tt
 
 returns-2 : tie.Need-returns-2
 unfolding codeAgrees
-returns-2 c =
-    let d = c .before .before .before in
+returns-2 c = let d = c .before .before .before in
     let p = d .before .before .before .before in
-    let n = p .before .before in
-    let x = n .before .before in
+    let n = p .before .before .before in
     let h = sym (p .possible .ensures) ∙ d .before .before .before .if2 .taken in
     let f = toZ-ofZ {w = w32} {z = d .read-code .result .value} (sfits-of (c .before .struct-told .given .1 .0 .1)) in
-    rw (← n .number-at .ensures, lt-ltb _ _ (p .before .if1 .left))
-    (c .same-end .ensures ∙ rw f (read (x .args .list .now) (x .args .at + 4) h (d .before .before .stream .ensures) (d .before .reader .ensures) (d .read-code .ensures)))
+    rw (← n .number-at .ensures, ← p .before .part .ensures, lt-ltb _ _ (p .before .before .if1 .left))
+    (c .same-end .ensures ∙ rw f (read _ h (d .before .before .stream .ensures) (d .before .reader .ensures) (d .read-code .ensures)))
 
 returns-3 : tie.Need-returns-3
 unfolding codeAgrees
-returns-3 c =
-    let n = c .before .before .before in
-    rw (← n .number-at .ensures, lt-ltb _ _ (c .before .before .if1 .left)) (unread _ _ _ (sym (c .before .possible .ensures) ∙ c .if2 .left))
+returns-3 c = let p = c .before in
+    rw (← p .before .before .before .number-at .ensures, ← p .before .part .ensures, lt-ltb _ _ (p .before .before .if1 .left)) (unread _ _ (sym (p .possible .ensures) ∙ c .if2 .left))
 
 pub codes-agree-spec : {M : Type 1} → statement M
 codes-agree-spec =
@@ -65,7 +57,7 @@ codes-agree-spec =
     (tie.spec
     number-at-requires
     returns
-    add-from
+    part-requires
     possible-requires
     stream-requires
     reader-requires

@@ -5,19 +5,13 @@ use Rattle.replay.proofs.pixel_list.pixels_agree.Statement.{statement}
 use Rattle.replay.proofs.pixel_list.pixels_agree.Tie as tie
 
 number-at-requires : tie.Need-number-at-requires
-number-at-requires c κs = omega arith
-
-add-number-at : tie.Need-add-number-at
-add-number-at c = omega arith
+number-at-requires c κs = tt
 
 number-at-requires-2 : tie.Need-number-at-requires-2
-number-at-requires-2 c κs = omega arith
-
-add-number-at-2 : tie.Need-add-number-at-2
-add-number-at-2 c = omega arith
+number-at-requires-2 c κs = tt
 
 number-at-requires-3 : tie.Need-number-at-requires-3
-number-at-requires-3 c κs = omega arith
+number-at-requires-3 c κs = tt
 
 returns : tie.Need-returns
 unfolding pixelAgrees
@@ -25,14 +19,12 @@ returns c = rw (← c .before .before .before .number-at .ensures, lt-leb _ _ (c
 
 returns-2 : tie.Need-returns-2
 unfolding pixelAgrees
-returns-2 c =
-    let x = c .before .before .before in
+returns-2 c = let x = c .before .before .before in
     rw (← x .before .number-at .ensures, ← x .number-at2 .ensures, le-leb _ _ (c .before .if1 .left), lt-leb _ _ (c .if2 .taken))
 
 returns-3 : tie.Need-returns-3
 unfolding pixelAgrees
-returns-3 c =
-    let x = c .before .before .before in
+returns-3 c = let x = c .before .before .before in
     rw (← x .before .before .number-at .ensures, ← x .before .number-at2 .ensures, ← x .number-at3 .ensures, le-leb _ _ (c .before .before .if1 .left), le-leb _ _ (c .before .if2 .left), lt-leb _ _ (c .if3 .taken))
 
 cast-pixel : tie.Need-cast-pixel
@@ -47,16 +39,12 @@ cast-pixel-3 c = omega arith
 pixel-requires : tie.Need-pixel-requires
 pixel-requires c κs = tt
 
-add-number-at-3 : tie.Need-add-number-at-3
-add-number-at-3 c = omega arith
-
 number-at-requires-4 : tie.Need-number-at-requires-4
-number-at-requires-4 c κs = omega arith
+number-at-requires-4 c κs = tt
 
 returns-4 : tie.Need-returns-4
 unfolding pixelAgrees
-returns-4 c =
-    let p = c .before in
+returns-4 c = let p = c .before in
     let x = p .before .before .before .before in
     rw (← x .before .before .number-at .ensures, ← x .before .number-at2 .ensures, ← x .number-at3 .ensures, le-leb _ _ (p .before .before .before .if1 .left), le-leb _ _ (p .before .before .if2 .left), le-leb _ _ (p .before .if3 .left), p .pixel .ensures, c .number-at4 .ensures)
 
@@ -65,9 +53,7 @@ pixels-agree-spec =
     tie.close
     (tie.spec
     number-at-requires
-    add-number-at
     number-at-requires-2
-    add-number-at-2
     number-at-requires-3
     returns
     returns-2
@@ -76,6 +62,5 @@ pixels-agree-spec =
     cast-pixel-2
     cast-pixel-3
     pixel-requires
-    add-number-at-3
     number-at-requires-4
     returns-4)

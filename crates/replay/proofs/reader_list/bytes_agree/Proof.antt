@@ -6,7 +6,7 @@ use borrow.Author.Needs.{needs}
 use borrow.Author.Tests.{eq-eqb, ne-eqb}
 use Rattle.bits.specs.Bits.{bytesOf}
 use Rattle.bits.specs.declared.bytes.Part.{Part}
-use Rattle.replay.specs.Lists.{sameBytes}
+use Rattle.lists.specs.Bytes.{sameBytes}
 use Rattle.replay.proofs.reader_list.bytes_agree.Statement.{statement}
 use Rattle.replay.proofs.reader_list.bytes_agree.Tie as tie
 

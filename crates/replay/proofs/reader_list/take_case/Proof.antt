@@ -25,19 +25,19 @@ add-number-at : tie.Need-add-number-at
 add-number-at c = omega arith
 
 number-at-requires : tie.Need-number-at-requires
-number-at-requires c κs = omega arith
+number-at-requires c κs = tt
 
 add-number-at-2 : tie.Need-add-number-at-2
 add-number-at-2 c = omega arith
 
 number-at-requires-2 : tie.Need-number-at-requires-2
-number-at-requires-2 c κs = omega arith
+number-at-requires-2 c κs = tt
 
 add-number-at-3 : tie.Need-add-number-at-3
 add-number-at-3 c = omega arith
 
 number-at-requires-3 : tie.Need-number-at-requires-3
-number-at-requires-3 c κs = omega arith
+number-at-requires-3 c κs = tt
 
 add-start : tie.Need-add-start
 add-start c = omega arith

@@ -1,95 +1,81 @@
 use mathlib.Core.Path.{_≡_, sym, ap, _∙_}
-use Prim.Native.Nat.{_+_}
 use native.Mathlib.Omega.{arith}
 use borrow.Author.Needs.{sfits-of}
 use borrow.Author.Tests.{le-leb, lt-leb}
 use mir.Syntax.{w32}
 use mir.Val.{ofZ, toZ}
 use mir.Facts.{toZ-ofZ}
-use Rattle.replay.specs.Lists.{numberAt}
+use Rattle.lists.specs.Numbers.{numberAt}
 use Rattle.replay.specs.VectorList.{vectorAgrees}
 use Rattle.replay.proofs.Components.{too-low, too-high, within, in-range}
 use Rattle.replay.proofs.Readings.{limits, short, read, unread}
 use Rattle.replay.proofs.vector_list.vectors_agree.Statement.{statement}
 use Rattle.replay.proofs.vector_list.vectors_agree.Tie as tie
 
--- what is read of the component is what the list holds
-moved : (c : tie.After-signed) → toZ w32 (ofZ w32 (c .signed .result)) ≡ toZ w32 (numberAt (c .before .before .before .before .before .args .list .now) (c .before .before .before .before .before .args .at + 4))
+-- what is read of the component is what the case holds
+moved : (c : tie.After-signed) → toZ w32 (ofZ w32 (c .signed .result)) ≡ toZ w32 (numberAt (c .before .before .before .before .before .args .case .now) 4)
 moved c = toZ-ofZ {w = w32} (sfits-of (c .signed .ok)) ∙ c .signed .ensures ∙ ap (toZ w32) (c .before .number-at2 .ensures)
 
 number-at-requires : tie.Need-number-at-requires
-number-at-requires c κs = omega arith
+number-at-requires c κs = tt
 
 returns : tie.Need-returns
 unfolding vectorAgrees
 returns c = rw (← c .before .number-at .ensures, lt-leb _ _ (c .if1 .taken))
 
-add-number-at : tie.Need-add-number-at
-add-number-at c = omega arith
-
 number-at-requires-2 : tie.Need-number-at-requires-2
-number-at-requires-2 c κs = omega arith
+number-at-requires-2 c κs = tt
 
 signed-requires : tie.Need-signed-requires
 signed-requires c κs = tt
 
 returns-2 : tie.Need-returns-2
 unfolding vectorAgrees
-returns-2 c =
-    let m = c .before in
+returns-2 c = let m = c .before in
     rw (← m .before .before .before .number-at .ensures, le-leb _ _ (m .before .before .if1 .left), ← moved m, too-low _ (c .if2 .taken))
 
 returns-3 : tie.Need-returns-3
 unfolding vectorAgrees
-returns-3 c =
-    let m = c .before .before in
+returns-3 c = let m = c .before .before in
     rw (← m .before .before .before .number-at .ensures, le-leb _ _ (m .before .before .if1 .left), ← moved m, too-high _ (c .before .if2 .left) (c .if3 .taken))
 
-add-from : tie.Need-add-from
-add-from c = omega arith
+part-requires : tie.Need-part-requires
+part-requires c κs = tt
 
 possible-requires : tie.Need-possible-requires
-possible-requires c κs = omega arith
+possible-requires c κs = tt
 
 stream-requires : tie.Need-stream-requires
-stream-requires c κs = (omega arith, sym (c .before .possible .ensures) ∙ c .if4 .taken)
+stream-requires c κs = tt
 
 reader-requires : tie.Need-reader-requires
-reader-requires c κs = omega arith
+reader-requires c κs = tt
 
 decode-motion-vector-requires : tie.Need-decode-motion-vector-requires
-decode-motion-vector-requires c κs =
-    let p = c .before .before .before in
-    let n = p .before .before .before .before .before .before in
-    let x = n .before .before in
-    let l = x .args .list .now in
-    let i = x .args .at + 8 in
+decode-motion-vector-requires c κs = let p = c .before .before .before in
+    let m = p .before .before .before .before in
     let h = sym (p .possible .ensures) ∙ c .before .before .if4 .taken in
-    (omega (arith, c .reader .ensures, limits l i h), (short l i h _ (c .before .stream .ensures), (p .before .before .before .before .before .if1 .left, in-range _ (p .before .before .if2 .left) (p .before .if3 .left))))
+    (omega (arith, c .reader .ensures, limits _ h), (short _ h _ (c .before .stream .ensures), (m .before .before .if1 .left, in-range _ (p .before .before .before .if2 .left) (p .before .before .if3 .left))))
 
 same-end-requires : tie.Need-same-end-requires
-same-end-requires c κs = omega arith
+same-end-requires c κs = tt
 
 returns-4 : tie.Need-returns-4
 unfolding vectorAgrees
-returns-4 c =
-    let d = c .before .before .before in
+returns-4 c = let d = c .before .before .before in
     let p = d .before .before .before .before in
-    let m = p .before .before .before in
-    let n = m .before .before .before in
-    let x = n .before .before in
+    let m = p .before .before .before .before in
     let h = sym (p .possible .ensures) ∙ d .before .before .before .if4 .taken in
     let f = toZ-ofZ {w = w32} {z = d .decode-motion-vector .result .motion} (sfits-of (c .before .struct-told .given .1 .0 .1)) in
-    rw (← n .number-at .ensures, le-leb _ _ (m .before .before .if1 .left), ← moved m, within _ (p .before .before .if2 .left) (p .before .if3 .left))
-    (c .same-end .ensures ∙ rw f (read (x .args .list .now) (x .args .at + 8) h (d .before .before .stream .ensures) (d .before .reader .ensures) (d .decode-motion-vector .ensures .0)))
+    rw (← m .before .before .before .number-at .ensures, ← p .before .part .ensures, le-leb _ _ (m .before .before .if1 .left), ← moved m, within _ (p .before .before .before .if2 .left) (p .before .before .if3 .left))
+    (c .same-end .ensures ∙ rw f (read _ h (d .before .before .stream .ensures) (d .before .reader .ensures) (d .decode-motion-vector .ensures .0)))
 
 returns-5 : tie.Need-returns-5
 unfolding vectorAgrees
-returns-5 c =
-    let p = c .before in
-    let m = p .before .before .before in
-    rw (← m .before .before .before .number-at .ensures, le-leb _ _ (m .before .before .if1 .left), ← moved m, within _ (p .before .before .if2 .left) (p .before .if3 .left))
-    (unread _ _ _ (sym (p .possible .ensures) ∙ c .if4 .left))
+returns-5 c = let p = c .before in
+    let m = p .before .before .before .before in
+    rw (← m .before .before .before .number-at .ensures, ← p .before .part .ensures, le-leb _ _ (m .before .before .if1 .left), ← moved m, within _ (p .before .before .before .if2 .left) (p .before .before .if3 .left))
+    (unread _ _ (sym (p .possible .ensures) ∙ c .if4 .left))
 
 pub vectors-agree-spec : {M : Type 1} → statement M
 vectors-agree-spec =
@@ -97,12 +83,11 @@ vectors-agree-spec =
     (tie.spec
     number-at-requires
     returns
-    add-number-at
     number-at-requires-2
     signed-requires
     returns-2
     returns-3
-    add-from
+    part-requires
     possible-requires
     stream-requires
     reader-requires

@@ -1,7 +1,16 @@
-use mathlib.Core.Path.{refl}
+use mathlib.Core.Path.{_≡_, refl}
+use mathlib.Core.List.{List}
+use Prim.Native.Nat.{ℕ}
 use native.Mathlib.Omega.{arith}
+use Rattle.bits.specs.Bits.{bitAt, bitsAt, got, next}
+use Rattle.bits.specs.Programs.{Prog, run}
+use Rattle.bits.specs.Runs.{Runs}
 use Rattle.replay.proofs.worked.reader.Statement.{statement}
 use Rattle.replay.proofs.worked.reader.Tie as tie
+
+-- a run's value and place
+gives : {p : Prog ℕ} {s : List ℕ} {a v e : ℕ} → Runs p s a v e → (v ≡ run p s a .value) × (e ≡ run p s a .at)
+gives h = (rw (h .is), rw (h .is))
 
 new-requires : tie.Need-new-requires
 new-requires c κs = tt
@@ -24,50 +33,24 @@ slice-aggregate-read-3 c = refl
 read-requires-3 : tie.Need-read-requires-3
 read-requires-3 c κs = omega arith
 
-slice-aggregate-write-all : tie.Need-slice-aggregate-write-all
-slice-aggregate-write-all c = refl
-
-write-all-requires : tie.Need-write-all-requires
-write-all-requires c κs = tt
-
-cast-print-decimal : tie.Need-cast-print-decimal
-cast-print-decimal c = omega (arith, c .struct-known .given)
-
-print-decimal-requires : tie.Need-print-decimal-requires
-print-decimal-requires c κs = tt
-
-slice-aggregate-write-all-2 : tie.Need-slice-aggregate-write-all-2
-slice-aggregate-write-all-2 c = refl
-
-write-all-requires-2 : tie.Need-write-all-requires-2
-write-all-requires-2 c κs = tt
-
-cast-print-decimal-2 : tie.Need-cast-print-decimal-2
-cast-print-decimal-2 c = omega (arith, c .struct-known2 .given)
-
-print-decimal-requires-2 : tie.Need-print-decimal-requires-2
-print-decimal-requires-2 c κs = tt
-
-slice-aggregate-write-all-3 : tie.Need-slice-aggregate-write-all-3
-slice-aggregate-write-all-3 c = refl
-
-write-all-requires-3 : tie.Need-write-all-requires-3
-write-all-requires-3 c κs = tt
-
-cast-print-decimal-3 : tie.Need-cast-print-decimal-3
-cast-print-decimal-3 c = omega (arith, c .struct-known3 .given)
-
-print-decimal-requires-3 : tie.Need-print-decimal-requires-3
-print-decimal-requires-3 c κs = tt
-
-slice-aggregate-write-all-4 : tie.Need-slice-aggregate-write-all-4
-slice-aggregate-write-all-4 c = refl
-
-write-all-requires-4 : tie.Need-write-all-requires-4
-write-all-requires-4 c κs = tt
-
 returns : tie.Need-returns
-returns c = tt
+unfolding run got next bitsAt bitAt
+returns c = let r = c .before .before .before .before in
+    let s = c .before .before in
+    let one : (r .read .result .value ≡ 5) × (r .read .result .reader .at .0 ≡ 3) = gives (rw (r .before .before .new .ensures) at (r .read .ensures .0)) in
+    let two : (s .read2 .result .value ≡ 0) × (s .read2 .result .reader .at .0 ≡ 3) = gives (rw (one .1) at (s .read2 .ensures .0)) in
+    let three : (c .read3 .result .value ≡ 5) × (c .read3 .result .reader .at .0 ≡ 8) = gives (rw (two .1) at (c .read3 .ensures .0)) in
+    (one .0, two .0, three .0)
 
 pub reader-spec : {M : Type 1} → statement M
-reader-spec = tie.close (tie.spec new-requires slice-aggregate-read read-requires slice-aggregate-read-2 read-requires-2 slice-aggregate-read-3 read-requires-3 slice-aggregate-write-all write-all-requires cast-print-decimal print-decimal-requires slice-aggregate-write-all-2 write-all-requires-2 cast-print-decimal-2 print-decimal-requires-2 slice-aggregate-write-all-3 write-all-requires-3 cast-print-decimal-3 print-decimal-requires-3 slice-aggregate-write-all-4 write-all-requires-4 returns)
+reader-spec =
+    tie.close
+    (tie.spec
+    new-requires
+    slice-aggregate-read
+    read-requires
+    slice-aggregate-read-2
+    read-requires-2
+    slice-aggregate-read-3
+    read-requires-3
+    returns)

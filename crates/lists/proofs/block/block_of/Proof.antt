@@ -1,0 +1,73 @@
+use mathlib.Core.Path.{_≡_, ap, _∙_}
+use Prim.Native.Nat.{_*_, _-_, _≤_}
+use native.Mathlib.Omega.{arith}
+use borrow.Author.Needs.{sfits-of}
+use mir.Syntax.{w32}
+use mir.Val.{toZ}
+use mir.Facts.{toZ-ofZ}
+use Rattle.laws.specs.Stores.{storeRow}
+use Rattle.lists.specs.Blocks.{blank, blockOf}
+use Rattle.lists.specs.Numbers.{numberAt}
+use Rattle.lists.proofs.Blocks.{stored, all-stored}
+use Rattle.lists.proofs.block.block_of.Statement.{statement}
+use Rattle.lists.proofs.block.block_of.Tie as tie
+
+abbrev Inv-loop : tie.InvT-loop
+Inv-loop list block₀ i₀ block i = (i ≤ 64) × (block ≡ storeRow blank 0 (λ k. toZ w32 (numberAt list (4 * k))) i)
+
+abbrev μ-loop : tie.MeasureT-loop
+μ-loop list block₀ i₀ block i = 64 - i
+
+blank-requires : tie.Need-blank-requires Inv-loop μ-loop
+blank-requires c κs = tt
+
+loop-holds : tie.Need-loop-holds Inv-loop μ-loop
+unfolding storeRow
+loop-holds c = (omega arith, c .blank .ensures)
+
+mul-number-at : tie.Need-mul-number-at Inv-loop μ-loop
+mul-number-at c = omega arith
+
+number-at-requires : tie.Need-number-at-requires Inv-loop μ-loop
+number-at-requires c κs = tt
+
+signed-requires : tie.Need-signed-requires Inv-loop μ-loop
+signed-requires c κs = tt
+
+mul-block : tie.Need-mul-block Inv-loop μ-loop
+mul-block c = omega arith
+
+array-set-from-block : tie.Need-array-set-from-block Inv-loop μ-loop
+array-set-from-block c = omega arith
+
+add-i : tie.Need-add-i Inv-loop μ-loop
+add-i c = omega arith
+
+loop-less : tie.Need-loop-less Inv-loop μ-loop
+loop-less c = omega arith
+
+loop-again : tie.Need-loop-again Inv-loop μ-loop
+loop-again c = let l = c .before .before .before in
+    (omega arith, stored _ (l .loop .i) (l .loop .inv .1) (toZ-ofZ {w = w32} (sfits-of (c .signed .ok)) ∙ c .signed .ensures ∙ ap (toZ w32) (c .before .number-at .ensures)))
+
+returns : tie.Need-returns Inv-loop μ-loop
+unfolding blockOf
+returns c = let l = c .before in all-stored _ (l .loop .i) (l .loop .inv .1) (l .loop .inv .0) (c .loop-test .left)
+
+pub block-of-spec : {M : Type 1} → statement M
+block-of-spec =
+    tie.close
+    (tie.spec
+    Inv-loop
+    μ-loop
+    blank-requires
+    loop-holds
+    mul-number-at
+    number-at-requires
+    signed-requires
+    mul-block
+    array-set-from-block
+    add-i
+    loop-less
+    loop-again
+    returns)

@@ -1,0 +1,76 @@
+use mathlib.Core.Path.{_≡_, _∙_}
+use Prim.Native.Nat.{_-_}
+use native.Mathlib.Omega.{arith}
+use borrow.Author.Needs.{sfits-of}
+use borrow.Author.Tests.{eq-eqb, ne-eqb}
+use mir.Syntax.{w32}
+use mir.Facts.{toZ-ofZ}
+use lib.Dec.{eqb}
+use Rattle.lists.specs.Blocks.{sameAt, holdsBlock}
+use Rattle.lists.proofs.Each.{Passed, passed-none, passed-one, passed-fails, passed-all}
+use Rattle.lists.proofs.block.holds_block.Statement.{statement}
+use Rattle.lists.proofs.block.holds_block.Tie as tie
+
+abbrev Inv-loop : tie.InvT-loop
+Inv-loop list block i₀ i = Passed (sameAt list block) 64 i
+
+abbrev μ-loop : tie.MeasureT-loop
+μ-loop list block i₀ i = 64 - i
+
+loop-holds : tie.Need-loop-holds Inv-loop μ-loop
+loop-holds c = passed-none
+
+mul-number-at : tie.Need-mul-number-at Inv-loop μ-loop
+mul-number-at c = omega arith
+
+number-at-requires : tie.Need-number-at-requires Inv-loop μ-loop
+number-at-requires c κs = tt
+
+mul-z : tie.Need-mul-z Inv-loop μ-loop
+mul-z c = omega arith
+
+element-copy-out-z : tie.Need-element-copy-out-z Inv-loop μ-loop
+element-copy-out-z c = omega arith
+
+held-requires : tie.Need-held-requires Inv-loop μ-loop
+held-requires c κs = tt
+
+tested : (c : tie.After-held Inv-loop μ-loop) → sameAt (c .before .before .before .before .before .before .args .list .now) (c .before .before .before .before .before .before .args .block .now) (c .before .before .before .before .loop .i) ≡ eqb (c .held .result) (c .before .before .number-at .result)
+tested c = rw (c .held .ensures, toZ-ofZ {w = w32} (sfits-of (c .before .z .given)), c .before .before .number-at .ensures)
+
+returns : tie.Need-returns Inv-loop μ-loop
+unfolding holdsBlock
+returns c = let t = c .before .before .before .before in
+    passed-fails (t .before .loop .inv) (t .loop-test .taken) (tested (c .before) ∙ ne-eqb _ _ (c .if1 .taken))
+
+add-i : tie.Need-add-i Inv-loop μ-loop
+add-i c = omega arith
+
+loop-less : tie.Need-loop-less Inv-loop μ-loop
+loop-less c = omega arith
+
+loop-again : tie.Need-loop-again Inv-loop μ-loop
+loop-again c = let t = c .before .before .before .before in
+    passed-one (t .before .loop .inv) (t .loop-test .taken) (tested (c .before) ∙ eq-eqb _ _ (c .if1 .left))
+
+returns-2 : tie.Need-returns-2 Inv-loop μ-loop
+unfolding holdsBlock
+returns-2 c = passed-all (c .before .loop .inv) (c .loop-test .left)
+
+pub holds-block-spec : {M : Type 1} → statement M
+holds-block-spec =
+    tie.close
+    (tie.spec
+    Inv-loop
+    μ-loop
+    loop-holds
+    mul-number-at
+    number-at-requires
+    mul-z
+    element-copy-out-z
+    held-requires
+    returns
+    add-i
+    loop-less
+    loop-again
+    returns-2)

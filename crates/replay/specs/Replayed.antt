@@ -1,0 +1,12 @@
+-- What the replay of a file says.
+use Prim.Native.Nat.{ℕ, _≤_}
+use mathlib.Core.Path.{_≡_}
+use mathlib.Core.List.{List}
+use lib.ListN.{length}
+use Rattle.lists.specs.declared.tally.Tally.{Tally}
+
+-- t is the score of a list of at most 256 KiB, which is what was read from the file
+pub record Replayed (score : List ℕ → Tally) (t : Tally) : Type 0 where
+  pub list : List ℕ
+  pub short : length list ≤ 262144
+  pub is : t ≡ score list
