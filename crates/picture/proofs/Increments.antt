@@ -62,7 +62,7 @@ unfolding macroblockAddressIncrementIndex
 escape-ends k e = rw e
 
 module _ (s : List ℕ) (a : ℕ) where
-  abbrev code : Out ℤ
+  abbrev pub code : Out ℤ
   code = run macroblockAddressIncrement s a
 
   code-small : natAbs (code .value) ≤ 35
@@ -74,15 +74,16 @@ module _ (s : List ℕ) (a : ℕ) where
   unfolding macroblockAddressIncrement
   code-idle h = ap (λ (o : Out ℤ). o .value) (agrees-macroblock-address-increment .past-end s a h .is)
 
-  escape-inside : code .value ≡ pos 35 → a < length s * 8
-  escape-inside e = go (decLt a (length s * 8))
+  -- so that any other is of bits in the stream
+  pub code-served : (code .value ≡ pos 0 → ⊥) → a < length s * 8
+  code-served g = go (decLt a (length s * 8))
     where
       go : Dec (a < length s * 8) → a < length s * 8
       go (yes h) = h
-      go (no h) =
-          let z : _≡_ {A = ℕ} 0 35 = ap natAbs (sym (code-idle (omega arith)) ∙ e) in
-          let n : ⊥ = omega arith in
-          absurd n
+      go (no h) = absurd (g (code-idle (omega arith)))
+
+  escape-inside : code .value ≡ pos 35 → a < length s * 8
+  escape-inside e = code-served (λ z. let w : _≡_ {A = ℕ} 0 35 = ap natAbs (sym z ∙ e) in omega arith)
 
   escape-takes : code .value ≡ pos 35 → code .at ≡ taken s a 11
   unfolding macroblockAddressIncrement vlc run

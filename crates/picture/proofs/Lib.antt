@@ -1,4 +1,5 @@
 pub mod Example
+pub mod Fuel
 pub mod Increments
 pub mod Kept
 pub mod Lengths
