@@ -1,7 +1,7 @@
 -- RULES Q8, Q9, QG: what a picture leaves. It leaves early with no number but 8 and 9, the store stays as long as it was, and a possible state stays
 -- possible. Assumes nothing.
 use mathlib.Core.Path.{_≡_, refl, sym, ap, _∙_, subst}
-use mathlib.Core.Bool.{Bool, true, false, not, _&&_, false≢true}
+use mathlib.Core.Bool.{Bool, true, false, not, _&&_, false≢true, and-eq-true-iff}
 use mathlib.Core.List.{List}
 use mathlib.Core.Logic.{_⊎_, inl, inr}
 use Prim.Native.Nat.{ℕ, zero, suc, _+_, _-_, _*_, _^_, _≤_, _<_}
@@ -41,7 +41,7 @@ use Rattle.picture.specs.Slices.{Slicing, slicing, sliceStart, isLast, e
 use Rattle.picture.specs.Pictures as P
 use Rattle.picture.proofs.Increments.{increment-most}
 use Rattle.picture.proofs.Lengths.{planes-length, written-length}
-use Rattle.picture.proofs.Possible.{PossibleStores, PossibleSlice, PossiblePicture, and-of, between-of, between-by, picture-of, picture-by}
+use Rattle.picture.proofs.Possible.{PossibleStores, PossibleSlice, PossiblePicture, between-of, between-by, picture-of, picture-by}
 use Rattle.picture.proofs.Syntax.{Kept, motions-kept, block-kept, still-kept, reset-kept, predictors-reset, head-gives, block-gives, left-bounded, header-gives}
 
 -- a way goes on with P, or leaves with 8 or 9 and a store of n numbers
@@ -266,7 +266,7 @@ module _ (H : Type 0) {s : List ℕ} (n : ℕ) (g : Given) (c : Reading H s (g .
 
 number-most : (k : ℤ) → P.isSlice k ≡ true → natAbs k ≤ 175
 number-most k e =
-    let b = and-of _ _ e in
+    let b = and-eq-true-iff _ _ .0 e in
     let low = le-yes (lit 1) (v k) (b .0) in
     let high = le-yes (v k) (lit 175) (b .1) in
     abs-by 175 (v k) (omega arith) (omega arith)

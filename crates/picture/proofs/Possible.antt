@@ -1,6 +1,6 @@
 -- What a possible state of a picture keeps to: the tests of specs/Possible.antt as facts, both ways. Assumes nothing.
 use mathlib.Core.Path.{_≡_, refl, subst}
-use mathlib.Core.Bool.{Bool, true, false, not, _&&_, false≢true}
+use mathlib.Core.Bool.{Bool, true, not, and-eq-true-iff}
 use mathlib.Core.List.{List}
 use Prim.Native.Nat.{ℕ, zero, suc, _+_, _≤_, _<_}
 use native.Mathlib.Decide.{decLt}
@@ -11,6 +11,7 @@ use lib.IntN.{ℤ, pos, negℤ}
 use lib.ListN.{getD}
 use lib.Signed.{leZ}
 use Rattle.laws.proofs.Ints.{Dif, v, lit, neg, le-yes, yes-le, le-by, lt-by, le-of, lt-of}
+use Rattle.bits.proofs.Rules.{and-yes}
 use Rattle.motion.specs.Displacement.{InRange}
 use Rattle.coefficients.specs.Dcs.{dcInside}
 use Rattle.coefficients.specs.Blocks.{Bounded}
@@ -20,39 +21,32 @@ use Rattle.picture.specs.declared.state.Slice.{Slice}
 use Rattle.picture.specs.declared.state.Picture.{Picture}
 use Rattle.picture.specs.Possible.{between, every, possibleStores, possibleMotion, possibleBlock, possibleSlice, possiblePicture}
 
--- ---- tests joined by and, and over the numbers below n
-
-pub and-of : (a b : Bool) → (a && b) ≡ true → (a ≡ true) × (b ≡ true)
-and-of true b e = (refl, e)
-and-of false b e = absurd (false≢true e)
-
-pub and-by : {a b : Bool} → a ≡ true → b ≡ true → (a && b) ≡ true
-and-by p q = rw (p, q)
+-- ---- tests of the numbers below n
 
 every-of : (n : ℕ) (f : ℕ → Bool) → every n f ≡ true → (k : ℕ) → k < n → f k ≡ true
 unfolding every
 every-of zero f e k h = let z : ⊥ = omega arith in absurd z
-every-of (suc n) f e k h = go (decLt k n) (λ l. every-of n f (and-of (every n f) (f n) e .0) k l)
+every-of (suc n) f e k h = go (decLt k n) (λ l. every-of n f (and-eq-true-iff (every n f) (f n) .0 e .0) k l)
   where
     go : Dec (k < n) → (k < n → f k ≡ true) → f k ≡ true
     go (yes l) r = r l
-    go (no l) r = let i : n ≡ k = omega arith in subst (λ (j : ℕ). f j ≡ true) i (and-of (every n f) (f n) e .1)
+    go (no l) r = let i : n ≡ k = omega arith in subst (λ (j : ℕ). f j ≡ true) i (and-eq-true-iff (every n f) (f n) .0 e .1)
 
 every-by : (n : ℕ) (f : ℕ → Bool) → ((k : ℕ) → k < n → f k ≡ true) → every n f ≡ true
 unfolding every
 every-by zero f h = refl
-every-by (suc n) f h = and-by (every-by n f (λ k l. h k (omega arith))) (h n (omega arith))
+every-by (suc n) f h = and-yes _ _ (every-by n f (λ k l. h k (omega arith))) (h n (omega arith))
 
 -- ---- ranges
 
 module _ {z : ℤ} {p n : ℕ} (low high : ℕ) (d : Dif z p n) where
   pub between-of : between (negℤ (pos low)) (pos high) z ≡ true → (n ≤ p + low) × (p ≤ n + high)
   between-of e =
-      let b = and-of (leZ (negℤ (pos low)) z) (leZ z (pos high)) e in
+      let b = and-eq-true-iff (leZ (negℤ (pos low)) z) (leZ z (pos high)) .0 e in
       (omega (arith, le-yes (neg (lit low)) d (b .0)), omega (arith, le-yes d (lit high) (b .1)))
 
   pub between-by : n ≤ p + low → p ≤ n + high → between (negℤ (pos low)) (pos high) z ≡ true
-  between-by h k = and-by (yes-le (neg (lit low)) d (omega arith)) (yes-le d (lit high) (omega arith))
+  between-by h k = and-yes _ _ (yes-le (neg (lit low)) d (omega arith)) (yes-le d (lit high) (omega arith))
 
 range-of : (z : ℤ) → between (negℤ (pos 1024)) (pos 1023) z ≡ true → InRange 64 z
 range-of z e = let b = between-of 1024 1023 (v z) e in record { low = le-by (neg (lit 1024)) (v z) (omega arith); high = lt-by (v z) (lit 1024) (omega arith) }
@@ -72,11 +66,11 @@ pub record PossibleStores (t : Stores) : Type 0 where
 
 pub stores-of : (t : Stores) → possibleStores t ≡ true → PossibleStores t
 stores-of t e₆ =
-    let h₅ = and-of _ _ e₆ in
-    let h₄ = and-of _ _ (h₅ .0) in
-    let h₃ = and-of _ _ (h₄ .0) in
-    let h₂ = and-of _ _ (h₃ .0) in
-    let h₁ = and-of _ _ (h₂ .0) in
+    let h₅ = and-eq-true-iff _ _ .0 e₆ in
+    let h₄ = and-eq-true-iff _ _ .0 (h₅ .0) in
+    let h₃ = and-eq-true-iff _ _ .0 (h₄ .0) in
+    let h₂ = and-eq-true-iff _ _ .0 (h₃ .0) in
+    let h₁ = and-eq-true-iff _ _ .0 (h₂ .0) in
     record {
       cur = leb-true _ _ (h₁ .0);
       fwd = leb-true _ _ (h₁ .1);
@@ -91,7 +85,7 @@ apart {a} {b} g = rw (ne-eqb a b g)
 
 pub stores-by : {t : Stores} → PossibleStores t → possibleStores t ≡ true
 stores-by k =
-    and-by (and-by (and-by (and-by (and-by (le-leb _ _ (k .cur)) (le-leb _ _ (k .fwd))) (le-leb _ _ (k .bwd))) (apart (k .cur-fwd))) (apart (k .cur-bwd))) (apart (k .fwd-bwd))
+    and-yes _ _ (and-yes _ _ (and-yes _ _ (and-yes _ _ (and-yes _ _ (le-leb _ _ (k .cur)) (le-leb _ _ (k .fwd))) (le-leb _ _ (k .bwd))) (apart (k .cur-fwd))) (apart (k .cur-bwd))) (apart (k .fwd-bwd))
 
 pub record PossibleMotion (m : Motion) : Type 0 where
   pub size : m .«r_size» ≤ 6
@@ -100,12 +94,12 @@ pub record PossibleMotion (m : Motion) : Type 0 where
 
 pub motion-of : (m : Motion) → possibleMotion m ≡ true → PossibleMotion m
 motion-of m e =
-    let x = and-of _ _ e in
-    let y = and-of _ _ (x .0) in
+    let x = and-eq-true-iff _ _ .0 e in
+    let y = and-eq-true-iff _ _ .0 (x .0) in
     record { size = leb-true _ _ (y .0); h = range-of (m .h) (y .1); v = range-of (m .v) (x .1) }
 
 pub motion-by : {m : Motion} → PossibleMotion m → possibleMotion m ≡ true
-motion-by k = and-by (and-by (le-leb _ _ (k .size)) (range-by (k .h))) (range-by (k .v))
+motion-by k = and-yes _ _ (and-yes _ _ (le-leb _ _ (k .size)) (range-by (k .h))) (range-by (k .v))
 
 block-of : (c : List ℤ) → possibleBlock c ≡ true → Bounded c
 block-of c e = record { each = λ k l. leb-true _ _ (every-of 64 _ e k l) }
@@ -123,11 +117,11 @@ pub record PossibleSlice (s : Slice) : Type 0 where
 
 pub slice-of : (s : Slice) → possibleSlice s ≡ true → PossibleSlice s
 slice-of s e =
-    let h₅ = and-of _ _ e in
-    let h₄ = and-of _ _ (h₅ .0) in
-    let h₃ = and-of _ _ (h₄ .0) in
-    let h₂ = and-of _ _ (h₃ .0) in
-    let h₁ = and-of _ _ (h₂ .0) in
+    let h₅ = and-eq-true-iff _ _ .0 e in
+    let h₄ = and-eq-true-iff _ _ .0 (h₅ .0) in
+    let h₃ = and-eq-true-iff _ _ .0 (h₄ .0) in
+    let h₂ = and-eq-true-iff _ _ .0 (h₃ .0) in
+    let h₁ = and-eq-true-iff _ _ .0 (h₂ .0) in
     record {
       scale = leb-true _ _ (h₁ .0);
       address = h₁ .1;
@@ -139,7 +133,7 @@ slice-of s e =
 
 pub slice-by : {s : Slice} → PossibleSlice s → possibleSlice s ≡ true
 slice-by k =
-    and-by (and-by (and-by (and-by (and-by (le-leb _ _ (k .scale)) (k .address)) (motion-by (k .forward))) (motion-by (k .backward))) (every-by 3 _ (k .predictors))) (block-by (k .block))
+    and-yes _ _ (and-yes _ _ (and-yes _ _ (and-yes _ _ (and-yes _ _ (le-leb _ _ (k .scale)) (k .address)) (motion-by (k .forward))) (motion-by (k .backward))) (every-by 3 _ (k .predictors))) (block-by (k .block))
 
 pub record PossiblePicture (p : Picture) : Type 0 where
   pub type : p .«picture_type» ≤ 7
@@ -149,10 +143,10 @@ pub record PossiblePicture (p : Picture) : Type 0 where
 
 pub picture-of : (p : Picture) → possiblePicture p ≡ true → PossiblePicture p
 picture-of p e =
-    let h₃ = and-of _ _ e in
-    let h₂ = and-of _ _ (h₃ .0) in
-    let h₁ = and-of _ _ (h₂ .0) in
+    let h₃ = and-eq-true-iff _ _ .0 e in
+    let h₂ = and-eq-true-iff _ _ .0 (h₃ .0) in
+    let h₁ = and-eq-true-iff _ _ .0 (h₂ .0) in
     record { type = leb-true _ _ (h₁ .0); code = h₁ .1; stores = stores-of (p .stores) (h₂ .1); slice = slice-of (p .slice) (h₃ .1) }
 
 pub picture-by : {p : Picture} → PossiblePicture p → possiblePicture p ≡ true
-picture-by k = and-by (and-by (and-by (le-leb _ _ (k .type)) (k .code)) (stores-by (k .stores))) (slice-by (k .slice))
+picture-by k = and-yes _ _ (and-yes _ _ (and-yes _ _ (le-leb _ _ (k .type)) (k .code)) (stores-by (k .stores))) (slice-by (k .slice))
