@@ -3,8 +3,10 @@ pub mod HeaderEdge
 pub mod Rows
 pub mod TwoTurns
 pub mod Numbers
+pub mod Seven
 pub mod Cleared
 pub mod Example
+pub mod Converts
 pub mod Searches
 pub mod RunTurns
 pub mod RunOpened

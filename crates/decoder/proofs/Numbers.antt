@@ -2,18 +2,16 @@
 use mathlib.Core.Path.{_≡_, refl, sym, subst, _∙_}
 use mathlib.Core.Bool.{Bool, true, false, cond, not, or-true, _&&_, _||_}
 use mathlib.Core.List.{List, [], _∷_}
-use mathlib.Core.Logic.{_⊎_, inl, inr}
+use mathlib.Core.Logic.{inl, inr}
 use Prim.Native.Nat.{ℕ}
 use lib.Dec.{eqb, leb}
 use lib.IntN.{negsuc}
 use lib.ListN.{length}
 use borrow.Author.Tests.{eqb-true}
-use Rattle.laws.specs.Turns.{Turn, again, stop, turns}
+use Rattle.laws.specs.Turns.{stop, turns}
 use Rattle.bits.specs.Bits.{has}
 use Rattle.bits.specs.Programs.{eqZ}
-use Rattle.picture.specs.Ways.{Way, on, out}
-use Rattle.picture.specs.Pictures.{Frame, picture}
-use Rattle.picture.proofs.Stops.{Known, picture-stops}
+use Rattle.picture.specs.Pictures.{picture}
 use Rattle.decoder.specs.declared.record.Decoder.{Decoder}
 use Rattle.decoder.specs.declared.answers.Opening.{Opening}
 use Rattle.decoder.specs.declared.answers.Opening.the-variants as O
@@ -26,10 +24,11 @@ use Rattle.picture.specs.Possible.{possiblePicture}
 use Rattle.decoder.specs.Possible.{possibleSequence, possible}
 use Rattle.decoder.specs.Headers.{Asked, refused, passed, findSequence, askSize, askHeader, askStore}
 use Rattle.decoder.specs.Opening.{opened, opening}
-use Rattle.decoder.specs.Turns.{Going, Ended, gave, stopped, nextPicture, hasEnded, isFollowed, isReference, handed, shown, flushed, pastPicture, decoded, searched, pictureTurn}
-use Rattle.decoder.specs.HandOut.{pictures, ended, askFirst, goOn, handOut}
+use Rattle.decoder.specs.Turns.{Ended, gave, stopped}
+use Rattle.decoder.specs.HandOut.{pictures, ended, askFirst, begun, goOn, handOut}
 use Rattle.decoder.specs.Conversion.{Area, area, fits, converted}
 use Rattle.decoder.proofs.Rows.{withSize}
+use Rattle.decoder.proofs.Seven.{Seven, End, pictures-end}
 
 unfoldable pub among : ℕ → List ℕ → Bool
 among n [] = false
@@ -88,51 +87,7 @@ first-row : (s : List ℕ) (d : Decoder) (l : List ℕ) → AskRow d (askFirst s
 unfolding askFirst
 first-row s d l = store-row d l _ (both (AskRow d) (d .sequence .«has_sequence_header») (λ e. tt) (λ e. header-row s d))
 
--- the turns end with a picture, 7, or a stop of 8 or 9
-abbrev EndRow : Ended → Type 0
-EndRow (gave (H.Picture k t) x l) = Unit {0}
-EndRow (gave (H.Refused n) x l) = n ≡ 7
-EndRow (stopped n l) = (n ≡ 8) ⊎ (n ≡ 9)
-
-abbrev TurnRow : Turn Going Ended → Type 0
-TurnRow (again y) = Unit {0}
-TurnRow (stop e) = EndRow e
-
-shown-row : (d : Decoder) (l : List ℕ) → TurnRow (shown d l)
-unfolding shown handed
-shown-row d l = both TurnRow (eqb (d .picture .«picture_type») 3) (λ e. tt) (λ e. both TurnRow (d .«has_reference_frame») (λ e. tt) (λ e. tt))
-
-past-row : (d : Decoder) (w : Way Frame) (a : ℕ) → Known w → TurnRow (pastPicture d (record { value = w; at = a }))
-unfolding pastPicture
-past-row d (on f) a h = shown-row _ _
-past-row d (out n l) a h = h
-
-flushed-row : (s : List ℕ) (d : Decoder) (l : List ℕ) → EndRow (flushed s d l)
-unfolding flushed
-flushed-row s d l = both EndRow (d .«has_reference_frame» && hasEnded s (place d) && isReference d) (λ e. tt) (λ e. refl)
-
-turn-row : (s : List ℕ) (x : Going) → TurnRow (pictureTurn s x)
-unfolding pictureTurn searched decoded
-turn-row s x =
-    let d = nextPicture s (x .decoder) in
-    both TurnRow (eqZ (startCode d) (negsuc 0)) (λ e. flushed-row s d (x .store)) (λ e.
-    both TurnRow (isFollowed s (place d)) (λ e. past-row d _ _ (picture-stops _ _ _ _ .known s (place d))) (λ e. refl))
-
-one-row : (s : List ℕ) (t : Turn Going Ended) → TurnRow t → EndRow (elim t [ again y ↦ gave (H.Refused 7) (y .decoder) (y .store) | stop v ↦ v ])
-one-row s (again y) h = refl
-one-row s (stop v) h = h
-
-two-row : (s : List ℕ) (t : Turn Going Ended) → TurnRow t
-    → EndRow (elim t [ again y ↦ turns 1 (pictureTurn s) (λ y. gave (H.Refused 7) (y .decoder) (y .store)) y | stop v ↦ v ])
-unfolding turns
-two-row s (again y) h = one-row s (pictureTurn s y) (turn-row s y)
-two-row s (stop v) h = h
-
-pictures-row : (s : List ℕ) (x : Going) → EndRow (pictures s x)
-unfolding pictures turns
-pictures-row s x = two-row s (pictureTurn s x) (turn-row s x)
-
--- RULES Q7: the record and the store that the turns leave
+-- RULES Q7: the record and the store that the turns leave (Seven.antt)
 seven : {d x : Decoder} {l m : List ℕ} → Refusal d l 7 x m
 unfolding among
 seven = record { named = refl; store = λ h. never h; same = λ h. never h; mark = λ h. never h }
@@ -148,17 +103,17 @@ nine = record { named = refl; store = λ h. never h; same = λ h. never h; mark 
 abbrev LeftRow : Decoder → List ℕ → Left Outcome → Type 0
 LeftRow d l r = Row d l (r .answer) (r .decoder) (r .store)
 
-ended-row : (d : Decoder) (l : List ℕ) (e : Ended) → EndRow e → LeftRow d l (ended d e)
+ended-row : (P : Decoder → List ℕ → Type 0) (d : Decoder) (l : List ℕ) (e : Ended) → End P e → LeftRow d l (ended d e)
 unfolding ended
-ended-row d l (gave (H.Picture k t) x m) h = tt
-ended-row d l (gave (H.Refused n) x m) h = subst (λ (k : ℕ). Refusal d l k x m) (sym h) seven
-ended-row d l (stopped n m) (inl h) = subst (λ (k : ℕ). Refusal d l k (stopAs k d) m) (sym h) eight
-ended-row d l (stopped n m) (inr h) = subst (λ (k : ℕ). Refusal d l k (stopAs k d) m) (sym h) nine
+ended-row P d l (gave (H.Picture k t) x m) h = tt
+ended-row P d l (gave (H.Refused n) x m) h = subst (λ (k : ℕ). Refusal d l k x m) (sym (h .0)) seven
+ended-row P d l (stopped n m) (inl h) = subst (λ (k : ℕ). Refusal d l k (stopAs k d) m) (sym h) eight
+ended-row P d l (stopped n m) (inr h) = subst (λ (k : ℕ). Refusal d l k (stopAs k d) m) (sym h) nine
 
 go-row : (s : List ℕ) (d : Decoder) (l : List ℕ) (a : Asked) → AskRow d a → LeftRow d l (goOn s d l a)
 unfolding goOn
 go-row s d l (refused n x) h = record { named = h .nine; store = λ k. refl; same = h .same; mark = λ k. never (sym (h .low) ∙ k) }
-go-row s d l (passed x) h = ended-row d l _ (pictures-row s _)
+go-row s d l (passed x) h = let z = begun d x l in ended-row (Seven s z) d l (pictures s z) (pictures-end s z)
 
 and-last : (x y : Bool) → (x && y) ≡ true → y ≡ true
 and-last true y h = h

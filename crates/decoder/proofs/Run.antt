@@ -2,7 +2,7 @@
 use mathlib.Core.Path.{_≡_, refl, sym, ap, subst, _∙_}
 use mathlib.Core.Bool.{Bool, true, cond, _&&_}
 use mathlib.Core.List.{List}
-use mathlib.Core.Logic.{_⊎_, inl, inr, ⊎-elim}
+use mathlib.Core.Logic.{_⊎_, ⊎-elim}
 use Prim.Native.Nat.{ℕ, zero, suc, _+_, _*_, _/_, _≤_}
 use native.Mathlib.Nat.{add-zero, add-suc, suc-add}
 use native.Mathlib.Omega.{arith}
@@ -22,6 +22,7 @@ use Rattle.decoder.specs.HandOut.{pictures, ended, askFirst, begun, hand
 use Rattle.decoder.specs.Run.{call, behind, begin, before, answer, pictureIn, handedOut}
 use Rattle.decoder.proofs.Rows.{hand-mark, hand-passed}
 use Rattle.decoder.proofs.RunOpened.{ready-keeps}
+use Rattle.decoder.proofs.Seven.{numberOf, not-seven}
 use Rattle.decoder.proofs.RunTurns.{Keeps, Stuck, Ends, hands, flushes, seven, stops, PictureKept, pictures-row}
 
 -- ---- question 2
@@ -77,14 +78,6 @@ data Between (s : List ℕ) (x : Going) (n : ℕ) : Type 0 where
 
 abbrev Resting : List ℕ → Going → Type 0
 Resting s x = Keeps s (x .decoder) (x .store) × Stuck s (x .decoder) (x .store)
-
-abbrev numberOf : Outcome → ℕ
-numberOf (H.Picture k t) = 0
-numberOf (H.Refused n) = n
-
-not-seven : {A : Type 0} {n : ℕ} → (n ≡ 8) ⊎ (n ≡ 9) → n ≡ 7 → A
-not-seven (inl e) h = let no : ⊥ = omega arith in absurd no
-not-seven (inr e) h = let no : ⊥ = omega arith in absurd no
 
 module _ (s : List ℕ) (short : length s ≤ 16777216) (kept : PictureKept s) where
   ended-on : (d : Decoder) (l : List ℕ) (n : ℕ) (e : Ended) → Keeps s d l → n ≡ d .«frames_decoded» → Ends s (d .«frames_decoded») e
