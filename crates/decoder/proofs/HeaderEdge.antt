@@ -1,6 +1,6 @@
 -- RULES H: the header edge, whatever the bytes behind the sequence start code.
 use mathlib.Core.Path.{_≡_, refl, ap, subst}
-use mathlib.Core.Bool.{Bool, true, false, cond, _||_}
+use mathlib.Core.Bool.{true, _||_}
 use mathlib.Core.List.{List, [], _∷_}
 use Prim.Native.Nat.{ℕ, _≤_}
 use native.Mathlib.Omega.{arith}
@@ -14,6 +14,7 @@ use Rattle.bits.specs.Runs.{Runs}
 use Rattle.bits.proofs.Start.{found-here}
 use Rattle.bits.proofs.Programs.{served-has, refused-has}
 use Rattle.bits.proofs.Rules.{r-call, r-done, is-start, loop-start, loop-end}
+use Rattle.bits.proofs.Gives.{by-case}
 use Rattle.decoder.specs.declared.record.Decoder.{Decoder}
 use Rattle.decoder.specs.declared.answers.Opening.{Opening}
 use Rattle.decoder.specs.declared.answers.Opening.the-variants as O
@@ -66,23 +67,19 @@ opening-fails t l g h = opening-refused (begins t) l (le-leb (length (begins t))
 abbrev Later : Left Opening → Type 0
 Later r = elim (r .answer) [ O.Ready ↦ Unit {0} | O.Refused n ↦ among n (1 ∷ 5 ∷ 6 ∷ []) ≡ true ]
 
-both : {A : Type 0} (P : A → Type 0) (b : Bool) {x y : A} → P x → P y → P (cond b x y)
-both P true p q = p
-both P false p q = q
-
 store-later : (d : Decoder) (l : List ℕ) → Later (opened l (askStore fresh l (passed d)))
 unfolding opened askStore among
-store-later d l = both (λ a. Later (opened l a)) (leb (storeBytes d) (length l)) tt refl
+store-later d l = by-case (λ a. Later (opened l a)) (leb (storeBytes d) (length l)) (λ e. tt) (λ e. refl)
 
 size-later : (s l : List ℕ) (d : Decoder) → Later (opened l (askStore fresh l (askSize s d)))
 unfolding askSize opened askStore among
 size-later s l d =
     let x = sized (run size s (place d)) d in
-    both (λ a. Later (opened l (askStore fresh l a))) (eqb (x .sequence .width) 0 || eqb (x .sequence .height) 0) refl (store-later _ l)
+    by-case (λ a. Later (opened l (askStore fresh l a))) (eqb (x .sequence .width) 0 || eqb (x .sequence .height) 0) (λ e. refl) (λ e. store-later _ l)
 
 later : (t l : List ℕ) → 136 ≤ length t → Later (opening (begins t) l)
 unfolding opening among
-later t l h = rw (edge-passes t h) (both Later (leb (length (begins t)) 16777216) (size-later (begins t) l behind) refl)
+later t l h = rw (edge-passes t h) (by-case Later (leb (length (begins t)) 16777216) (λ e. size-later (begins t) l behind) (λ e. refl))
 
 -- a later question, or 1
 pub opening-passes : (t l : List ℕ) (n : ℕ) → 136 ≤ length t → opening (begins t) l .answer ≡ O.Refused n → among n (1 ∷ 5 ∷ 6 ∷ []) ≡ true

@@ -8,9 +8,10 @@ use lib.Dec.{eqb, leb}
 use lib.IntN.{negsuc}
 use lib.ListN.{length}
 use borrow.Author.Tests.{eqb-true}
-use Rattle.laws.specs.Turns.{stop, turns}
+use Rattle.laws.specs.Turns.{stop}
 use Rattle.bits.specs.Bits.{has}
 use Rattle.bits.specs.Programs.{eqZ}
+use Rattle.bits.proofs.Gives.{by-case}
 use Rattle.picture.specs.Pictures.{picture}
 use Rattle.decoder.specs.declared.record.Decoder.{Decoder}
 use Rattle.decoder.specs.declared.answers.Opening.{Opening}
@@ -33,10 +34,6 @@ use Rattle.decoder.proofs.Seven.{Seven, End, pictures-end}
 unfoldable pub among : ℕ → List ℕ → Bool
 among n [] = false
 among n (m ∷ ms) = eqb n m || among n ms
-
-both : {A : Type 0} (P : A → Type 0) (b : Bool) {x y : A} → (b ≡ true → P x) → (b ≡ false → P y) → P (cond b x y)
-both P true p q = p refl
-both P false p q = q refl
 
 not-false : (b : Bool) → not b ≡ false → b ≡ true
 not-false true h = refl
@@ -74,18 +71,18 @@ AskRow d (passed x) = Unit {0}
 header-row : (s : List ℕ) (d : Decoder) → AskRow d (askHeader s d)
 unfolding askHeader askSize among
 header-row s d =
-    both (AskRow d) (eqZ (startCode (findSequence s d)) (negsuc 0)) (λ e. record { named = refl; nine = refl; same = λ h. never h; low = refl }) (λ e.
-    both (AskRow d) (not (has s (place (findSequence s d)) 1088)) (λ e. record { named = refl; nine = refl; same = λ h. never h; low = refl }) (λ e.
-    both (AskRow d) (eqb (withSize s d .sequence .width) 0 || eqb (withSize s d .sequence .height) 0) (λ e. record { named = refl; nine = refl; same = λ h. never h; low = refl }) (λ e. tt)))
+    by-case (AskRow d) (eqZ (startCode (findSequence s d)) (negsuc 0)) (λ e. record { named = refl; nine = refl; same = λ h. never h; low = refl }) (λ e.
+    by-case (AskRow d) (not (has s (place (findSequence s d)) 1088)) (λ e. record { named = refl; nine = refl; same = λ h. never h; low = refl }) (λ e.
+    by-case (AskRow d) (eqb (withSize s d .sequence .width) 0 || eqb (withSize s d .sequence .height) 0) (λ e. record { named = refl; nine = refl; same = λ h. never h; low = refl }) (λ e. tt)))
 
 store-row : (d : Decoder) (l : List ℕ) (a : Asked) → AskRow d a → AskRow d (askStore d l a)
 unfolding askStore among
 store-row d l (refused n x) h = h
-store-row d l (passed x) h = both (AskRow d) (leb (storeBytes x) (length l)) (λ e. tt) (λ e. record { named = refl; nine = refl; same = λ h. refl; low = refl })
+store-row d l (passed x) h = by-case (AskRow d) (leb (storeBytes x) (length l)) (λ e. tt) (λ e. record { named = refl; nine = refl; same = λ h. refl; low = refl })
 
 first-row : (s : List ℕ) (d : Decoder) (l : List ℕ) → AskRow d (askFirst s d l)
 unfolding askFirst
-first-row s d l = store-row d l _ (both (AskRow d) (d .sequence .«has_sequence_header») (λ e. tt) (λ e. header-row s d))
+first-row s d l = store-row d l _ (by-case (AskRow d) (d .sequence .«has_sequence_header») (λ e. tt) (λ e. header-row s d))
 
 -- RULES Q7: the record and the store that the turns leave (Seven.antt)
 seven : {d x : Decoder} {l m : List ℕ} → Refusal d l 7 x m
@@ -142,9 +139,9 @@ mark-row d l p z = record {
 hand-row : (d : Decoder) (s l : List ℕ) → LeftRow d l (handOut d s l)
 unfolding handOut among
 hand-row d s l =
-    both (LeftRow d l) (not (leb (length s) 16777216)) (λ e. record { named = refl; store = λ k. refl; same = λ k. refl; mark = λ k. never k }) (λ e.
-    both (LeftRow d l) (not (possible d)) (λ e. record { named = refl; store = λ k. refl; same = λ k. refl; mark = λ k. never k }) (λ e.
-    both (LeftRow d l) (not (eqb (d .stop) 0)) (λ f. mark-row d l (not-false (possible d) e) (not-true (eqb (d .stop) 0) f)) (λ f. go-row s d l _ (first-row s d l))))
+    by-case (LeftRow d l) (not (leb (length s) 16777216)) (λ e. record { named = refl; store = λ k. refl; same = λ k. refl; mark = λ k. never k }) (λ e.
+    by-case (LeftRow d l) (not (possible d)) (λ e. record { named = refl; store = λ k. refl; same = λ k. refl; mark = λ k. never k }) (λ e.
+    by-case (LeftRow d l) (not (eqb (d .stop) 0)) (λ f. mark-row d l (not-false (possible d) e) (not-true (eqb (d .stop) 0) f)) (λ f. go-row s d l _ (first-row s d l))))
 
 -- RULES D1.3, QC, QG: the numbers of a hand-out, and what it leaves after each
 pub hand-number : (d : Decoder) (s l : List ℕ) (n : ℕ) → handOut d s l .answer ≡ H.Refused n → Refusal d l n (handOut d s l .decoder) (handOut d s l .store)
@@ -172,7 +169,7 @@ opened-row l (passed x) h = tt
 opening-row : (s l : List ℕ) → OpeningRow l (opening s l)
 unfolding opening among
 opening-row s l =
-    both (OpeningRow l) (leb (length s) 16777216) (λ e. opened-row l _ (store-row fresh l _ (header-row s fresh)))
+    by-case (OpeningRow l) (leb (length s) 16777216) (λ e. opened-row l _ (store-row fresh l _ (header-row s fresh)))
     (λ e. record { named = refl; store = refl; same = λ k. refl })
 
 -- RULES D1.3, QC, QG: the same of opening
@@ -191,10 +188,10 @@ AreaRow a r = elim (r .answer) [ C.Written ↦ Unit {0} | C.Refused n ↦ Conver
 area-row : (d : Decoder) (l : List ℕ) (k : ℕ) (a : List ℕ) (w h : ℕ) → AreaRow a (converted d l k a w h)
 unfolding converted among
 area-row d l k a w h =
-    both (AreaRow a) (not (possible d)) (λ e. record { named = refl; area = refl }) (λ e.
-    both (AreaRow a) (not (leb (storeBytes d) (length l))) (λ e. record { named = refl; area = refl }) (λ e.
-    both (AreaRow a) (not (d .sequence .«has_sequence_header» && leb k 2)) (λ e. record { named = refl; area = refl }) (λ e.
-    both (AreaRow a) (not (fits w h a)) (λ e. record { named = refl; area = refl }) (λ e. tt))))
+    by-case (AreaRow a) (not (possible d)) (λ e. record { named = refl; area = refl }) (λ e.
+    by-case (AreaRow a) (not (leb (storeBytes d) (length l))) (λ e. record { named = refl; area = refl }) (λ e.
+    by-case (AreaRow a) (not (d .sequence .«has_sequence_header» && leb k 2)) (λ e. record { named = refl; area = refl }) (λ e.
+    by-case (AreaRow a) (not (fits w h a)) (λ e. record { named = refl; area = refl }) (λ e. tt))))
 
 -- RULES D1.3, QC: the same of the conversion, which has no record and no store to change
 pub conversion-number : (d : Decoder) (l : List ℕ) (k : ℕ) (a : List ℕ) (w h n : ℕ) → converted d l k a w h .answer ≡ C.Refused n → ConversionRefusal a n (converted d l k a w h .area)

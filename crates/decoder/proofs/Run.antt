@@ -3,10 +3,10 @@ use mathlib.Core.Path.{_≡_, refl, sym, ap, subst, _∙_}
 use mathlib.Core.Bool.{Bool, true, cond, _&&_}
 use mathlib.Core.List.{List}
 use mathlib.Core.Logic.{_⊎_, ⊎-elim}
-use Prim.Native.Nat.{ℕ, zero, suc, _+_, _*_, _/_, _≤_}
+use Prim.Native.Nat.{ℕ, zero, suc, _+_, _*_, _/_, _≤_, _<_}
 use native.Mathlib.Nat.{add-zero, add-suc, suc-add}
 use native.Mathlib.Omega.{arith}
-use lib.ListN.{length}
+use lib.ListN.{length, getD}
 use borrow.Author.Tests.{le-leb, eq-eqb}
 use Rattle.laws.proofs.Loops.{turns-stop}
 use Rattle.decoder.specs.declared.record.Decoder.{Decoder}
@@ -23,7 +23,7 @@ use Rattle.decoder.specs.Run.{call, behind, begin, before, answer, pictu
 use Rattle.decoder.proofs.Rows.{hand-mark, hand-passed}
 use Rattle.decoder.proofs.RunOpened.{ready-keeps}
 use Rattle.decoder.proofs.Seven.{numberOf, not-seven}
-use Rattle.decoder.proofs.RunTurns.{Keeps, Stuck, Ends, hands, flushes, seven, stops, PictureKept, pictures-row}
+use Rattle.decoder.proofs.RunTurns.{Keeps, Stuck, Ends, hands, flushes, seven, stops, pictures-row}
 
 -- ---- question 2
 
@@ -79,7 +79,7 @@ data Between (s : List ℕ) (x : Going) (n : ℕ) : Type 0 where
 abbrev Resting : List ℕ → Going → Type 0
 Resting s x = Keeps s (x .decoder) (x .store) × Stuck s (x .decoder) (x .store)
 
-module _ (s : List ℕ) (short : length s ≤ 16777216) (kept : PictureKept s) where
+module _ (s : List ℕ) (short : length s ≤ 16777216) (bytes : (k : ℕ) → getD s k 0 < 256) where
   ended-on : (d : Decoder) (l : List ℕ) (n : ℕ) (e : Ended) → Keeps s d l → n ≡ d .«frames_decoded» → Ends s (d .«frames_decoded») e
       → Between s (behind (ended d e)) (n + pictureIn (ended d e .answer))
   unfolding ended
@@ -89,7 +89,7 @@ module _ (s : List ℕ) (short : length s ≤ 16777216) (kept : PictureKept s) w
   ended-on d l n (stopped i m) k q (stops e) = marked (marked-possible i short k e) e (omega arith)
 
   call-on : {x : Going} {n : ℕ} → Between s x n → Between s (behind (call s x)) (n + pictureIn (call s x .answer))
-  call-on {x} {n} (live k q) = rw (keeps-call s short (x .decoder) (x .store) k) (ended-on (x .decoder) (x .store) n _ k q (pictures-row s short kept (x .decoder) (x .store) k))
+  call-on {x} {n} (live k q) = rw (keeps-call s short (x .decoder) (x .store) k) (ended-on (x .decoder) (x .store) n _ k q (pictures-row s short bytes (x .decoder) (x .store) k))
   call-on {x} {n} (stuck k t q) = rw (stuck-call s short (x .decoder) (x .store) k t) (stuck k t (omega arith))
   call-on {x} {n} (marked p m q) = rw (marked-call s short (x .decoder) (x .store) p m) (marked p m (omega arith))
 
@@ -120,7 +120,7 @@ module _ (s : List ℕ) (short : length s ≤ 16777216) (kept : PictureKept s) w
   seven-rests : {x : Going} {n : ℕ} → Between s x n → call s x .answer ≡ H.Refused 7 → Resting s (behind (call s x))
   seven-rests {x} (live k q) =
       subst (λ (r : Left Outcome). r .answer ≡ H.Refused 7 → Resting s (behind r)) (sym (keeps-call s short (x .decoder) (x .store) k))
-      (ended-seven (x .decoder) (x .decoder .«frames_decoded») _ (pictures-row s short kept (x .decoder) (x .store) k))
+      (ended-seven (x .decoder) (x .decoder .«frames_decoded») _ (pictures-row s short bytes (x .decoder) (x .store) k))
   seven-rests {x} (stuck k t q) =
       subst (λ (r : Left Outcome). r .answer ≡ H.Refused 7 → Resting s (behind r)) (sym (stuck-call s short (x .decoder) (x .store) k t)) (λ h. (k, t))
   seven-rests {x} (marked p m q) =
@@ -146,7 +146,7 @@ module _ (s : List ℕ) (short : length s ≤ 16777216) (kept : PictureKept s) w
 
 -- ---- from an opened record whose header is accepted
 
-module _ (s l : List ℕ) (kept : PictureKept s) (ready : opening s l .answer ≡ O.Ready) where
+module _ (s l : List ℕ) (bytes : (k : ℕ) → getD s k 0 < 256) (ready : opening s l .answer ≡ O.Ready) where
   first : Between s (begin s l) 0
   first = let r = ready-keeps s l ready in live (r .keeps) (sym (r .none))
 
@@ -155,12 +155,12 @@ module _ (s l : List ℕ) (kept : PictureKept s) (ready : opening s l .answer �
 
   -- R.1
   pub few-pictures : (n : ℕ) → handedOut s (begin s l) n ≤ 8 * length s / 29 + 1
-  few-pictures n = few s short kept (run-on s short kept first n)
+  few-pictures n = few s short bytes (run-on s short bytes first n)
 
   -- R.2
   pub seven-for-good : (n k : ℕ) → answer s (begin s l) n ≡ H.Refused 7 → answer s (begin s l) (n + k) ≡ H.Refused 7
-  seven-for-good n k h = seven-stays s short kept (begin s l) n k first h
+  seven-for-good n k h = seven-stays s short bytes (begin s l) n k first h
 
   -- R.3
   pub always-possible : (n : ℕ) → possible (before s (begin s l) n .decoder) ≡ true
-  always-possible n = admitted s short kept (run-on s short kept first n)
+  always-possible n = admitted s short bytes (run-on s short bytes first n)

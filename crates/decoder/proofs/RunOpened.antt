@@ -12,6 +12,7 @@ use Rattle.bits.specs.Bits.{has, got, next}
 use Rattle.bits.specs.Programs.{Out, run, bind, eqZ, findStartCode}
 use Rattle.bits.proofs.Bits.{bits-lt}
 use Rattle.bits.proofs.Programs.{run-most}
+use Rattle.bits.proofs.Gives.{by-case}
 use Rattle.codes.specs.Matrices.{premultiplierMatrix}
 use Rattle.picture.specs.State.{startCodeAs, storesAs}
 use Rattle.picture.specs.Possible.{every, possiblePicture}
@@ -27,14 +28,10 @@ use Rattle.decoder.proofs.Searches.{Sought, hit, miss, sought}
 use Rattle.decoder.proofs.Cleared.{cleared-length}
 use Rattle.decoder.proofs.RunTurns.{Keeps}
 
-both : {A : Type 0} (P : A → Type 0) (b : Bool) {x y : A} → (b ≡ true → P x) → (b ≡ false → P y) → P (cond b x y)
-both P true p q = p refl
-both P false p q = q refl
-
 -- RULES O.3: width and height are numbers of 12 bits
 twelve : (s : List ℕ) (a : ℕ) → got s a 12 ≤ 4095
 unfolding got
-twelve s a = both (λ n. n ≤ 4095) (has s a 12) (λ e. omega (arith, bits-lt s a 12)) (λ e. omega arith)
+twelve s a = by-case (λ n. n ≤ 4095) (has s a 12) (λ e. omega (arith, bits-lt s a 12)) (λ e. omega arith)
 
 size-small : (s : List ℕ) (a : ℕ) → (run size s a .value .width ≤ 4095) × (run size s a .value .height ≤ 4095)
 unfolding size run bind
@@ -72,7 +69,7 @@ size-accepts s e h =
     let a = run size s e .at in
     let small = size-small s e in
     let there = run-most size s e (length s) h (omega arith) in
-    both (Accepts s) (eqb w 0 || eqb v 0) (λ z. tt)
+    by-case (Accepts s) (eqb w 0 || eqb v 0) (λ z. tt)
     (λ z. let q = or-split (eqb w 0) (eqb v 0) z in
     record {
       keeps = λ l long. record {
@@ -103,7 +100,7 @@ header-accepts s h = go (run (findStartCode (pos 0xb3)) s 0) (sought (pos 0xb3) 
         → Accepts s (
         let x = searchedAs (o .value) (o .at) fresh in
         cond (eqZ (o .value) (negsuc 0)) (refused 3 x) (cond (not (has s (o .at) 1088)) (refused 4 x) (askSize s x)))
-    go o (hit x y z) = rw x (both (Accepts s) (not (has s (o .at) 1088)) (λ e. tt) (λ e. size-accepts s (o .at) (omega arith)))
+    go o (hit x y z) = rw x (by-case (Accepts s) (not (has s (o .at) 1088)) (λ e. tt) (λ e. size-accepts s (o .at) (omega arith)))
     go o (miss x y) = rw x tt
 
 -- what an opening that is ready leaves
@@ -119,7 +116,7 @@ store-opens : (s l : List ℕ) (a : Asked) → length s ≤ 16777216 → Accepts
 unfolding opened askStore
 store-opens s l (refused n x) h k = tt
 store-opens s l (passed x) h k =
-    both (λ a. Opens s (opened l a)) (leb (storeBytes x) (length l))
+    by-case (λ a. Opens s (opened l a)) (leb (storeBytes x) (length l))
     (λ e. let le = leb-true (storeBytes x) (length l) e in
     record { short = h; keeps = k .keeps (cleared (storeBytes x) l) (omega (arith, cleared-length (storeBytes x) l le)); none = k .none })
     (λ e. tt)
@@ -127,7 +124,7 @@ store-opens s l (passed x) h k =
 opens : (s l : List ℕ) → Opens s (opening s l)
 unfolding opening
 opens s l =
-    both (Opens s) (leb (length s) 16777216)
+    by-case (Opens s) (leb (length s) 16777216)
     (λ e. let h = leb-true (length s) 16777216 e in store-opens s l (askHeader s fresh) h (header-accepts s h)) (λ e. tt)
 
 pub ready-keeps : (s l : List ℕ) → opening s l .answer ≡ O.Ready → Ready s (opening s l .decoder) (opening s l .store)

@@ -3,24 +3,25 @@ use mathlib.Core.Path.{_≡_, refl, sym, ap, ap₂, subst, _∙_}
 use mathlib.Core.Bool.{Bool, true, false, cond, not, _&&_, _||_, true≢false, false≢true}
 use mathlib.Core.List.{List}
 use mathlib.Core.Logic.{_⊎_}
-use Prim.Native.Nat.{ℕ, _+_, _-_, _*_, _≤_, _<_}
+use Prim.Native.Nat.{ℕ, _+_, _*_, _≤_, _<_}
 use native.Mathlib.Omega.{arith}
 use lib.Dec.{eqb, leb}
 use lib.IntN.{ℤ, pos, negsuc, negℤ}
 use lib.Ieee.{Float}
-use lib.ListN.{length}
+use lib.ListN.{length, getD}
 use borrow.Author.Tests.{eqb-true, leb-true}
 use Rattle.laws.specs.Turns.{Turn, again, stop, turns}
 use Rattle.bits.specs.Programs.{Out, run, eqZ, findStartCode}
 use Rattle.bits.proofs.Start.{isCode}
 use Rattle.bits.proofs.Programs.{run-on, run-most}
+use Rattle.bits.proofs.Gives.{by-case}
 use Rattle.picture.specs.Ways.{Way, on, out}
 use Rattle.picture.specs.declared.state.Sizes.{Sizes}
-use Rattle.picture.specs.declared.state.Matrices.{Matrices}
 use Rattle.picture.specs.declared.state.Picture.{Picture}
 use Rattle.picture.specs.State.{startCodeAs}
 use Rattle.picture.specs.Possible.{between, possibleStores, possibleSlice, possiblePicture}
 use Rattle.picture.specs.Pictures.{Frame, picture}
+use Rattle.picture.proofs.Kept as Kept
 use Rattle.picture.proofs.Places.{Ahead, picture-past, picture-ahead}
 use Rattle.decoder.specs.declared.record.Sequence.{Sequence}
 use Rattle.decoder.specs.declared.record.Decoder.{Decoder}
@@ -47,10 +48,6 @@ pub record Keeps (s : List ℕ) (d : Decoder) (l : List ℕ) : Type 0 where
 -- a turn answers 7 and changes nothing
 abbrev pub Stuck : List ℕ → Decoder → List ℕ → Type 0
 Stuck s d l = pictureTurn s (going d l) ≡ stop (gave (H.Refused 7) d l)
-
-both : {A : Type 0} (P : A → Type 0) (b : Bool) {x y : A} → (b ≡ true → P x) → (b ≡ false → P y) → P (cond b x y)
-both P true p q = p refl
-both P false p q = q refl
 
 -- ---- the search
 
@@ -115,8 +112,8 @@ data Turns (s : List ℕ) (n : ℕ) : Turn Going Ended → Type 0 where
 shown-row : (s : List ℕ) (d : Decoder) (l : List ℕ) → Keeps s d l → 29 * d .«frames_decoded» + 29 ≤ place d → Turns s (d .«frames_decoded») (shown d l)
 unfolding shown handed counted
 shown-row s d l k h =
-    both (Turns s (d .«frames_decoded»)) (eqb (d .picture .«picture_type») 3) (λ e. ends (hands more refl))
-    (λ e. both (Turns s (d .«frames_decoded»)) (d .«has_reference_frame») (λ e. ends (hands more refl)) (λ e. goes holds refl))
+    by-case (Turns s (d .«frames_decoded»)) (eqb (d .picture .«picture_type») 3) (λ e. ends (hands more refl))
+    (λ e. by-case (Turns s (d .«frames_decoded»)) (d .«has_reference_frame») (λ e. ends (hands more refl)) (λ e. goes holds refl))
   where
     holds : Keeps s (heldAs true d) l
     holds = record { header = k .header; sequence = k .sequence; picture = k .picture; mark = k .mark; long = k .long; inside = k .inside; ahead = k .ahead; count = k .count }
@@ -130,7 +127,7 @@ and-split : (a b : Bool) → (a && b) ≡ true → (a ≡ true) × (b ≡ true)
 and-split true b h = (refl, h)
 and-split false b h = absurd (false≢true h)
 
-pub record Sized (z : Sizes) : Type 0 where
+record Sized (z : Sizes) : Type 0 where
   pub wide : z .«mb_width» ≤ 256
   pub high : z .«mb_height» ≤ 256
   pub area : z .«mb_size» ≡ z .«mb_width» * z .«mb_height»
@@ -157,39 +154,31 @@ and-join : {a b : Bool} → a ≡ true → b ≡ true → (a && b) ≡ true
 and-join p q = rw (p, q)
 
 -- another start code, within -1..255
-pub code-possible : (c : ℤ) (p : Picture) → between (negℤ (pos 1)) (pos 255) c ≡ true → possiblePicture p ≡ true → possiblePicture (startCodeAs c p) ≡ true
+code-possible : (c : ℤ) (p : Picture) → between (negℤ (pos 1)) (pos 255) c ≡ true → possiblePicture p ≡ true → possiblePicture (startCodeAs c p) ≡ true
 code-possible c p h k =
     let x = and-split (leb (p .«picture_type») 7 && between (negℤ (pos 1)) (pos 255) (p .«start_code») && possibleStores (p .stores)) (possibleSlice (p .slice)) k in
     let y = and-split (leb (p .«picture_type») 7 && between (negℤ (pos 1)) (pos 255) (p .«start_code»)) (possibleStores (p .stores)) (x .0) in
     let z = and-split (leb (p .«picture_type») 7) (between (negℤ (pos 1)) (pos 255) (p .«start_code»)) (y .0) in
     and-join (and-join (and-join (z .0) h) (y .1)) (x .1)
 
--- what a picture's run keeps of a state and a store that are possible
-abbrev pub KeptWay : List ℕ → Way Frame → Type 0
-KeptWay l (on f) = (possiblePicture (f .picture) ≡ true) × (length (f .store) ≡ length l)
-KeptWay l (out n m) = (n ≡ 8) ⊎ (n ≡ 9)
-
-pub record PictureKept (s : List ℕ) : Type 0 where
-  pub kept : (z : Sizes) (m : Matrices) (p : Picture) (l : List ℕ) (a : ℕ) → Sized z → possiblePicture p ≡ true → 1152 * z .«mb_size» ≤ length l → a ≤ 134217728
-      → KeptWay l (run (picture z m p l) s a .value)
-
-module _ (s : List ℕ) (short : length s ≤ 16777216) (pictures-kept : PictureKept s) where
-  past-row : (d : Decoder) (l : List ℕ) (w : Way Frame) (e : ℕ) → Keeps s d l → KeptWay l w → Ahead s e w → place d + 29 ≤ e → e ≤ length s * 8
+module _ (s : List ℕ) (short : length s ≤ 16777216) (bytes : (k : ℕ) → getD s k 0 < 256) where
+  past-row : (d : Decoder) (l : List ℕ) (w : Way Frame) (e : ℕ) → Keeps s d l → Kept.Ends (length l) (Kept.StaysPossible l) w → Ahead s e w → place d + 29 ≤ e → e ≤ length s * 8
       → Turns s (d .«frames_decoded») (pastPicture d (record { value = w; at = e }))
   unfolding pastPicture
   past-row d l (on f) e k h a p m =
       shown-row s (placeAs e (pictureAs (f .picture) d)) (f .store)
-      (record { header = k .header; sequence = k .sequence; picture = h .0; mark = k .mark; long = omega arith; inside = m; ahead = a; count = omega arith })
+      (record { header = k .header; sequence = k .sequence; picture = h .picture; mark = k .mark; long = omega arith; inside = m; ahead = a; count = omega arith })
       (omega arith)
-  past-row d l (out n i) e k h a p m = ends (stops h)
+  past-row d l (out n i) e k h a p m = ends (stops (h .0))
 
   decoded-row : (d : Decoder) (l : List ℕ) → Keeps s d l → place d + 40 ≤ length s * 8 → Turns s (d .«frames_decoded») (decoded s d l)
   unfolding decoded
   decoded-row d l k h =
       let z = d .sequence .sizes in
+      let y = sized (d .sequence) (k .header) (k .sequence) in
       let p = picture z (d .sequence .matrices) (d .picture) l in
       past-row d l (run p s (place d) .value) (run p s (place d) .at) k
-      (pictures-kept .kept z (d .sequence .matrices) (d .picture) l (place d) (sized (d .sequence) (k .header) (k .sequence)) (k .picture) (k .long) (omega arith))
+      (Kept.picture-kept z (d .sequence .matrices) (d .picture) l s (place d) (y .wide) (y .high) (y .area) (k .picture) short bytes)
       (picture-ahead z (d .sequence .matrices) (d .picture) l s (place d) short h)
       (picture-past z (d .sequence .matrices) (d .picture) l s (place d) (omega arith))
       (run-most p s (place d) (length s) (k .inside) (omega arith))
@@ -207,16 +196,16 @@ module _ (s : List ℕ) (short : length s ≤ 16777216) (pictures-kept : Picture
   found-row : (d : Decoder) (l : List ℕ) → Keeps s d l → startCode d ≡ pos 0 → Turns s (d .«frames_decoded») (searched s d l)
   unfolding searched
   found-row d l k c =
-      both (Turns s (d .«frames_decoded»)) (eqZ (startCode d) (negsuc 0)) (λ e. absurd (false≢true (sym (ap (λ (z : ℤ). eqZ z (negsuc 0)) c) ∙ e)))
-      (λ e. both (Turns s (d .«frames_decoded»)) (isFollowed s (place d)) (λ f. decoded-row d l k (followed (place d) (k .ahead c) f))
+      by-case (Turns s (d .«frames_decoded»)) (eqZ (startCode d) (negsuc 0)) (λ e. absurd (false≢true (sym (ap (λ (z : ℤ). eqZ z (negsuc 0)) c) ∙ e)))
+      (λ e. by-case (Turns s (d .«frames_decoded»)) (isFollowed s (place d)) (λ f. decoded-row d l k (followed (place d) (k .ahead c) f))
       (λ f. ends (seven k refl (last-stuck s d l c f))))
 
   -- RULES 8.8: none is found
   none-row : (d : Decoder) (l : List ℕ) → Keeps s d l → startCode d ≡ negsuc 0 → Barren s (place d) → Turns s (d .«frames_decoded») (searched s d l)
   unfolding searched flushed
   none-row d l k c b =
-      both (Turns s (d .«frames_decoded»)) (eqZ (startCode d) (negsuc 0))
-      (λ e. ends (both (Ends s (d .«frames_decoded»)) (isFlush s d)
+      by-case (Turns s (d .«frames_decoded»)) (eqZ (startCode d) (negsuc 0))
+      (λ e. ends (by-case (Ends s (d .«frames_decoded»)) (isFlush s d)
       (λ f. flushes (record { header = k .header; sequence = k .sequence; picture = k .picture; mark = k .mark; long = k .long; inside = k .inside; ahead = k .ahead; count = k .count }) refl
       (barren-stuck s (heldAs false d) l c b refl))
       (λ f. seven k refl (barren-stuck s d l c b f))))

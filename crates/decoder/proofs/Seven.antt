@@ -1,18 +1,20 @@
 -- RULES Q7: what a hand-out that answers 7 leaves. No picture is found, or none to decode: the record is the one behind that search, and nothing is written
 -- since. It is the first turn of the call, or the second, behind a picture that the call has read.
 use mathlib.Core.Path.{_≡_, refl, sym, ap, subst}
-use mathlib.Core.Bool.{Bool, true, false, cond, _&&_, false≢true}
+use mathlib.Core.Bool.{true, _&&_, false≢true}
 use mathlib.Core.List.{List}
 use mathlib.Core.Logic.{_⊎_, inl, inr}
 use Prim.Native.Nat.{ℕ}
 use native.Mathlib.Omega.{arith}
 use lib.Dec.{eqb}
 use lib.IntN.{negsuc}
+use lib.ListN.{length}
 use Rattle.laws.specs.Turns.{Turn, again, stop, turns}
 use Rattle.bits.specs.Programs.{eqZ}
+use Rattle.bits.proofs.Gives.{by-case}
 use Rattle.picture.specs.Ways.{Way, on, out}
 use Rattle.picture.specs.Pictures.{Frame, picture}
-use Rattle.picture.proofs.Stops.{Known, picture-stops}
+use Rattle.picture.proofs.Kept.{Ends, SameLength, picture-leaves}
 use Rattle.decoder.specs.declared.record.Decoder.{Decoder}
 use Rattle.decoder.specs.declared.answers.Outcome.{Outcome}
 use Rattle.decoder.specs.declared.answers.Outcome.the-variants as H
@@ -41,25 +43,21 @@ abbrev TurnEnd : (Decoder → List ℕ → Type 0) → Turn Going Ended → Type
 TurnEnd P (again y) = Unit {0}
 TurnEnd P (stop e) = End P e
 
-both : {A : Type 0} (P : A → Type 0) (b : Bool) {x y : A} → P x → P y → P (cond b x y)
-both P true p q = p
-both P false p q = q
-
 module _ (P : Decoder → List ℕ → Type 0) where
   shown-end : (d : Decoder) (l : List ℕ) → TurnEnd P (shown d l)
   unfolding shown handed
-  shown-end d l = both (TurnEnd P) (eqb (d .picture .«picture_type») 3) tt (both (TurnEnd P) (d .«has_reference_frame») tt tt)
+  shown-end d l = by-case (TurnEnd P) (eqb (d .picture .«picture_type») 3) (λ e. tt) (λ e. by-case (TurnEnd P) (d .«has_reference_frame») (λ e. tt) (λ e. tt))
 
-  past-end : (d : Decoder) (w : Way Frame) (a : ℕ) → Known w → TurnEnd P (pastPicture d (record { value = w; at = a }))
+  past-end : (d : Decoder) (l : List ℕ) (w : Way Frame) (a : ℕ) → Ends (length l) (SameLength l) w → TurnEnd P (pastPicture d (record { value = w; at = a }))
   unfolding pastPicture
-  past-end d (on f) a h = shown-end _ _
-  past-end d (out n l) a h = h
+  past-end d l (on f) a h = shown-end _ _
+  past-end d l (out n m) a h = h .0
 
   searched-end : (s : List ℕ) (d : Decoder) (l : List ℕ) → P d l → TurnEnd P (searched s d l)
   unfolding searched flushed decoded
   searched-end s d l p =
-      both (TurnEnd P) (eqZ (startCode d) (negsuc 0)) (both (End P) (d .«has_reference_frame» && hasEnded s (place d) && isReference d) tt (refl, p))
-      (both (TurnEnd P) (isFollowed s (place d)) (past-end d _ _ (picture-stops _ _ _ _ .known s (place d))) (refl, p))
+      by-case (TurnEnd P) (eqZ (startCode d) (negsuc 0)) (λ e. by-case (End P) (d .«has_reference_frame» && hasEnded s (place d) && isReference d) (λ e. tt) (λ e. (refl, p)))
+      (λ e. by-case (TurnEnd P) (isFollowed s (place d)) (λ e. past-end d l _ _ (picture-leaves _ _ _ l s (place d))) (λ e. (refl, p)))
 
 turn-end : (s : List ℕ) (x : Going) → TurnEnd (Searched s x) (pictureTurn s x)
 unfolding pictureTurn

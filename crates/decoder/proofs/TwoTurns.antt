@@ -1,12 +1,13 @@
 -- RULES 8.7: a hand-out makes at most two turns.
 use mathlib.Core.Path.{_≡_, refl}
-use mathlib.Core.Bool.{Bool, true, false, cond}
+use mathlib.Core.Bool.{Bool, true, false}
 use mathlib.Core.List.{List}
 use Prim.Native.Nat.{ℕ}
 use lib.Dec.{eqb}
 use lib.IntN.{pos, negsuc}
 use Rattle.laws.specs.Turns.{Turn, again, stop, stops}
 use Rattle.bits.specs.Programs.{eqZ}
+use Rattle.bits.proofs.Gives.{by-case}
 use Rattle.picture.specs.Ways.{Way, on, out}
 use Rattle.picture.specs.Pictures.{Frame, picture}
 use Rattle.decoder.specs.declared.record.Decoder.{Decoder}
@@ -22,13 +23,9 @@ abbrev pub isStop : Turn Going Ended → Bool
 isStop (again y) = false
 isStop (stop e) = true
 
-both : {A : Type 0} (P : A → Type 0) (b : Bool) {x y : A} → P x → P y → P (cond b x y)
-both P true p q = p
-both P false p q = q
-
 shown-holds : (d : Decoder) (l : List ℕ) → Holds (shown d l)
 unfolding shown
-shown-holds d l = both Holds (eqb (d .picture .«picture_type») 3) tt (both Holds (d .«has_reference_frame») tt refl)
+shown-holds d l = by-case Holds (eqb (d .picture .«picture_type») 3) (λ e. tt) (λ e. by-case Holds (d .«has_reference_frame») (λ e. tt) (λ e. refl))
 
 past-holds : (d : Decoder) (w : Way Frame) (a : ℕ) → Holds (pastPicture d (record { value = w; at = a }))
 unfolding pastPicture
@@ -38,13 +35,13 @@ past-holds d (out n l) a = tt
 pub goes-held : (s : List ℕ) (x : Going) → Holds (pictureTurn s x)
 unfolding pictureTurn searched decoded
 goes-held s x =
-    both Holds (eqZ (startCode (nextPicture s (x .decoder))) (negsuc 0)) tt
-    (both Holds (isFollowed s (place (nextPicture s (x .decoder)))) (past-holds _ _ _) tt)
+    by-case Holds (eqZ (startCode (nextPicture s (x .decoder))) (negsuc 0)) (λ e. tt)
+    (λ e. by-case Holds (isFollowed s (place (nextPicture s (x .decoder)))) (λ e. past-holds _ _ _) (λ e. tt))
 
 -- with held set every turn ends the call
 shown-stops : (d : Decoder) (l : List ℕ) → d .«has_reference_frame» ≡ true → isStop (shown d l) ≡ true
 unfolding shown
-shown-stops d l h = rw h (both (λ t. isStop t ≡ true) (eqb (d .picture .«picture_type») 3) refl refl)
+shown-stops d l h = rw h (by-case (λ t. isStop t ≡ true) (eqb (d .picture .«picture_type») 3) (λ e. refl) (λ e. refl))
 
 past-stops : (d : Decoder) (w : Way Frame) (a : ℕ) → d .«has_reference_frame» ≡ true → isStop (pastPicture d (record { value = w; at = a })) ≡ true
 unfolding pastPicture
@@ -53,13 +50,13 @@ past-stops d (out n l) a h = refl
 
 next-held : (s : List ℕ) (d : Decoder) → d .«has_reference_frame» ≡ true → nextPicture s d .«has_reference_frame» ≡ true
 unfolding nextPicture
-next-held s d h = both (λ (e : Decoder). e .«has_reference_frame» ≡ true) (eqZ (startCode d) (pos 0)) h h
+next-held s d h = by-case (λ (e : Decoder). e .«has_reference_frame» ≡ true) (eqZ (startCode d) (pos 0)) (λ e. h) (λ e. h)
 
 pub held-stops : (s : List ℕ) (x : Going) → x .decoder .«has_reference_frame» ≡ true → isStop (pictureTurn s x) ≡ true
 unfolding pictureTurn searched decoded
 held-stops s x h =
-    both (λ t. isStop t ≡ true) (eqZ (startCode (nextPicture s (x .decoder))) (negsuc 0)) refl
-    (both (λ t. isStop t ≡ true) (isFollowed s (place (nextPicture s (x .decoder)))) (past-stops _ _ _ (next-held s (x .decoder) h)) refl)
+    by-case (λ t. isStop t ≡ true) (eqZ (startCode (nextPicture s (x .decoder))) (negsuc 0)) (λ e. refl)
+    (λ e. by-case (λ t. isStop t ≡ true) (isFollowed s (place (nextPicture s (x .decoder)))) (λ e. past-stops _ _ _ (next-held s (x .decoder) h)) (λ e. refl))
 
 one : (f : Going → Turn Going Ended) (t : Turn Going Ended) → isStop t ≡ true → elim t [ again y ↦ stops 0 f y | stop v ↦ true ] ≡ true
 unfolding stops

@@ -5,5 +5,4 @@ pub mod Kept
 pub mod Lengths
 pub mod Places
 pub mod Possible
-pub mod Stops
 pub mod Syntax

@@ -12,6 +12,7 @@ use Rattle.bits.specs.Bits.{Found, boundary, has, got, next, found}
 use Rattle.bits.specs.Programs.{Prog, done, bind, bits, skips, loop, many, run, turn}
 use Rattle.bits.proofs.Start.{isCode, Searched, first, none, found-is-first}
 use Rattle.bits.proofs.Programs.{run-bind, run-on, served-next}
+use Rattle.bits.proofs.Gives.{by-case}
 use Rattle.picture.specs.declared.state.Motion.{Motion}
 use Rattle.picture.specs.declared.state.Stores.{Stores}
 use Rattle.picture.specs.declared.state.Sizes.{Sizes}
@@ -128,15 +129,11 @@ pub record Other (s : List ℕ) (a e : ℕ) (c : ℤ) : Type 0 where
   pub five : a + 40 ≤ length s * 8
   pub other : c ≡ pos 0 → ⊥
 
-both : {A : Type 0} (P : A → Type 0) (b : Bool) {x y : A} → (b ≡ true → P x) → (b ≡ false → P y) → P (cond b x y)
-both P true p q = p refl
-both P false p q = q refl
-
 past-ahead : (g : Given) (p : Picture) (s : List ℕ) (a e f : ℕ) (w : Way World) → Other s a e (p .«start_code») → e ≤ f → Turned s a f (P.pastSlice g p w)
 unfolding P.pastSlice run
 past-ahead g p s a e f (out n l) h k = tt
 past-ahead g p s a e f (on w) h k =
-    both (Turned s a f) (isLast g w) (λ i z. absurd (h .other z)) (λ i. (omega arith, omega arith))
+    by-case (Turned s a f) (isLast g w) (λ i z. absurd (h .other z)) (λ i. (omega arith, omega arith))
 
 -- a start code that is found has its four bytes behind a, and one more byte behind it
 pub code-ahead : (s : List ℕ) (a : ℕ) → isCode (found s a .code) ≡ true → (a + 32 ≤ found s a .at) × (found s a .at + 8 ≤ length s * 8)
@@ -164,9 +161,9 @@ turn-ahead g x s a = go (found s a .code) (found s a .at) (code-ahead s a)
         let p = startCodeAs (pos v) (x .frame .picture) in
         let w = slice g v (world (p .slice) (x .frame .store)) in
         let k = h refl in
-        both (Turned s a e) (P.isSlice (pos v))
+        by-case (Turned s a e) (P.isSlice (pos v))
         (λ i. rw (run-bind w (P.pastSlice g p) s e) (past-ahead g p s a e (run w s e .at) (run w s e .value) (record { past = k .0; five = omega arith; other = slice-other v i }) (run-on w s e)))
-        (λ i. both (Turned s a e) (P.isExtra (pos v) && not (x .begun)) (λ j. (k .0, omega arith)) (λ j z. omega arith))
+        (λ i. by-case (Turned s a e) (P.isExtra (pos v) && not (x .begun)) (λ j. (k .0, omega arith)) (λ j z. omega arith))
     go (negsuc v) e h = λ z. absurd (true≢false (sym (ap isCode z)))
 
 abbrev Left : List ℕ → ℕ → Prog (Way P.Frame) → Type 0
@@ -200,7 +197,7 @@ unfolding P.coded onward
 coded-ahead z m p l s a h =
     let q = storesAs (P.before (p .stores)) p in
     let c = P.slices (P.given z m q) (P.frame q l) in
-    both (Left s a) (eqb (p .«picture_type») 3) (λ e. all-ahead (P.given z m p) (P.frame p l) s a h)
+    by-case (Left s a) (eqb (p .«picture_type») 3) (λ e. all-ahead (P.given z m p) (P.frame p l) s a h)
     (λ e. rw (run-bind c _ s a) (turned-ahead (P.after (p .stores)) s (run c s a .at) (run c s a .value) (all-ahead (P.given z m q) (P.frame q l) s a h)))
 
 given-ahead : (s : List ℕ) (a : ℕ) (f : P.Frame) → a < length s * 8 → Left s a (give f)
@@ -214,4 +211,4 @@ unfolding P.picture
 picture-ahead z m p l s a h k =
     let o = run (P.pictureHeader p) s a in
     rw (run-bind (P.pictureHeader p) _ s a)
-    (both (Left s (o .at)) (o .value .decoded) (λ e. coded-ahead z m (o .value .picture) l s (o .at) h) (λ e. given-ahead s (o .at) _ (omega (arith, header-takes p .most s a))))
+    (by-case (Left s (o .at)) (o .value .decoded) (λ e. coded-ahead z m (o .value .picture) l s (o .at) h) (λ e. given-ahead s (o .at) _ (omega (arith, header-takes p .most s a))))
