@@ -11,3 +11,4 @@ pub mod Searches
 pub mod RunTurns
 pub mod RunOpened
 pub mod Run
+pub mod Lines

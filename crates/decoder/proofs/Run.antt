@@ -71,7 +71,7 @@ module _ (s : List ℕ) (short : length s ≤ 16777216) where
 -- ---- a run
 
 -- record and store between two calls, with n pictures handed out so far
-data Between (s : List ℕ) (x : Going) (n : ℕ) : Type 0 where
+pub data Between (s : List ℕ) (x : Going) (n : ℕ) : Type 0 where
   live : Keeps s (x .decoder) (x .store) → n ≡ x .decoder .«frames_decoded» → Between s x n
   stuck : Keeps s (x .decoder) (x .store) → Stuck s (x .decoder) (x .store) → n ≤ x .decoder .«frames_decoded» + 1 → Between s x n
   marked : possible (x .decoder) ≡ true → (x .decoder .stop ≡ 8) ⊎ (x .decoder .stop ≡ 9) → 29 * n ≤ length s * 8 + 29 → Between s x n
@@ -88,7 +88,7 @@ module _ (s : List ℕ) (short : length s ≤ 16777216) (bytes : (k : ℕ) → g
   ended-on d l n (gave (H.Refused i) x m) k q (seven j e u) = stuck j u (omega arith)
   ended-on d l n (stopped i m) k q (stops e) = marked (marked-possible i short k e) e (omega arith)
 
-  call-on : {x : Going} {n : ℕ} → Between s x n → Between s (behind (call s x)) (n + pictureIn (call s x .answer))
+  pub call-on : {x : Going} {n : ℕ} → Between s x n → Between s (behind (call s x)) (n + pictureIn (call s x .answer))
   call-on {x} {n} (live k q) = rw (keeps-call s short (x .decoder) (x .store) k) (ended-on (x .decoder) (x .store) n _ k q (pictures-row s short bytes (x .decoder) (x .store) k))
   call-on {x} {n} (stuck k t q) = rw (stuck-call s short (x .decoder) (x .store) k t) (stuck k t (omega arith))
   call-on {x} {n} (marked p m q) = rw (marked-call s short (x .decoder) (x .store) p m) (marked p m (omega arith))
@@ -99,7 +99,7 @@ module _ (s : List ℕ) (short : length s ≤ 16777216) (bytes : (k : ℕ) → g
   run-on b (suc n) = call-on (run-on b n)
 
   -- R.1
-  few : {x : Going} {n : ℕ} → Between s x n → n ≤ 8 * length s / 29 + 1
+  pub few : {x : Going} {n : ℕ} → Between s x n → n ≤ 8 * length s / 29 + 1
   few (live k q) = omega arith
   few (stuck k t q) = omega arith
   few (marked p m q) = omega arith
@@ -147,10 +147,10 @@ module _ (s : List ℕ) (short : length s ≤ 16777216) (bytes : (k : ℕ) → g
 -- ---- from an opened record whose header is accepted
 
 module _ (s l : List ℕ) (bytes : (k : ℕ) → getD s k 0 < 256) (ready : opening s l .answer ≡ O.Ready) where
-  first : Between s (begin s l) 0
+  pub first : Between s (begin s l) 0
   first = let r = ready-keeps s l ready in live (r .keeps) (sym (r .none))
 
-  short : length s ≤ 16777216
+  pub short : length s ≤ 16777216
   short = ready-keeps s l ready .short
 
   -- R.1

@@ -1,6 +1,6 @@
 -- For RULES R: what the turns of a hand-out keep.
 use mathlib.Core.Path.{_≡_, refl, sym, ap, ap₂, subst, _∙_}
-use mathlib.Core.Bool.{Bool, true, false, cond, not, _&&_, _||_, true≢false, false≢true}
+use mathlib.Core.Bool.{Bool, true, false, cond, not, and-eq-true-iff, _&&_, _||_, true≢false, false≢true}
 use mathlib.Core.List.{List}
 use mathlib.Core.Logic.{_⊎_}
 use Prim.Native.Nat.{ℕ, _+_, _*_, _≤_, _<_}
@@ -19,15 +19,16 @@ use Rattle.picture.specs.Ways.{Way, on, out}
 use Rattle.picture.specs.declared.state.Sizes.{Sizes}
 use Rattle.picture.specs.declared.state.Picture.{Picture}
 use Rattle.picture.specs.State.{startCodeAs}
-use Rattle.picture.specs.Possible.{between, possibleStores, possibleSlice, possiblePicture}
+use Rattle.picture.specs.Possible.{between, possiblePicture}
 use Rattle.picture.specs.Pictures.{Frame, picture}
+use Rattle.picture.proofs.Possible.{picture-of, picture-by}
 use Rattle.picture.proofs.Kept as Kept
 use Rattle.picture.proofs.Places.{Ahead, picture-past, picture-ahead}
 use Rattle.decoder.specs.declared.record.Sequence.{Sequence}
 use Rattle.decoder.specs.declared.record.Decoder.{Decoder}
 use Rattle.decoder.specs.declared.answers.Outcome.the-variants as H
 use Rattle.decoder.specs.Record.{place, startCode, placeAs, pictureAs, heldAs, searchedAs, storeBytes}
-use Rattle.decoder.specs.Possible.{sizesOf, sameSizes, possibleSequence}
+use Rattle.decoder.specs.Possible.{across, sizesOf, sameSizes, possibleSequence}
 use Rattle.decoder.specs.Turns.{Going, going, Ended, gave, stopped, nextPicture, hasEnded, isFollowed, isReference, counted, handed, shown, flushed, pastPicture, decoded, searched, pictureTurn}
 use Rattle.decoder.specs.HandOut.{pictures}
 use Rattle.decoder.proofs.Searches.{Barren, Sought, hit, miss, sought, still-barren, eqZ-is}
@@ -123,10 +124,6 @@ shown-row s d l k h =
 
 -- ---- the sizes of an accepted header
 
-and-split : (a b : Bool) → (a && b) ≡ true → (a ≡ true) × (b ≡ true)
-and-split true b h = (refl, h)
-and-split false b h = absurd (false≢true h)
-
 record Sized (z : Sizes) : Type 0 where
   pub wide : z .«mb_width» ≤ 256
   pub high : z .«mb_height» ≤ 256
@@ -134,32 +131,23 @@ record Sized (z : Sizes) : Type 0 where
 
 sized : (q : Sequence) → q .«has_sequence_header» ≡ true → possibleSequence q ≡ true → Sized (q .sizes)
 sized q h p =
-    let n = sizesOf (q .width) (q .height) in
-    let x = and-split (leb (q .width) 4095 && leb (q .height) 4095) (leb 1 (q .width) && leb 1 (q .height) && sameSizes (q .sizes) n) (rw h at p) in
-    let y = and-split (leb (q .width) 4095) (leb (q .height) 4095) (x .0) in
-    let v = and-split (leb 1 (q .width) && leb 1 (q .height)) (sameSizes (q .sizes) n) (x .1) in
-    let w = and-split (eqb (q .sizes .«mb_width») (n .«mb_width») && eqb (q .sizes .«mb_height») (n .«mb_height»)) (eqb (q .sizes .«mb_size») (n .«mb_size»)) (v .1) in
-    let u = and-split (eqb (q .sizes .«mb_width») (n .«mb_width»)) (eqb (q .sizes .«mb_height») (n .«mb_height»)) (w .0) in
-    let wide = eqb-true (q .sizes .«mb_width») (n .«mb_width») (u .0) in
-    let high = eqb-true (q .sizes .«mb_height») (n .«mb_height») (u .1) in
-    record {
-      wide = omega (arith, leb-true (q .width) 4095 (y .0));
-      high = omega (arith, leb-true (q .height) 4095 (y .1));
-      area = eqb-true (q .sizes .«mb_size») (n .«mb_size») (w .1) ∙ sym (ap₂ _*_ wide high);
-    }
+    let least = leb 1 (q .width) && leb 1 (q .height) in
+    let same = sameSizes (q .sizes) (sizesOf (q .width) (q .height)) in
+    let x = and-eq-true-iff (leb (q .width) 4095 && leb (q .height) 4095) (least && same) .0 (rw h at p) in
+    let y = and-eq-true-iff _ _ .0 (x .0) in
+    let u = and-eq-true-iff _ _ .0 (and-eq-true-iff least same .0 (x .1) .1) in
+    let w = and-eq-true-iff _ _ .0 (u .0) in
+    let width : q .width ≤ 4095 = leb-true _ _ (y .0) in
+    let height : q .height ≤ 4095 = leb-true _ _ (y .1) in
+    let wide : q .sizes .«mb_width» ≡ across (q .width) = eqb-true _ _ (w .0) in
+    let high : q .sizes .«mb_height» ≡ across (q .height) = eqb-true _ _ (w .1) in
+    record { wide = omega arith; high = omega arith; area = eqb-true _ _ (u .1) ∙ sym (ap₂ _*_ wide high) }
 
 -- ---- a picture
 
-and-join : {a b : Bool} → a ≡ true → b ≡ true → (a && b) ≡ true
-and-join p q = rw (p, q)
-
 -- another start code, within -1..255
 code-possible : (c : ℤ) (p : Picture) → between (negℤ (pos 1)) (pos 255) c ≡ true → possiblePicture p ≡ true → possiblePicture (startCodeAs c p) ≡ true
-code-possible c p h k =
-    let x = and-split (leb (p .«picture_type») 7 && between (negℤ (pos 1)) (pos 255) (p .«start_code») && possibleStores (p .stores)) (possibleSlice (p .slice)) k in
-    let y = and-split (leb (p .«picture_type») 7 && between (negℤ (pos 1)) (pos 255) (p .«start_code»)) (possibleStores (p .stores)) (x .0) in
-    let z = and-split (leb (p .«picture_type») 7) (between (negℤ (pos 1)) (pos 255) (p .«start_code»)) (y .0) in
-    and-join (and-join (and-join (z .0) h) (y .1)) (x .1)
+code-possible c p h k = let x = picture-of p k in picture-by {p = startCodeAs c p} (record { type = x .type; code = h; stores = x .stores; slice = x .slice })
 
 module _ (s : List ℕ) (short : length s ≤ 16777216) (bytes : (k : ℕ) → getD s k 0 < 256) where
   past-row : (d : Decoder) (l : List ℕ) (w : Way Frame) (e : ℕ) → Keeps s d l → Kept.Ends (length l) (Kept.StaysPossible l) w → Ahead s e w → place d + 29 ≤ e → e ≤ length s * 8
