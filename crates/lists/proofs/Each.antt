@@ -1,6 +1,6 @@
 -- Tests at all places below some number, one after the other.
 use mathlib.Core.Path.{_≡_, refl, sym, _∙_}
-use mathlib.Core.Bool.{Bool, true, false, false≢true, _&&_}
+use mathlib.Core.Bool.{Bool, true, false, false≢true, _&&_, and-false, and-eq-true-iff}
 use Prim.Native.Nat.{ℕ, zero, suc, _+_, _≤_, _<_}
 use native.Mathlib.Decide.{decLt}
 use native.Mathlib.Numerals.{add-one}
@@ -8,12 +8,7 @@ use native.Mathlib.Omega.{arith}
 use Rattle.lists.specs.Each.{allBelow}
 
 pub both : (t u : Bool) → (t && u) ≡ true → (t ≡ true) × (u ≡ true)
-both true u h = (refl, h)
-both false u h = absurd (false≢true h)
-
-and-false : (x : Bool) → (x && false) ≡ false
-and-false true = refl
-and-false false = refl
+both t u = and-eq-true-iff t u .0
 
 one-fails : (f : ℕ → Bool) (n i : ℕ) → i < n → f i ≡ false → allBelow n f ≡ false
 unfolding allBelow

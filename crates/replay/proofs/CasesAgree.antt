@@ -14,6 +14,7 @@ use Rattle.lists.proofs.Tallies.{more-one, counted-behind, counted-fails, count
 use Rattle.replay.specs.declared.cases.Kind.{Kind}
 use Rattle.replay.specs.declared.cases.Kind.the-variants.{Codes, Vectors, Pixels, Scaled, Dequantised, Transforms, Blocks}
 use Rattle.replay.specs.Cases.{sizeOf, agreesAt, scoreFrom, scored}
+use Rattle.replay.specs.Replayed.{Replayed}
 
 -- the list has the cases that its number says and no byte more, and each agrees
 pub record Whole (k : Kind) (l : List ℕ) : Type 0 where
@@ -69,3 +70,7 @@ module _ (k : Kind) (l : List ℕ) where
           → Whole k l
       go true f e = record { size = f refl; each = each-from (numberAt l 0) 4 none (omega (arith, fewer (numberAt l 0) (f refl))) (omega arith) e }
       go false f e = absurd (omega (arith, more-one 0 (omega arith)))
+
+-- the same of the list that a file held
+pub replay-agrees : {k : Kind} {t : Tally} (r : Replayed (scored k) t) → t .agreed ≡ t .cases → Whole k (r .list)
+replay-agrees {k = k} r e = all-agree k (r .list) (omega (arith, r .short)) (rw (r .is) at e)
