@@ -38,28 +38,6 @@ b = yy ⊹ shr 16 (cb128 ×̇ cst 132201)
 abbrev ρ : tie.Start → List (Input w32)
 ρ c = natural w32 (c .args .y) 255 (omega arith) ∷ natural w32 (c .args .cr) 255 (omega arith) ∷ natural w32 (c .args .cb) 255 (omega arith) ∷ []
 
--- ---- the casts keep the number
-
-cast-cr : tie.Need-cast-cr
-cast-cr c = search needs
-
-cast-cb : tie.Need-cast-cb
-cast-cb c = search needs
-
-cast-yy : tie.Need-cast-yy
-cast-yy c = search needs
-
-cast-rr : tie.Need-cast-rr
-cast-rr c = search needs
-
-cast-gg : tie.Need-cast-gg
-cast-gg c = search needs
-
-cast-bb : tie.Need-cast-bb
-cast-bb c = search needs
-
--- ---- the result
-
 module _ (s : tie.Start) where
   -- the clamp of what is read is that of the rule's number
   red-is : clamp255 (term (ρ s) r) ≡ red (s .args .y) (s .args .cr)
@@ -85,96 +63,35 @@ returns c =
       c .clamp-u83 .ensures ∙ blue-is s,
     )
 
--- ---- no step leaves the width
-
-sub-cr : tie.Need-sub-cr
-sub-cr c = need (ρ c) cr128 tt
-
-sub-cb : tie.Need-sub-cb
-sub-cb c = need (ρ c) cb128 tt
-
-sub-yy : tie.Need-sub-yy
-sub-yy c = need (ρ c) y16 tt
-
-mul-yy : tie.Need-mul-yy
-mul-yy c = need (ρ c) (y16 ×̇ cst 76309) tt
-
-mul-r : tie.Need-mul-r
-mul-r c = need (ρ c) (cr128 ×̇ cst 104597) tt
-
-add-r : tie.Need-add-r
-add-r c = need (ρ c) r tt
-
-mul-g : tie.Need-mul-g
-mul-g c = need (ρ c) (cb128 ×̇ cst 25674) tt
-
-mul-g-2 : tie.Need-mul-g-2
-mul-g-2 c = need (ρ c) (cr128 ×̇ cst 53278) tt
-
-add-g : tie.Need-add-g
-add-g c = need (ρ c) g-sum tt
-
-sub-g : tie.Need-sub-g
-sub-g c = need (ρ c) g tt
-
-mul-b : tie.Need-mul-b
-mul-b c = need (ρ c) (cb128 ×̇ cst 132201) tt
-
-add-b : tie.Need-add-b
-add-b c = need (ρ c) b tt
-
-clamp-u8-requires : tie.Need-clamp-u8-requires
-clamp-u8-requires c κs = search needs
-
-clamp-u8-requires-2 : tie.Need-clamp-u8-requires-2
-clamp-u8-requires-2 c κs = search needs
-
-clamp-u8-requires-3 : tie.Need-clamp-u8-requires-3
-clamp-u8-requires-3 c κs = search needs
-
-mul-result : tie.Need-mul-result
-mul-result c = search needs
-
-add-result : tie.Need-add-result
-add-result c = search needs
-
-mul-result-2 : tie.Need-mul-result-2
-mul-result-2 c = search needs
-
-add-result-2 : tie.Need-add-result-2
-add-result-2 c = search needs
-
-add-result-3 : tie.Need-add-result-3
-add-result-3 c = search needs
-
+-- no step leaves the width: `need` of its expression
 pub pixel-spec : {M : Type 1} → statement M
 pixel-spec =
     tie.close
     (tie.spec
-    cast-cr
-    sub-cr
-    cast-cb
-    sub-cb
-    cast-yy
-    sub-yy
-    mul-yy
-    mul-r
-    add-r
-    mul-g
-    mul-g-2
-    add-g
-    sub-g
-    mul-b
-    add-b
-    clamp-u8-requires
-    cast-rr
-    clamp-u8-requires-2
-    cast-gg
-    clamp-u8-requires-3
-    cast-bb
-    mul-result
-    add-result
-    mul-result-2
-    add-result-2
-    add-result-3
+    (λ c. search needs)
+    (λ c. need (ρ c) cr128 tt)
+    (λ c. search needs)
+    (λ c. need (ρ c) cb128 tt)
+    (λ c. search needs)
+    (λ c. need (ρ c) y16 tt)
+    (λ c. need (ρ c) (y16 ×̇ cst 76309) tt)
+    (λ c. need (ρ c) (cr128 ×̇ cst 104597) tt)
+    (λ c. need (ρ c) r tt)
+    (λ c. need (ρ c) (cb128 ×̇ cst 25674) tt)
+    (λ c. need (ρ c) (cr128 ×̇ cst 53278) tt)
+    (λ c. need (ρ c) g-sum tt)
+    (λ c. need (ρ c) g tt)
+    (λ c. need (ρ c) (cb128 ×̇ cst 132201) tt)
+    (λ c. need (ρ c) b tt)
+    (λ c κs. search needs)
+    (λ c. search needs)
+    (λ c κs. search needs)
+    (λ c. search needs)
+    (λ c κs. search needs)
+    (λ c. search needs)
+    (λ c. search needs)
+    (λ c. search needs)
+    (λ c. search needs)
+    (λ c. search needs)
+    (λ c. search needs)
     returns)

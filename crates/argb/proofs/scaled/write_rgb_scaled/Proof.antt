@@ -33,12 +33,6 @@ write-row-requires c κs =
     let s = c .before .before .before .before .before .before .before in
     (s .pre .0, ((omega arith, omega arith, c .before .loop-test .taken), omega (arith, s .pre .1 .1, c .before .before .loop .inv .1)))
 
-add-ty : tie.Need-add-ty Inv-loop μ-loop
-add-ty c = search needs
-
-loop-less : tie.Need-loop-less Inv-loop μ-loop
-loop-less c = search needs
-
 loop-again : tie.Need-loop-again Inv-loop μ-loop
 loop-again c =
     let l = c .before .before .before .before .before in
@@ -68,8 +62,8 @@ write-rgb-scaled-spec =
     μ-loop
     loop-holds
     write-row-requires
-    add-ty
-    loop-less
+    (λ c. search needs)
+    (λ c. search needs)
     loop-again
     same-length
     returns)

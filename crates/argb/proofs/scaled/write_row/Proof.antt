@@ -45,9 +45,6 @@ module _ (c : tie.In-loop Inv-loop μ-loop) where
 mul-sy : tie.Need-mul-sy Inv-loop μ-loop
 mul-sy c = let a = c .before .before .before .before .args in omega (arith, product-most (a .ty) (a .height) (omega arith) (omega arith))
 
-div-sy : tie.Need-div-sy Inv-loop μ-loop
-div-sy c = search needs
-
 mul-y-row : tie.Need-mul-y-row Inv-loop μ-loop
 mul-y-row c =
     let s = c .before .before .before .before in
@@ -66,45 +63,6 @@ mul-d-row c = let a = c .before .before .before .before .args in omega (arith, p
 loop-holds : tie.Need-loop-holds Inv-loop μ-loop
 unfolding storeRow
 loop-holds c = (omega arith, refl, refl)
-
-mul-sx : tie.Need-mul-sx Inv-loop μ-loop
-mul-sx c = omega (arith, product-most (tx c) (p c .width) (omega arith) (omega arith))
-
-div-sx : tie.Need-div-sx Inv-loop μ-loop
-div-sx c = search needs
-
-add-ci : tie.Need-add-ci Inv-loop μ-loop
-add-ci c = omega (arith, samples c)
-
-add-pixel : tie.Need-add-pixel Inv-loop μ-loop
-add-pixel c = omega (arith, samples c)
-
-shared-slice-read-pixel : tie.Need-shared-slice-read-pixel Inv-loop μ-loop
-shared-slice-read-pixel c = omega (arith, samples (c .before))
-
-shared-slice-read-pixel-2 : tie.Need-shared-slice-read-pixel-2 Inv-loop μ-loop
-shared-slice-read-pixel-2 c = omega (arith, samples (c .before .before))
-
-shared-slice-read-pixel-3 : tie.Need-shared-slice-read-pixel-3 Inv-loop μ-loop
-shared-slice-read-pixel-3 c = omega (arith, samples (c .before .before .before))
-
-pixel-requires : tie.Need-pixel-requires Inv-loop μ-loop
-pixel-requires c κs = tt
-
-add-dst : tie.Need-add-dst Inv-loop μ-loop
-add-dst c = omega (arith, place (c .before .before .before .before))
-
-mul-dst : tie.Need-mul-dst Inv-loop μ-loop
-mul-dst c = omega (arith, place (c .before .before .before .before))
-
-slice-write-dst : tie.Need-slice-write-dst Inv-loop μ-loop
-slice-write-dst c = omega (arith, place (c .before .before .before .before))
-
-add-tx : tie.Need-add-tx Inv-loop μ-loop
-add-tx c = search needs
-
-loop-less : tie.Need-loop-less Inv-loop μ-loop
-loop-less c = search needs
 
 loop-again : tie.Need-loop-again Inv-loop μ-loop
 unfolding outputPixel samplePixel
@@ -131,24 +89,24 @@ write-row-spec =
     Inv-loop
     μ-loop
     mul-sy
-    div-sy
+    (λ c. search needs)
     mul-y-row
     mul-c-row
     mul-d-row
     loop-holds
-    mul-sx
-    div-sx
-    add-ci
-    add-pixel
-    shared-slice-read-pixel
-    shared-slice-read-pixel-2
-    shared-slice-read-pixel-3
-    pixel-requires
-    add-dst
-    mul-dst
-    slice-write-dst
-    add-tx
-    loop-less
+    (λ c. omega (arith, product-most (tx c) (p c .width) (omega arith) (omega arith)))
+    (λ c. search needs)
+    (λ c. omega (arith, samples c))
+    (λ c. omega (arith, samples c))
+    (λ c. omega (arith, samples (c .before)))
+    (λ c. omega (arith, samples (c .before .before)))
+    (λ c. omega (arith, samples (c .before .before .before)))
+    (λ c κs. tt)
+    (λ c. omega (arith, place (c .before .before .before .before)))
+    (λ c. omega (arith, place (c .before .before .before .before)))
+    (λ c. omega (arith, place (c .before .before .before .before)))
+    (λ c. search needs)
+    (λ c. search needs)
     loop-again
     same-length
     returns)

@@ -7,13 +7,12 @@ use Rattle.codes.proofs.Values.{bounded}
 use Rattle.codes.proofs.codes.read_code_block_pattern.Statement.{statement}
 use Rattle.codes.proofs.codes.read_code_block_pattern.Tie as tie
 
-read-vlc-requires : tie.Need-read-vlc-requires
-unfolding codeBlockPatternIndex
-read-vlc-requires c κs = let p = c .before .before .before .pre in (p .0, (p .1, (good-code-block-pattern, refl)))
-
-returns : tie.Need-returns
-unfolding codeBlockPattern codeBlockPatternIndex codeBlockPatternValue
-returns c = bounded 63 codeBlockPatternIndex codeBlockPatternValue tt (c .read-vlc .ensures)
-
 pub read-code-block-pattern-spec : {M : Type 1} → statement M
-read-code-block-pattern-spec = tie.close (tie.spec (λ c. search needs) (λ c. search needs) read-vlc-requires returns)
+unfolding codeBlockPattern codeBlockPatternIndex codeBlockPatternValue
+read-code-block-pattern-spec =
+    tie.close
+    (tie.spec
+    (λ c. search needs)
+    (λ c. search needs)
+    (λ c κs. let p = c .before .before .before .pre in (p .0, (p .1, (good-code-block-pattern, refl))))
+    (λ c. bounded 63 codeBlockPatternIndex codeBlockPatternValue tt (c .read-vlc .ensures)))

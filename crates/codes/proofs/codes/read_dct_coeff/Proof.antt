@@ -6,13 +6,12 @@ use Rattle.codes.proofs.Good.{good-dct-coeff}
 use Rattle.codes.proofs.codes.read_dct_coeff.Statement.{statement}
 use Rattle.codes.proofs.codes.read_dct_coeff.Tie as tie
 
-read-vlc-uint-requires : tie.Need-read-vlc-uint-requires
-unfolding dctCoeffIndex
-read-vlc-uint-requires c κs = let p = c .before .before .before .pre in (p .0, (p .1, (good-dct-coeff, refl)))
-
-returns : tie.Need-returns
-unfolding dctCoeff dctCoeffIndex dctCoeffValue
-returns c = c .read-vlc-uint .ensures
-
 pub read-dct-coeff-spec : {M : Type 1} → statement M
-read-dct-coeff-spec = tie.close (tie.spec (λ c. search needs) (λ c. search needs) read-vlc-uint-requires returns)
+unfolding dctCoeff dctCoeffIndex dctCoeffValue
+read-dct-coeff-spec =
+    tie.close
+    (tie.spec
+    (λ c. search needs)
+    (λ c. search needs)
+    (λ c κs. let p = c .before .before .before .pre in (p .0, (p .1, (good-dct-coeff, refl))))
+    (λ c. c .read-vlc-uint .ensures))

@@ -7,13 +7,12 @@ use Rattle.codes.proofs.Values.{bounded}
 use Rattle.codes.proofs.codes.read_dct_size_chrominance.Statement.{statement}
 use Rattle.codes.proofs.codes.read_dct_size_chrominance.Tie as tie
 
-read-vlc-requires : tie.Need-read-vlc-requires
-unfolding dctSizeChrominanceIndex
-read-vlc-requires c κs = let p = c .before .before .before .pre in (p .0, (p .1, (good-dct-size-chrominance, refl)))
-
-returns : tie.Need-returns
-unfolding dctSizeChrominance dctSizeChrominanceIndex dctSizeChrominanceValue
-returns c = bounded 8 dctSizeChrominanceIndex dctSizeChrominanceValue tt (c .read-vlc .ensures)
-
 pub read-dct-size-chrominance-spec : {M : Type 1} → statement M
-read-dct-size-chrominance-spec = tie.close (tie.spec (λ c. search needs) (λ c. search needs) read-vlc-requires returns)
+unfolding dctSizeChrominance dctSizeChrominanceIndex dctSizeChrominanceValue
+read-dct-size-chrominance-spec =
+    tie.close
+    (tie.spec
+    (λ c. search needs)
+    (λ c. search needs)
+    (λ c κs. let p = c .before .before .before .pre in (p .0, (p .1, (good-dct-size-chrominance, refl))))
+    (λ c. bounded 8 dctSizeChrominanceIndex dctSizeChrominanceValue tt (c .read-vlc .ensures)))

@@ -7,13 +7,12 @@ use Rattle.codes.proofs.Values.{bounded}
 use Rattle.codes.proofs.codes.read_macroblock_address_increment.Statement.{statement}
 use Rattle.codes.proofs.codes.read_macroblock_address_increment.Tie as tie
 
-read-vlc-requires : tie.Need-read-vlc-requires
-unfolding macroblockAddressIncrementIndex
-read-vlc-requires c κs = let p = c .before .before .before .pre in (p .0, (p .1, (good-macroblock-address-increment, refl)))
-
-returns : tie.Need-returns
-unfolding macroblockAddressIncrement macroblockAddressIncrementIndex macroblockAddressIncrementValue
-returns c = bounded 35 macroblockAddressIncrementIndex macroblockAddressIncrementValue tt (c .read-vlc .ensures)
-
 pub read-macroblock-address-increment-spec : {M : Type 1} → statement M
-read-macroblock-address-increment-spec = tie.close (tie.spec (λ c. search needs) (λ c. search needs) read-vlc-requires returns)
+unfolding macroblockAddressIncrement macroblockAddressIncrementIndex macroblockAddressIncrementValue
+read-macroblock-address-increment-spec =
+    tie.close
+    (tie.spec
+    (λ c. search needs)
+    (λ c. search needs)
+    (λ c κs. let p = c .before .before .before .pre in (p .0, (p .1, (good-macroblock-address-increment, refl))))
+    (λ c. bounded 35 macroblockAddressIncrementIndex macroblockAddressIncrementValue tt (c .read-vlc .ensures)))

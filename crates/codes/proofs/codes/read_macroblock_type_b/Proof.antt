@@ -7,13 +7,12 @@ use Rattle.codes.proofs.Values.{bounded}
 use Rattle.codes.proofs.codes.read_macroblock_type_b.Statement.{statement}
 use Rattle.codes.proofs.codes.read_macroblock_type_b.Tie as tie
 
-read-vlc-requires : tie.Need-read-vlc-requires
-unfolding macroblockTypeBIndex
-read-vlc-requires c κs = let p = c .before .before .before .pre in (p .0, (p .1, (good-macroblock-type-b, refl)))
-
-returns : tie.Need-returns
-unfolding macroblockTypeB macroblockTypeBIndex macroblockTypeBValue
-returns c = bounded 31 macroblockTypeBIndex macroblockTypeBValue tt (c .read-vlc .ensures)
-
 pub read-macroblock-type-b-spec : {M : Type 1} → statement M
-read-macroblock-type-b-spec = tie.close (tie.spec (λ c. search needs) (λ c. search needs) read-vlc-requires returns)
+unfolding macroblockTypeB macroblockTypeBIndex macroblockTypeBValue
+read-macroblock-type-b-spec =
+    tie.close
+    (tie.spec
+    (λ c. search needs)
+    (λ c. search needs)
+    (λ c κs. let p = c .before .before .before .pre in (p .0, (p .1, (good-macroblock-type-b, refl))))
+    (λ c. bounded 31 macroblockTypeBIndex macroblockTypeBValue tt (c .read-vlc .ensures)))

@@ -7,13 +7,12 @@ use Rattle.codes.proofs.Values.{bounded}
 use Rattle.codes.proofs.codes.read_macroblock_type_intra.Statement.{statement}
 use Rattle.codes.proofs.codes.read_macroblock_type_intra.Tie as tie
 
-read-vlc-requires : tie.Need-read-vlc-requires
-unfolding macroblockTypeIntraIndex
-read-vlc-requires c κs = let p = c .before .before .before .pre in (p .0, (p .1, (good-macroblock-type-intra, refl)))
-
-returns : tie.Need-returns
-unfolding macroblockTypeIntra macroblockTypeIntraIndex macroblockTypeIntraValue
-returns c = bounded 31 macroblockTypeIntraIndex macroblockTypeIntraValue tt (c .read-vlc .ensures)
-
 pub read-macroblock-type-intra-spec : {M : Type 1} → statement M
-read-macroblock-type-intra-spec = tie.close (tie.spec (λ c. search needs) (λ c. search needs) read-vlc-requires returns)
+unfolding macroblockTypeIntra macroblockTypeIntraIndex macroblockTypeIntraValue
+read-macroblock-type-intra-spec =
+    tie.close
+    (tie.spec
+    (λ c. search needs)
+    (λ c. search needs)
+    (λ c κs. let p = c .before .before .before .pre in (p .0, (p .1, (good-macroblock-type-intra, refl))))
+    (λ c. bounded 31 macroblockTypeIntraIndex macroblockTypeIntraValue tt (c .read-vlc .ensures)))

@@ -7,13 +7,12 @@ use Rattle.codes.proofs.Values.{bounded}
 use Rattle.codes.proofs.codes.read_motion.Statement.{statement}
 use Rattle.codes.proofs.codes.read_motion.Tie as tie
 
-read-vlc-requires : tie.Need-read-vlc-requires
-unfolding motionIndex
-read-vlc-requires c κs = let p = c .before .before .before .pre in (p .0, (p .1, (good-motion, refl)))
-
-returns : tie.Need-returns
-unfolding motion motionIndex motionValue
-returns c = bounded 16 motionIndex motionValue tt (c .read-vlc .ensures)
-
 pub read-motion-spec : {M : Type 1} → statement M
-read-motion-spec = tie.close (tie.spec (λ c. search needs) (λ c. search needs) read-vlc-requires returns)
+unfolding motion motionIndex motionValue
+read-motion-spec =
+    tie.close
+    (tie.spec
+    (λ c. search needs)
+    (λ c. search needs)
+    (λ c κs. let p = c .before .before .before .pre in (p .0, (p .1, (good-motion, refl))))
+    (λ c. bounded 16 motionIndex motionValue tt (c .read-vlc .ensures)))

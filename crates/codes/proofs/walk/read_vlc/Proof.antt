@@ -5,15 +5,6 @@ use Rattle.codes.specs.Walk.{vlc}
 use Rattle.codes.proofs.walk.read_vlc.Statement.{statement}
 use Rattle.codes.proofs.walk.read_vlc.Tie as tie
 
-walk-requires : tie.Need-walk-requires
-walk-requires c κs = search needs
-
-mul-found : tie.Need-mul-found
-mul-found c = search needs
-
-shared-slice-copy-out-found : tie.Need-shared-slice-copy-out-found
-shared-slice-copy-out-found c = search needs
-
 returns : tie.Need-returns
 unfolding vlc
 returns c =
@@ -21,4 +12,4 @@ returns c =
     rw (toZ-ofZ (sfits-of (c .found .given))) (r-call _ (x .walk .ensures .0) r-done, x .walk .ensures .1 .1)
 
 pub read-vlc-spec : {M : Type 1} → statement M
-read-vlc-spec = tie.close (tie.spec walk-requires mul-found shared-slice-copy-out-found returns)
+read-vlc-spec = tie.close (tie.spec (λ c κs. search needs) (λ c. search needs) (λ c. search needs) returns)

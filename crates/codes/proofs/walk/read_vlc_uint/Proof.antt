@@ -4,15 +4,6 @@ use Rattle.codes.specs.Walk.{vlc}
 use Rattle.codes.proofs.walk.read_vlc_uint.Statement.{statement}
 use Rattle.codes.proofs.walk.read_vlc_uint.Tie as tie
 
-walk-requires : tie.Need-walk-requires
-walk-requires c κs = search needs
-
-mul-found : tie.Need-mul-found
-mul-found c = search needs
-
-shared-slice-read-found : tie.Need-shared-slice-read-found
-shared-slice-read-found c = search needs
-
 returns : tie.Need-returns
 unfolding vlc
 returns c =
@@ -20,4 +11,4 @@ returns c =
     (r-call _ (x .walk .ensures .0) r-done, x .walk .ensures .1 .1)
 
 pub read-vlc-uint-spec : {M : Type 1} → statement M
-read-vlc-uint-spec = tie.close (tie.spec walk-requires mul-found shared-slice-read-found returns)
+read-vlc-uint-spec = tie.close (tie.spec (λ c κs. search needs) (λ c. search needs) (λ c. search needs) returns)

@@ -27,21 +27,6 @@ abbrev μ-loop : tie.MeasureT-loop
 loop-holds : tie.Need-loop-holds Inv-loop μ-loop
 loop-holds c = (omega arith, c .before .pre .1 .1 .two, loop-start (omega (arith, c .before .pre .1 .1 .two)))
 
-read-bit-requires : tie.Need-read-bit-requires Inv-loop μ-loop
-read-bit-requires c κs = search needs
-
-cast-place : tie.Need-cast-place Inv-loop μ-loop
-cast-place c = omega arith
-
-add-place : tie.Need-add-place Inv-loop μ-loop
-add-place c = omega arith
-
-mul-next : tie.Need-mul-next Inv-loop μ-loop
-mul-next c = omega (arith, c .before .before .before .before .good)
-
-shared-slice-copy-out-next : tie.Need-shared-slice-copy-out-next Inv-loop μ-loop
-shared-slice-copy-out-next c = omega arith
-
 returns : tie.Need-returns Inv-loop μ-loop
 unfolding walk walkTurn
 returns c =
@@ -94,11 +79,11 @@ walk-spec =
     Inv-loop
     μ-loop
     loop-holds
-    read-bit-requires
-    cast-place
-    add-place
-    mul-next
-    shared-slice-copy-out-next
+    (λ c κs. search needs)
+    (λ c. omega arith)
+    (λ c. omega arith)
+    (λ c. omega (arith, c .before .before .before .before .good))
+    (λ c. omega arith)
     returns
     cast-at
     loop-less

@@ -20,11 +20,6 @@ Inv-loop s from dw size across down out₀ y₀ out y = Lines (replicate 256 0) 
 abbrev μ-loop : tie.MeasureT-loop
 μ-loop s from dw size across down out₀ y₀ out y = size - y
 
-loop-holds : tie.Need-loop-holds Inv-loop μ-loop
-loop-holds c =
-    let size = c .before .args .size in
-    no-line (omega arith) (omega (arith, length-replicate {A = ℕ} 256 0, in-block size (size - 1) (omega arith) (omega arith)))
-
 -- the row in the block, and in the source
 here : (c : tie.After-out Inv-loop μ-loop) → let l = c .before .before in l .loop .y * l .before .before .args .size + l .before .before .args .size ≤ 256
 here c = let l = c .before .before in in-block (l .before .before .args .size) (l .loop .y) (omega arith) (omega arith)
@@ -36,27 +31,6 @@ there c =
     let a = l .before .before .args in
     last-row (a .from) (a .dw) (a .size + cond (a .down) (a .dw) 0 + cond (a .across) 1 0) (a .size) (length (now (a .s))) (omega arith) (l .loop .y) (c .before .loop-test .taken)
 
-slice-aggregate-gather-row : tie.Need-slice-aggregate-gather-row Inv-loop μ-loop
-slice-aggregate-gather-row c = omega (arith, length-replicate {A = ℕ} 256 0)
-
-mul-gather-row : tie.Need-mul-gather-row Inv-loop μ-loop
-mul-gather-row c = omega (arith, here c)
-
-mul-gather-row-2 : tie.Need-mul-gather-row-2 Inv-loop μ-loop
-mul-gather-row-2 c = omega (arith, there c)
-
-add-gather-row : tie.Need-add-gather-row Inv-loop μ-loop
-add-gather-row c = omega (arith, there c)
-
-gather-row-requires : tie.Need-gather-row-requires Inv-loop μ-loop
-gather-row-requires c κs = omega (arith, length-replicate {A = ℕ} 256 0, here c, there c)
-
-add-y : tie.Need-add-y Inv-loop μ-loop
-add-y c = omega arith
-
-loop-less : tie.Need-loop-less Inv-loop μ-loop
-loop-less c = omega arith
-
 loop-again : tie.Need-loop-again Inv-loop μ-loop
 loop-again c =
     let t = c .before .before .before in
@@ -65,23 +39,20 @@ loop-again c =
     line-on (l .loop .inv) (t .loop-test .taken)
     (c .before .gather-row .ensures ∙ ap (λ (m : ℕ). storeRow (l .loop .out) m (λ x. sample (now (a .s)) (a .dw) (a .across) (a .down) (a .from + l .loop .y * a .dw + x)) (a .size)) (sym (zero-add (l .loop .y * a .size))))
 
-returns : tie.Need-returns Inv-loop μ-loop
-unfolding gathered
-returns c = lines-all (c .before .loop .inv) (c .loop-test .left)
-
 pub gather-spec : {M : Type 1} → statement M
+unfolding gathered
 gather-spec =
     tie.close
     (tie.spec
     Inv-loop
     μ-loop
-    loop-holds
-    slice-aggregate-gather-row
-    mul-gather-row
-    mul-gather-row-2
-    add-gather-row
-    gather-row-requires
-    add-y
-    loop-less
+    (λ c. let size = c .before .args .size in no-line (omega arith) (omega (arith, length-replicate {A = ℕ} 256 0, in-block size (size - 1) (omega arith) (omega arith))))
+    (λ c. omega (arith, length-replicate {A = ℕ} 256 0))
+    (λ c. omega (arith, here c))
+    (λ c. omega (arith, there c))
+    (λ c. omega (arith, there c))
+    (λ c κs. omega (arith, length-replicate {A = ℕ} 256 0, here c, there c))
+    (λ c. omega arith)
+    (λ c. omega arith)
     loop-again
-    returns)
+    (λ c. lines-all (c .before .loop .inv) (c .loop-test .left)))

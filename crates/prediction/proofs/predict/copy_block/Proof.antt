@@ -55,55 +55,13 @@ target c =
     rw (address-is (c .before), width-is (c .before .before), span (s .args .to) (bytes-is c))
     (rw (length-mid (s .args .to) (bytes (s .args .p)) (now (s .args .store)) (s .pre .1 .0 .1)) (block-in (s .pre .0)))
 
-width-requires : tie.Need-width-requires
-width-requires c κs = search needs
-
-address-requires : tie.Need-address-requires
-address-requires c κs = search needs
-
-bytes-requires : tie.Need-bytes-requires
-bytes-requires c κs = search needs
-
-is-odd-requires : tie.Need-is-odd-requires
-is-odd-requires c κs = search needs
-
-is-odd-requires-2 : tie.Need-is-odd-requires-2
-is-odd-requires-2 c κs = search needs
-
-add-from-end : tie.Need-add-from-end
-add-from-end c = search needs
-
-add-to-end : tie.Need-add-to-end
-add-to-end c = search needs
-
-sub-gather : tie.Need-sub-gather
-sub-gather c = search needs
-
-part-gather-start : tie.Need-part-gather-start
-part-gather-start c = search needs
-
-part-gather-end : tie.Need-part-gather-end
-part-gather-end c = search needs
-
 gather-requires : tie.Need-gather-requires
 gather-requires c κs =
     ((size-eights (c .before .before .before .before .before .before .before .before .pre .0), size-to (c .before .before .before .before .before .before .before .before .pre .0)), source c)
 
-sub-lay : tie.Need-sub-lay
-sub-lay c = search needs
-
-part-lay-start : tie.Need-part-lay-start
-part-lay-start c = search needs
-
-part-lay-end : tie.Need-part-lay-end
-part-lay-end c = search needs
-
 lay-requires : tie.Need-lay-requires
 lay-requires c κs =
     ((size-eights (c .before .before .before .before .before .before .before .before .before .before .before .pre .0), size-to (c .before .before .before .before .before .before .before .before .before .before .before .pre .0), narrow (c .before .before .before .before .before .before .before .before .before)), target (c .before .before .before .before .before .before .before))
-
-same-length : tie.Need-same-length
-same-length c = search needs
 
 returns : tie.Need-returns
 returns c =
@@ -117,20 +75,20 @@ pub copy-block-spec : {M : Type 1} → statement M
 copy-block-spec =
     tie.close
     (tie.spec
-    width-requires
-    address-requires
-    bytes-requires
-    is-odd-requires
-    is-odd-requires-2
-    add-from-end
-    add-to-end
-    sub-gather
-    part-gather-start
-    part-gather-end
+    (λ c κs. search needs)
+    (λ c κs. search needs)
+    (λ c κs. search needs)
+    (λ c κs. omega arith)
+    (λ c κs. omega arith)
+    (λ c. omega arith)
+    (λ c. omega arith)
+    (λ c. omega arith)
+    (λ c. omega arith)
+    (λ c. omega arith)
     gather-requires
-    sub-lay
-    part-lay-start
-    part-lay-end
+    (λ c. omega arith)
+    (λ c. omega arith)
+    (λ c. omega arith)
     lay-requires
-    same-length
+    (λ c. omega arith)
     returns)

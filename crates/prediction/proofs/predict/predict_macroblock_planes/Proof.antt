@@ -58,15 +58,6 @@ halves c = let s = c .before .before .before .before .before .before .before .be
 predict-of-stores-requires : tie.Need-predict-of-stores-requires
 predict-of-stores-requires c κs = let s = c .before .before in (s .pre .0, (s .pre .1 .0, (rw (toZ-ofZ (s .fits .h), toZ-ofZ (s .fits .v)) (s .pre .1 .1 .0), s .pre .1 .1 .1)))
 
-enum-told : tie.Need-enum-told
-enum-told c = search needs
-
-enum-told-2 : tie.Need-enum-told-2
-enum-told-2 c = search needs
-
-same-length : tie.Need-same-length
-same-length c = search needs
-
 returns : tie.Need-returns
 returns c =
     let s = c .before .before .before .before .before .before .before in
@@ -74,24 +65,9 @@ returns c =
     let t = c .enum-told2 .given .1 in
     of-both (sym t ∙ o .0, o .1) (sym (first-refused (s .args .m) (s .args .from) (s .args .to) (s .args .h) (s .args .v) (s .args .interpolate) (now (s .args .store)) (sym (o .0) ∙ t)))
 
-half-requires : tie.Need-half-requires
-half-requires c κs = search needs
-
-half-requires-2 : tie.Need-half-requires-2
-half-requires-2 c κs = search needs
-
 predict-of-stores-requires-2 : tie.Need-predict-of-stores-requires-2
 predict-of-stores-requires-2 c κs =
     let s = c .before .before .before .before .before .before .before .before .before .before in (s .pre .0, (s .pre .1 .0, (halves (c .before), omega (arith, s .pre .1 .1 .1, c .before .before .before .before .before .before .before .predict-of-stores .kept .0))))
-
-enum-told-3 : tie.Need-enum-told-3
-enum-told-3 c = search needs
-
-enum-told-4 : tie.Need-enum-told-4
-enum-told-4 c = search needs
-
-same-length-2 : tie.Need-same-length-2
-same-length-2 c = search needs
 
 returns-2 : tie.Need-returns-2
 returns-2 c =
@@ -105,9 +81,6 @@ predict-of-stores-requires-3 c κs =
     let s = c .before .before .before .before .before .before .before .before .before .before .before .before .before .before .before .before in
     (s .pre .0, (s .pre .1 .0, (halves (c .before .before .before .before .before .before .before), omega (arith, s .pre .1 .1 .1, c .before .before .before .before .before .before .before .before .before .before .before .before .before .predict-of-stores .kept .0, c .before .before .before .before .before .predict-of-stores2 .kept .0))))
 
-same-length-3 : tie.Need-same-length-3
-same-length-3 c = search needs
-
 returns-3 : tie.Need-returns-3
 returns-3 c =
     let s = c .before .before .before .before .before .before .before .before .before .before .before .before .before .before .before .before .before .before .before in
@@ -118,17 +91,17 @@ predict-macroblock-planes-spec =
     tie.close
     (tie.spec
     predict-of-stores-requires
-    enum-told
-    enum-told-2
-    same-length
+    (λ c. omega arith)
+    (λ c. omega arith)
+    (λ c. omega arith)
     returns
-    half-requires
-    half-requires-2
+    (λ c κs. omega arith)
+    (λ c κs. omega arith)
     predict-of-stores-requires-2
-    enum-told-3
-    enum-told-4
-    same-length-2
+    (λ c. omega arith)
+    (λ c. omega arith)
+    (λ c. omega arith)
     returns-2
     predict-of-stores-requires-3
-    same-length-3
+    (λ c. omega arith)
     returns-3)

@@ -1,7 +1,6 @@
 -- `predict::predict_of_stores` meets its contract.
 use mathlib.Core.Path.{_≡_, ap, _∙_}
 use native.Mathlib.Omega.{arith}
-use borrow.Author.Needs.{needs}
 use denote.Ref.{now}
 use mir.Facts.{toZ-ofZ}
 use Rattle.prediction.specs.Planes.{blockSize, After}
@@ -13,20 +12,11 @@ use Rattle.prediction.proofs.predict.predict_of_stores.Tie as tie
 place-is : (c : tie.After-block) → let s = c .before .before .before .before .before .before in c .block .result ≡ blockOf (s .args .m) (blockSize (s .args .q))
 place-is c = c .block .ensures ∙ ap (blockOf (c .before .before .before .before .before .before .args .m)) (c .before .block-size .ensures)
 
-mul-n : tie.Need-mul-n
-mul-n c = search needs
-
 plane-start-requires : tie.Need-plane-start-requires
 plane-start-requires c κs = let s = c .before .before in (s .pre .1 .0 .0, count-most (s .pre .0))
 
 plane-start-requires-2 : tie.Need-plane-start-requires-2
 plane-start-requires-2 c κs = let s = c .before .before .before in (s .pre .1 .0 .1, count-most (s .pre .0))
-
-block-size-requires : tie.Need-block-size-requires
-block-size-requires c κs = search needs
-
-block-requires : tie.Need-block-requires
-block-requires c κs = search needs
 
 predict-plane-requires : tie.Need-predict-plane-requires
 predict-plane-requires c κs =
@@ -42,9 +32,6 @@ predict-plane-requires c κs =
       ),
     )
 
-same-length : tie.Need-same-length
-same-length c = search needs
-
 returns : tie.Need-returns
 returns c =
     let k = c .before .before .before .before in
@@ -56,11 +43,11 @@ pub predict-of-stores-spec : {M : Type 1} → statement M
 predict-of-stores-spec =
     tie.close
     (tie.spec
-    mul-n
+    (λ c. omega arith)
     plane-start-requires
     plane-start-requires-2
-    block-size-requires
-    block-requires
+    (λ c κs. omega arith)
+    (λ c κs. omega arith)
     predict-plane-requires
-    same-length
+    (λ c. omega arith)
     returns)

@@ -1,5 +1,6 @@
 -- `predict::predict_plane` meets its contract, by the ways.
 use mathlib.Core.Path.{_≡_, sym, ap, ap₂, _∙_}
+use native.Mathlib.Omega.{arith}
 use borrow.Author.Needs.{needs}
 use borrow.Rule.Slice.PartMut.{midOf, putMid}
 use denote.Ref.{now}
@@ -25,18 +26,6 @@ answered c e =
     let s = c .before .before in
     (ap (λ (w : Way). did s w .answer) (e ∙ way-is c), ap (λ (w : Way). did s w .store) (e ∙ way-is c))
 
-way-of-requires : tie.Need-way-of-requires
-way-of-requires c κs = search needs
-
-enum-told : tie.Need-enum-told
-enum-told c = search needs
-
-enum-told-2 : tie.Need-enum-told-2
-enum-told-2 c = search needs
-
-enum-known-at : tie.Need-enum-known-at
-enum-known-at c = search needs
-
 copy-block-requires : tie.Need-copy-block-requires
 copy-block-requires c κs =
     let s = c .before .before .before .before .before .before in
@@ -52,9 +41,6 @@ returns c = answered (c .before .before) (sym (c .enum-told .given .1))
 returns-2 : tie.Need-returns-2
 unfolding follow
 returns-2 c = answered (c .before .before) (sym (c .enum-told2 .given .1))
-
-same-length : tie.Need-same-length
-same-length c = search needs
 
 returns-3 : tie.Need-returns-3
 unfolding follow
@@ -72,12 +58,12 @@ pub predict-plane-spec : {M : Type 1} → statement M
 predict-plane-spec =
     tie.close
     (tie.spec
-    way-of-requires
-    enum-told
-    enum-told-2
-    enum-known-at
+    (λ c κs. search needs)
+    (λ c. omega arith)
+    (λ c. omega arith)
+    (λ c. omega arith)
     copy-block-requires
     returns
     returns-2
-    same-length
+    (λ c. omega arith)
     returns-3)

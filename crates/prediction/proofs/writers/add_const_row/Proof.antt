@@ -48,6 +48,6 @@ add-const-row-spec =
     (λ c. omega arith)
     (λ c. omega arith)
     (λ c κs. search needs)
-    (λ c κs. search needs)
+    (λ c κs. omega arith)
     (λ c. omega arith)
     returns)

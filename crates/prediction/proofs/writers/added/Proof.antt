@@ -1,7 +1,6 @@
 -- `writers::added` meets its contract: the sum of a byte and a narrow number stays in 32 bits.
 use mathlib.Core.Path.{ap, _∙_}
 use native.Mathlib.Omega.{arith}
-use borrow.Author.Needs.{needs}
 use lib.IntN.{pos, _+ℤ_}
 use mir.Syntax.{w32}
 use mir.Val.{toZ}
@@ -15,17 +14,11 @@ use Rattle.prediction.proofs.writers.added.Tie as tie
 sum : (c : tie.Start) → Num (toZ w32 (c .args .old) +ℤ reread w32 (c .args .value)) (pos (c .args .old) +ℤ c .args .value) 131327
 sum c = natural-num w32 (c .args .old) 255 (omega arith) tt ⊞ arg w32 (c .fits .value) (c .pre)
 
-cast-clamp-u8 : tie.Need-cast-clamp-u8
-cast-clamp-u8 c = search needs
-
 add-clamp-u8 : tie.Need-add-clamp-u8
 add-clamp-u8 c = fits w32 (sum c) tt
-
-clamp-u8-requires : tie.Need-clamp-u8-requires
-clamp-u8-requires c κs = search needs
 
 returns : tie.Need-returns
 returns c = c .clamp-u8 .ensures ∙ ap clamp255 (rd w32 (sum (c .before)) tt .is)
 
 pub added-spec : {M : Type 1} → statement M
-added-spec = tie.close (tie.spec cast-clamp-u8 add-clamp-u8 clamp-u8-requires returns)
+added-spec = tie.close (tie.spec (λ c. omega arith) add-clamp-u8 (λ c κs. omega arith) returns)

@@ -1,6 +1,6 @@
 -- `writers::added_at` meets its contract.
 use mathlib.Core.Path.{_≡_, ap, _∙_}
-use borrow.Author.Needs.{needs}
+use native.Mathlib.Omega.{arith}
 use denote.Ref.{now}
 use lib.IntN.{ℤ, pos, _+ℤ_}
 use lib.ListN.{getD}
@@ -14,12 +14,6 @@ use Rattle.prediction.proofs.writers.added_at.Tie as tie
 same : (c : tie.After-added-arg) → let a = c .before .args in reread w32 (getD (now (a .s)) (a .k) (pos 0)) ≡ getD (now (a .s)) (a .k) (pos 0)
 same c = toZ-ofZ (record { sfits = c .added-arg .given })
 
-mul-added : tie.Need-mul-added
-mul-added c = search needs
-
-element-copy-out-added : tie.Need-element-copy-out-added
-element-copy-out-added c = search needs
-
 added-requires : tie.Need-added-requires
 added-requires c κs = rw (same c) (c .before .pre .1 .entry (c .before .args .k) (c .before .pre .0))
 
@@ -27,4 +21,4 @@ returns : tie.Need-returns
 returns c = c .added .ensures ∙ ap (λ (z : ℤ). clamp255 (pos (c .before .before .args .old) +ℤ z)) (same (c .before))
 
 pub added-at-spec : {M : Type 1} → statement M
-added-at-spec = tie.close (tie.spec mul-added element-copy-out-added added-requires returns)
+added-at-spec = tie.close (tie.spec (λ c. omega arith) (λ c. omega arith) added-requires returns)

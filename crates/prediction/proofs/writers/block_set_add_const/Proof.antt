@@ -21,30 +21,6 @@ Inv-loop d₀ di dw value y₀ d y = Lines d₀ di dw 8 8 (λ old y x. clamp255 
 abbrev μ-loop : tie.MeasureT-loop
 μ-loop d₀ di dw value y₀ d y = 8 - y
 
-loop-holds : tie.Need-loop-holds Inv-loop μ-loop
-loop-holds c = no-line (omega arith) (omega arith)
-
-mul-add-const-row : tie.Need-mul-add-const-row Inv-loop μ-loop
-mul-add-const-row c = omega (arith, in-line (c .before .before .loop .inv) (c .before .loop-test .taken))
-
-add-add-const-row : tie.Need-add-add-const-row Inv-loop μ-loop
-add-add-const-row c = omega (arith, in-line (c .before .before .loop .inv) (c .before .loop-test .taken))
-
-add-const-row-requires : tie.Need-add-const-row-requires Inv-loop μ-loop
-add-const-row-requires c κs = let s = c .before .before .before .before in (omega (arith, in-line (c .before .before .loop .inv) (c .before .loop-test .taken)), rw (toZ-ofZ (s .fits .value)) (s .pre .1 .1))
-
-add-y : tie.Need-add-y Inv-loop μ-loop
-add-y c = omega arith
-
-loop-less : tie.Need-loop-less Inv-loop μ-loop
-loop-less c = omega arith
-
-loop-again : tie.Need-loop-again Inv-loop μ-loop
-loop-again c = let t = c .before .before .before .before in line-on (t .before .loop .inv) (t .loop-test .taken) (c .before .before .add-const-row .ensures)
-
-same-length : tie.Need-same-length Inv-loop μ-loop
-same-length c = c .before .loop .inv .long
-
 returns : tie.Need-returns Inv-loop μ-loop
 unfolding addConst
 returns c =
@@ -59,12 +35,12 @@ block-set-add-const-spec =
     (tie.spec
     Inv-loop
     μ-loop
-    loop-holds
-    mul-add-const-row
-    add-add-const-row
-    add-const-row-requires
-    add-y
-    loop-less
-    loop-again
-    same-length
+    (λ c. no-line (omega arith) (omega arith))
+    (λ c. omega (arith, in-line (c .before .before .loop .inv) (c .before .loop-test .taken)))
+    (λ c. omega (arith, in-line (c .before .before .loop .inv) (c .before .loop-test .taken)))
+    (λ c κs. let s = c .before .before .before .before in (omega (arith, in-line (c .before .before .loop .inv) (c .before .loop-test .taken)), rw (toZ-ofZ (s .fits .value)) (s .pre .1 .1)))
+    (λ c. omega arith)
+    (λ c. omega arith)
+    (λ c. let t = c .before .before .before .before in line-on (t .before .loop .inv) (t .loop-test .taken) (c .before .before .add-const-row .ensures))
+    (λ c. c .before .loop .inv .long)
     returns)

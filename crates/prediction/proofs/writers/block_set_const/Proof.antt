@@ -13,47 +13,27 @@ Inv-loop d₀ di dw value y₀ d y = Lines d₀ di dw 8 8 (λ old y x. value) d 
 abbrev μ-loop : tie.MeasureT-loop
 μ-loop d₀ di dw value y₀ d y = 8 - y
 
-loop-holds : tie.Need-loop-holds Inv-loop μ-loop
-loop-holds c = no-line (omega arith) (omega arith)
-
-mul-put-eight : tie.Need-mul-put-eight Inv-loop μ-loop
-mul-put-eight c = omega (arith, in-line (c .before .before .loop .inv) (c .before .loop-test .taken))
-
-add-put-eight : tie.Need-add-put-eight Inv-loop μ-loop
-add-put-eight c = omega (arith, in-line (c .before .before .loop .inv) (c .before .loop-test .taken))
-
-put-eight-requires : tie.Need-put-eight-requires Inv-loop μ-loop
-put-eight-requires c κs = omega (arith, in-line (c .before .before .loop .inv) (c .before .loop-test .taken))
-
-add-y : tie.Need-add-y Inv-loop μ-loop
-add-y c = omega arith
-
-loop-less : tie.Need-loop-less Inv-loop μ-loop
-loop-less c = omega arith
-
 loop-again : tie.Need-loop-again Inv-loop μ-loop
-loop-again c = let t = c .before .before .before .before in line-on (t .before .loop .inv) (t .loop-test .taken)
-    (eight-row (t .before .loop .d) (t .before .before .before .args .di + t .before .loop .y * t .before .before .before .args .dw) 0 (λ old n. t .before .before .before .args .value) (c .before .before .put-eight .ensures) refl refl refl refl refl refl refl refl)
-
-same-length : tie.Need-same-length Inv-loop μ-loop
-same-length c = c .before .loop .inv .long
-
-returns : tie.Need-returns Inv-loop μ-loop
-unfolding setConst
-returns c = lines-all (c .before .loop .inv) (c .loop-test .left)
+loop-again c =
+    let t = c .before .before .before .before in
+    let l = t .before in
+    let a = l .before .before .args in
+    line-on (l .loop .inv) (t .loop-test .taken)
+    (eight-row (l .loop .d) (a .di + l .loop .y * a .dw) 0 (λ old n. a .value) (c .before .before .put-eight .ensures) refl refl refl refl refl refl refl refl)
 
 pub block-set-const-spec : {M : Type 1} → statement M
+unfolding setConst
 block-set-const-spec =
     tie.close
     (tie.spec
     Inv-loop
     μ-loop
-    loop-holds
-    mul-put-eight
-    add-put-eight
-    put-eight-requires
-    add-y
-    loop-less
+    (λ c. no-line (omega arith) (omega arith))
+    (λ c. omega (arith, in-line (c .before .before .loop .inv) (c .before .loop-test .taken)))
+    (λ c. omega (arith, in-line (c .before .before .loop .inv) (c .before .loop-test .taken)))
+    (λ c κs. omega (arith, in-line (c .before .before .loop .inv) (c .before .loop-test .taken)))
+    (λ c. omega arith)
+    (λ c. omega arith)
     loop-again
-    same-length
-    returns)
+    (λ c. c .before .loop .inv .long)
+    (λ c. lines-all (c .before .loop .inv) (c .loop-test .left)))

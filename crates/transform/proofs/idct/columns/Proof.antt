@@ -17,24 +17,12 @@ abbrev μ-loop : tie.MeasureT-loop
 loop-holds : tie.Need-loop-holds Inv-loop μ-loop
 loop-holds c = start-pass by-columns butterfly (c .args .block .now) (c .pre .0)
 
-lane-requires : tie.Need-lane-requires Inv-loop μ-loop
-lane-requires c κs = omega arith
-
 butterfly-requires : tie.Need-butterfly-requires Inv-loop μ-loop
 butterfly-requires c κs =
     let l = c .before .before .before in
     let s = l .before in
     let h = c .before .before .loop-test .taken in
     kept by-columns butterfly (s .args .block .now) (l .loop .inv) h (λ e. AtMost 8 inputSize (nth e)) (c .lane .ensures) (column-within (s .args .block .now) (s .pre .1) (l .loop .i) h)
-
-put-lane-requires : tie.Need-put-lane-requires Inv-loop μ-loop
-put-lane-requires c κs = omega arith
-
-add-i : tie.Need-add-i Inv-loop μ-loop
-add-i c = omega arith
-
-loop-less : tie.Need-loop-less Inv-loop μ-loop
-loop-less c = omega arith
 
 loop-again : tie.Need-loop-again Inv-loop μ-loop
 loop-again c =
@@ -53,10 +41,10 @@ columns-spec =
     Inv-loop
     μ-loop
     loop-holds
-    lane-requires
+    (λ c κs. omega arith)
     butterfly-requires
-    put-lane-requires
-    add-i
-    loop-less
+    (λ c κs. omega arith)
+    (λ c. omega arith)
+    (λ c. omega arith)
     loop-again
     returns)

@@ -16,9 +16,6 @@ use Rattle.transform.proofs.idct.dc_only.Tie as tie
 abbrev ins : tie.Start → List (Input w32)
 ins c = signed w32 (c .args .c) 65536 (c .pre) ∷ []
 
-add-result : tie.Need-add-result
-add-result c = need (ins c) (more (var 0)) tt
-
 small : (c : ℤ) → natAbs c ≤ 65536 → natAbs (over256 c) ≤ 256
 small c h =
     let b = abs-of (v c) h in
@@ -30,4 +27,4 @@ unfolding dcOnly
 returns c = let e = value (ins c) (rnd (var 0)) tt in (e, subst (λ (z : ℤ). natAbs z ≤ 256) (sym e) (small (c .args .c) (c .pre)))
 
 pub dc-only-spec : {M : Type 1} → statement M
-dc-only-spec = tie.close (tie.spec add-result returns)
+dc-only-spec = tie.close (tie.spec (λ c. need (ins c) (more (var 0)) tt) returns)

@@ -8,12 +8,6 @@ use Rattle.transform.proofs.Sizes.{middle, idct-narrow}
 use Rattle.transform.proofs.idct.idct.Statement.{statement}
 use Rattle.transform.proofs.idct.idct.Tie as tie
 
-has-length-requires : tie.Need-has-length-requires
-has-length-requires c κs = search needs
-
-columns-requires : tie.Need-columns-requires
-columns-requires c κs = search needs
-
 rows-requires : tie.Need-rows-requires
 rows-requires c κs =
     let s = c .before .before .before .before .before in
@@ -28,4 +22,4 @@ returns c =
     (e, subst Narrow (sym e) (idct-narrow (s .args .block .now) (s .pre)))
 
 pub idct-spec : {M : Type 1} → statement M
-idct-spec = tie.close (tie.spec has-length-requires columns-requires rows-requires returns)
+idct-spec = tie.close (tie.spec (λ c κs. search needs) (λ c κs. search needs) rows-requires returns)

@@ -18,12 +18,6 @@ abbrev μ-loop : tie.MeasureT-loop
 loop-holds : tie.Need-loop-holds Inv-loop μ-loop
 loop-holds c = start-pass by-rows row-step (c .args .block .now) (c .pre .0)
 
-mul-lane : tie.Need-mul-lane Inv-loop μ-loop
-mul-lane c = omega arith
-
-lane-requires : tie.Need-lane-requires Inv-loop μ-loop
-lane-requires c κs = omega arith
-
 butterfly-requires : tie.Need-butterfly-requires Inv-loop μ-loop
 butterfly-requires c κs =
     let l = c .before .before .before in
@@ -35,18 +29,6 @@ rounded-requires : tie.Need-rounded-requires Inv-loop μ-loop
 rounded-requires c κs =
     subst (λ (e : Eight). AtMost 8 outputSize (nth e)) (sym (c .butterfly .ensures))
     (outputs-within (c .before .lane .result) (butterfly-requires (c .before) κs))
-
-mul-put-lane : tie.Need-mul-put-lane Inv-loop μ-loop
-mul-put-lane c = omega arith
-
-put-lane-requires : tie.Need-put-lane-requires Inv-loop μ-loop
-put-lane-requires c κs = omega arith
-
-add-i : tie.Need-add-i Inv-loop μ-loop
-add-i c = omega arith
-
-loop-less : tie.Need-loop-less Inv-loop μ-loop
-loop-less c = omega arith
 
 loop-again : tie.Need-loop-again Inv-loop μ-loop
 loop-again c =
@@ -68,13 +50,13 @@ rows-spec =
     Inv-loop
     μ-loop
     loop-holds
-    mul-lane
-    lane-requires
+    (λ c. omega arith)
+    (λ c κs. omega arith)
     butterfly-requires
     rounded-requires
-    mul-put-lane
-    put-lane-requires
-    add-i
-    loop-less
+    (λ c. omega arith)
+    (λ c κs. omega arith)
+    (λ c. omega arith)
+    (λ c. omega arith)
     loop-again
     returns)

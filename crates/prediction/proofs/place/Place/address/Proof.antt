@@ -8,9 +8,6 @@ use Rattle.prediction.proofs.place.Place.address.Tie as tie
 mul-result : tie.Need-mul-result
 mul-result c = let k = c .before .pre in omega (arith, row-in k, height-most k)
 
-width-requires : tie.Need-width-requires
-width-requires c κs = search needs
-
 mul-result-2 : tie.Need-mul-result-2
 mul-result-2 c = let k = c .before .before .pre in rw (c .width .ensures) (omega (arith, block-in k, bytes-most k))
 
@@ -25,4 +22,4 @@ returns c = rw (c .before .width .ensures)
 
 pub address-spec : {M : Type 1} → statement M
 address-spec =
-    tie.close (tie.spec mul-result width-requires mul-result-2 mul-result-3 add-result returns)
+    tie.close (tie.spec mul-result (λ c κs. search needs) mul-result-2 mul-result-3 add-result returns)

@@ -5,15 +5,6 @@ use Rattle.prediction.proofs.Places.{height-most, bytes-most, row-in, m
 use Rattle.prediction.proofs.place.Place.max_address.Statement.{statement}
 use Rattle.prediction.proofs.place.Place.max_address.Tie as tie
 
-width-requires : tie.Need-width-requires
-width-requires c κs = search needs
-
-mul-result : tie.Need-mul-result
-mul-result c = omega (arith, height-most (c .before .before .pre))
-
-sub-result : tie.Need-sub-result
-sub-result c = omega (arith, row-in (c .before .before .before .pre))
-
 add-result : tie.Need-add-result
 add-result c = let k = c .before .before .before .pre in omega (arith, row-in k, height-most k)
 
@@ -29,4 +20,4 @@ returns c = rw (c .before .before .before .width .ensures)
 pub max-address-spec : {M : Type 1} → statement M
 max-address-spec =
     tie.close
-    (tie.spec width-requires mul-result sub-result add-result mul-result-2 sub-result-2 returns)
+    (tie.spec (λ c κs. search needs) (λ c. omega (arith, height-most (c .before .before .pre))) (λ c. omega (arith, row-in (c .before .before .before .pre))) add-result mul-result-2 sub-result-2 returns)

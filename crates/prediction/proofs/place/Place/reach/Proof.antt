@@ -16,25 +16,10 @@ v-is c = c .is-odd2 .ensures ∙ ap odd (toZ-ofZ (c .before .before .fits .v))
 h-is : (c : tie.After-is-odd) → c .is-odd .result ≡ odd (c .before .args .h)
 h-is c = c .is-odd .ensures ∙ ap odd (toZ-ofZ (c .before .fits .h))
 
-is-odd-requires : tie.Need-is-odd-requires
-is-odd-requires c κs = search needs
-
-is-odd-requires-2 : tie.Need-is-odd-requires-2
-is-odd-requires-2 c κs = search needs
-
-width-requires : tie.Need-width-requires
-width-requires c κs = search needs
-
-add-result : tie.Need-add-result
-add-result c = omega (arith, c .width .ensures, width-most (c .before .before .before .before .before .pre))
-
 returns : tie.Need-returns
 returns c =
     let l = c .before .before .before in
     ap (λ (n : ℕ). n + 1) (c .width .ensures) ∙ rw (sym (v-is l) ∙ c .before .before .if1 .taken, sym (h-is (l .before)) ∙ c .before .if2 .taken)
-
-width-requires-2 : tie.Need-width-requires-2
-width-requires-2 c κs = search needs
 
 returns-2 : tie.Need-returns-2
 returns-2 c =
@@ -51,12 +36,12 @@ pub reach-spec : {M : Type 1} → statement M
 reach-spec =
     tie.close
     (tie.spec
-    is-odd-requires
-    is-odd-requires-2
-    width-requires
-    add-result
+    (λ c κs. omega arith)
+    (λ c κs. omega arith)
+    (λ c κs. search needs)
+    (λ c. omega (arith, c .width .ensures, width-most (c .before .before .before .before .before .pre)))
     returns
-    width-requires-2
+    (λ c κs. search needs)
     returns-2
     returns-3
     returns-4)

@@ -42,35 +42,14 @@ abbrev ρ : tie.After-struct-known2 → List (Input w32)
     ∷ signed w32 (a .h) 2048 (w .before .pre .1 .0)
     ∷ []
 
-width-requires : tie.Need-width-requires
-width-requires c κs = search needs
-
 cast-dw : tie.Need-cast-dw
 cast-dw c = fits w32 (num (width≤ c)) tt
-
-mul-row : tie.Need-mul-row
-mul-row c = omega (arith, row≤ (c .before))
 
 cast-row : tie.Need-cast-row
 cast-row c = fits w32 (num (row≤ (c .before))) tt
 
-mul-column : tie.Need-mul-column
-mul-column c = omega (arith, column≤ (c .before .before))
-
 cast-column : tie.Need-cast-column
 cast-column c = fits w32 (num (column≤ (c .before .before))) tt
-
-add-result : tie.Need-add-result
-add-result c = need (ρ c) sum tt
-
-mul-result : tie.Need-mul-result
-mul-result c = need (ρ c) product tt
-
-add-result-2 : tie.Need-add-result-2
-add-result-2 c = need (ρ c) (product ⊹ var 3) tt
-
-add-result-3 : tie.Need-add-result-3
-add-result-3 c = need (ρ c) whole tt
 
 returns : tie.Need-returns
 returns c =
@@ -82,14 +61,14 @@ pub start-spec : {M : Type 1} → statement M
 start-spec =
     tie.close
     (tie.spec
-    width-requires
+    (λ c κs. search needs)
     cast-dw
-    mul-row
+    (λ c. omega (arith, row≤ (c .before)))
     cast-row
-    mul-column
+    (λ c. omega (arith, column≤ (c .before .before)))
     cast-column
-    add-result
-    mul-result
-    add-result-2
-    add-result-3
+    (λ c. need (ρ c) sum tt)
+    (λ c. need (ρ c) product tt)
+    (λ c. need (ρ c) (product ⊹ var 3) tt)
+    (λ c. need (ρ c) whole tt)
     returns)

@@ -34,9 +34,6 @@ so-far c =
     let s = c .before .before .before .before .before in
     c .reach .ensures ∙ ap₂ (reach (s .args .self)) (toZ-ofZ (s .fits .h)) (toZ-ofZ (s .fits .v))
 
-start-requires : tie.Need-start-requires
-start-requires c κs = search needs
-
 returns : tie.Need-returns
 returns c = let a = c .before .before .args in below (a .self) (a .h) (a .v) (ap (λ (z : ℤ). ltZ z (pos 0)) (sym (it (c .before))) ∙ c .if1 .taken)
 
@@ -48,16 +45,10 @@ cast-at c =
     let m = fits-of (v r) f in
     cast-by (back f (v r)) (omega arith) (omega arith)
 
-max-address-requires : tie.Need-max-address-requires
-max-address-requires c κs = search needs
-
 returns-2 : tie.Need-returns-2
 returns-2 c =
     let a = c .before .before .before .before .args in
     beyond (a .self) (a .h) (a .v) (not-below (c .before .before)) (above c)
-
-reach-requires : tie.Need-reach-requires
-reach-requires c κs = search needs
 
 add-if3 : tie.Need-add-if3
 add-if3 c =
@@ -82,12 +73,12 @@ pub way-of-spec : {M : Type 1} → statement M
 way-of-spec =
     tie.close
     (tie.spec
-    start-requires
+    (λ c κs. search needs)
     returns
     cast-at
-    max-address-requires
+    (λ c κs. search needs)
     returns-2
-    reach-requires
+    (λ c κs. search needs)
     add-if3
     returns-3
     returns-4)
