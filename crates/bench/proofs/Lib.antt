@@ -1,4 +1,3 @@
-pub mod CodeTurns
 pub mod Coefficients
 pub mod Results
 pub mod Rooms

@@ -8,19 +8,18 @@ use lib.ListN.{length}
 use Rattle.laws.specs.Turns.{Turn, again, stop}
 use Rattle.bits.specs.Programs.{Prog, done, look, run, bits, nextStartCode, loop, many, eqZ, _>>=_, if_then_else_}
 
--- a read of n bits is added to the sum, while they are there
-unfoldable pub addTurn : ℕ → ℕ → Prog (Turn ℕ ℕ)
-addTurn n sum = look n (λ h v. if h then (do
-  x ← bits n
+-- while n bits are there, what p reads is added to the sum
+unfoldable pub addTurn : ℕ → Prog ℕ → ℕ → Prog (Turn ℕ ℕ)
+addTurn n p sum = look n (λ h v. if h then (do
+  x ← p
   done (again (sum + x))) else done (stop sum))
 
--- the sum of a stream's reads of n bits
-unfoldable pub addReads : ℕ → Prog ℕ
-addReads n = loop many (addTurn n) 0 0
+unfoldable pub addUp : ℕ → Prog ℕ → Prog ℕ
+addUp n p = loop many (addTurn n p) 0 0
 
--- modulo 2^32; 0 for a stream that is too long, and for reads of 0 bits or more than 32
+-- the sum of a stream's reads of n bits, modulo 2^32; 0 for a stream that is too long, and for reads of 0 bits or more than 32
 unfoldable pub sumOfReads : List ℕ → ℕ → ℕ
-sumOfReads s n = cond (ltb 16777216 (length s) || eqb n 0 || ltb 32 n) 0 (run (addReads n) s 0 .value % 4294967296)
+sumOfReads s n = cond (ltb 16777216 (length s) || eqb n 0 || ltb 32 n) 0 (run (addUp n (bits n)) s 0 .value % 4294967296)
 
 -- a start code is counted
 unfoldable pub countTurn : ℕ → Prog (Turn ℕ ℕ)

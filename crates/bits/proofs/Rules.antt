@@ -45,6 +45,10 @@ pub is-start : {s : List ℕ} {a e : ℕ} {c : ℤ} → found s a ≡ record { c
 unfolding run
 is-start q = record { is = rw q refl }
 
+-- a read of up to 32 bits is not refused for its count
+pub r-reads : {s : List ℕ} {a v e : ℕ} (n : ℕ) → n ≤ 32 → Runs (reads n) s a v e → Runs (bits n) s a v e
+r-reads n h r = rw (le-leb n 32 h) at r
+
 -- whether bits are there and not all 0, from what a read of them gives
 looked : (s : List ℕ) (a n v e : ℕ) → Runs (bits n) s a v e → Runs (look n (λ h x. done (h && not (eqb x 0)))) s a (not (eqb v 0)) a
 unfolding run got

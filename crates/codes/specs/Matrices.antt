@@ -1,10 +1,10 @@
 -- The order of coefficients and the matrices, each as 64 numbers, row by row.
-use Prim.Native.Nat.{ℕ, zero, suc, min, _+_, _-_, _*_, _%_}
+use Prim.Native.Nat.{ℕ, zero, suc, min, _+_, _-_, _*_, _%_, _≤_, _<_}
 use mathlib.Core.Bool.{cond}
 use mathlib.Core.List.{List, [], _∷_, _++_, reverse}
 use lib.Dec.{eqb}
-use lib.IntN.{ℤ, pos}
-use lib.ListN.{replicate}
+use lib.IntN.{ℤ, pos, natAbs}
+use lib.ListN.{getD, replicate}
 
 -- n places of the diagonal d, on which row + column = d, from the row r down
 unfoldable pub downFrom : ℕ → ℕ → ℕ → List ℕ
@@ -50,3 +50,7 @@ premultiplierMatrix =
     pos 25 ∷ pos 35 ∷ pos 33 ∷ pos 30 ∷ pos 25 ∷ pos 20 ∷ pos 14 ∷ pos 7 ∷
     pos 17 ∷ pos 24 ∷ pos 23 ∷ pos 20 ∷ pos 17 ∷ pos 14 ∷ pos 9 ∷ pos 5 ∷
     pos 9 ∷ pos 12 ∷ pos 12 ∷ pos 10 ∷ pos 9 ∷ pos 7 ∷ pos 5 ∷ pos 2 ∷ []
+
+-- RULES 4.4: coefficients as dequantisation gives them: each at most 2048 × the premultiplier at its place, in size
+pub record Bounded (coefficients : List ℤ) : Type 0 where
+  pub each : (k : ℕ) → k < 64 → natAbs (getD coefficients k (pos 0)) ≤ 2048 * natAbs (getD premultiplierMatrix k (pos 0))

@@ -14,9 +14,8 @@ use mir.Syntax.{w32}
 use Rattle.laws.proofs.Ints.{reread}
 use Rattle.laws.proofs.Nums.{num, rd, mul-abs}
 use Rattle.laws.proofs.Tables.{every, at}
-use Rattle.codes.specs.Matrices.{zigZag, downFrom, diagonals, premultiplierMatrix}
+use Rattle.codes.specs.Matrices.{zigZag, downFrom, diagonals, premultiplierMatrix, Bounded}
 use Rattle.coefficients.specs.Dcs.{dcInside}
-use Rattle.coefficients.specs.Blocks.{Bounded}
 use Rattle.coefficients.proofs.Sizes.{inside-small}
 
 module _ {A : Type 0} (P : A → Bool) (xs : List A) (d : A) (all : T (every (λ k x. P x) 0 xs)) (none : T (P d)) where

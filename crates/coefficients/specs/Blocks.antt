@@ -2,9 +2,9 @@
 use mathlib.Core.Path.{_≡_}
 use mathlib.Core.Bool.{Bool, cond}
 use mathlib.Core.List.{List}
-use Prim.Native.Nat.{ℕ, _+_, _*_, _≤_, _<_}
+use Prim.Native.Nat.{ℕ, _+_}
 use lib.Dec.{ltb}
-use lib.IntN.{ℤ, pos, natAbs, _*ℤ_}
+use lib.IntN.{ℤ, pos, _*ℤ_}
 use lib.ListN.{getD, set, replicate}
 use Rattle.laws.specs.Turns.{Turn, again, stop}
 use Rattle.bits.specs.Programs.{Prog, done, bind, loop, _>>=_, _>>_, if_then_else_}
@@ -107,7 +107,3 @@ readOf coefficients r = record { filled = filled coefficients (r .n); predictor 
 -- RULES 3.9, 3.12: what is left over for the next block: nothing after a whole block, else its coefficients so far
 unfoldable pub leftOver : Read → List ℤ
 leftOver r = elim (r .end) [ Whole ↦ replicate 64 (pos 0) | Dropped ↦ r .filled .coefficients | Outside ↦ r .filled .coefficients ]
-
--- RULES 4.4: each coefficient is at most 2048 × the premultiplier at its place, in size
-pub record Bounded (coefficients : List ℤ) : Type 0 where
-  pub each : (k : ℕ) → k < 64 → natAbs (getD coefficients k (pos 0)) ≤ 2048 * natAbs (getD premultiplierMatrix k (pos 0))

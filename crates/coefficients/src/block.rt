@@ -11,9 +11,10 @@ ghost use Prim.Native.Nat.{_≤_, _*_};
 ghost use lib.IntN.{natAbs, _*ℤ_};
 ghost use lib.ListN.{length};
 ghost use Rattle.bits.specs.Runs.{Runs};
+ghost use Rattle.codes.specs.Matrices.{Bounded};
 ghost use Rattle.coefficients.specs.Dcs.{dcInside};
 ghost use Rattle.coefficients.specs.Dequantise.{dequantised};
-ghost use Rattle.coefficients.specs.Blocks.{Bounded, Tables, quantiser, filled, coded, coefficients, intraBlock, block, readOf, leftOver};
+ghost use Rattle.coefficients.specs.Blocks.{Tables, quantiser, filled, coded, coefficients, intraBlock, block, readOf, leftOver};
 
 // How a block ended: read to its end; dropped, its run having led past the last place; or its DC value outside -256..255 (number 8).
 pub enum BlockEnd {

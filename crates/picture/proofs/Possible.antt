@@ -12,9 +12,9 @@ use lib.ListN.{getD}
 use lib.Signed.{leZ}
 use Rattle.laws.proofs.Ints.{Dif, v, lit, neg, le-yes, yes-le, le-by, lt-by, le-of, lt-of}
 use Rattle.bits.proofs.Rules.{and-yes}
+use Rattle.codes.specs.Matrices.{Bounded}
 use Rattle.motion.specs.Displacement.{InRange}
 use Rattle.coefficients.specs.Dcs.{dcInside}
-use Rattle.coefficients.specs.Blocks.{Bounded}
 use Rattle.picture.specs.declared.state.Motion.{Motion}
 use Rattle.picture.specs.declared.state.Stores.{Stores}
 use Rattle.picture.specs.declared.state.Slice.{Slice}

@@ -14,7 +14,7 @@ use Rattle.laws.proofs.Ints.{v, lit, neg, lt-no, abs-by}
 use Rattle.laws.proofs.Nums.{mul-abs}
 use Rattle.bits.specs.Programs.{run}
 use Rattle.bits.proofs.Gives.{Gives, Turned, by-case, g-done, g-any, g-bind, g-if, g-loop, g-bits}
-use Rattle.codes.specs.Matrices.{zigZag, premultiplierMatrix}
+use Rattle.codes.specs.Matrices.{zigZag, premultiplierMatrix, Bounded}
 use Rattle.motion.specs.Displacement.{InRange}
 use Rattle.motion.specs.Vector.{displacement, motionVector}
 use Rattle.motion.proofs.Correction.{corrected-in}
@@ -26,7 +26,7 @@ use Rattle.coefficients.specs.declared.block.BlockEnd.the-variants.{Whole, Drop
 use Rattle.coefficients.specs.Coefficients.{coefficient}
 use Rattle.coefficients.specs.Dcs.{dc, dcInside}
 use Rattle.coefficients.specs.Dequantise.{doubled, madeOdd, clipped, dequantised}
-use Rattle.coefficients.specs.Blocks.{Bounded, Quantiser, Filled, Coded, Read, placed, taken, coefficientTurn, coefficients, intraBlock, nonIntraBlock, block, leftOver}
+use Rattle.coefficients.specs.Blocks.{Quantiser, Filled, Coded, Read, placed, taken, coefficientTurn, coefficients, intraBlock, nonIntraBlock, block, leftOver}
 use Rattle.coefficients.proofs.Bounds.{bounded-set, bounded-dc, bounded-zero}
 use Rattle.picture.specs.declared.state.Motion.{Motion}
 use Rattle.picture.specs.declared.state.Slice.{Slice}

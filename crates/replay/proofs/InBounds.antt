@@ -8,8 +8,7 @@ use lib.IntN.{ℤ, pos, negℤ, natAbs, _*ℤ_}
 use lib.ListN.{getD}
 use lib.Signed.{leZ}
 use Rattle.laws.proofs.Ints.{v, neg, _⊛_, le-yes, abs-by, natAbs-is}
-use Rattle.codes.specs.Matrices.{premultiplierMatrix}
-use Rattle.transform.specs.Bounds.{Bounded}
+use Rattle.codes.specs.Matrices.{premultiplierMatrix, Bounded}
 use Rattle.lists.proofs.Each.{both, all-at}
 use Rattle.replay.specs.Bounded.{within, withinAt, bounded}
 
@@ -21,4 +20,4 @@ within-size p z h =
 
 pub in-bounds : (b : List ℤ) → bounded b ≡ true → Bounded b
 unfolding bounded
-in-bounds b h = record { entry = λ k q. within-size (getD premultiplierMatrix k (pos 0)) (getD b k (pos 0)) (all-at (withinAt b) 64 h k q) }
+in-bounds b h = record { each = λ k q. within-size (getD premultiplierMatrix k (pos 0)) (getD b k (pos 0)) (all-at (withinAt b) 64 h k q) }

@@ -7,14 +7,14 @@ use native.Mathlib.Nat.{le-trans}
 use native.Mathlib.Omega.{arith}
 use lib.Dec.{T, leb, leb→le, lit≤}
 use lib.IntN.{ℤ, pos, natAbs}
-use Rattle.codes.specs.Matrices.{premultiplierMatrix}
+use Rattle.codes.specs.Matrices.{premultiplierMatrix, Bounded}
 use Rattle.laws.proofs.Nums.{num, con, shift-right, _⊞_}
 use Rattle.laws.proofs.Tables as Tables
 use Rattle.laws.proofs.Tables.{every}
 use Rattle.transform.specs.declared.butterfly.Eight.{Eight}
 use Rattle.transform.specs.Butterfly.{nth, over256, butterfly}
 use Rattle.transform.specs.Idct.{at, lane, columns, rows, idct}
-use Rattle.transform.specs.Bounds.{AtMost, Bounded, Middle, Narrow, inputSize, outputSize}
+use Rattle.transform.specs.Bounds.{AtMost, Middle, Narrow, inputSize, outputSize}
 use Rattle.transform.proofs.Eights.{nth-eight}
 use Rattle.transform.proofs.Blocks.{block-at}
 use Rattle.transform.proofs.Steps.{outs, good, outs-within}
@@ -52,14 +52,14 @@ down x k = 2048 * natAbs (at premultiplierMatrix (x + k * 8))
 
 module _ (l : List ℤ) (h : Bounded l) where
   column-down : (x : ℕ) → x < 8 → AtMost 8 (down x) (nth (lane l x 8))
-  column-down x p = lane-within (down x) l x 8 (λ k q. h .entry (x + k * 8) (omega arith))
+  column-down x p = lane-within (down x) l x 8 (λ k q. h .each (x + k * 8) (omega arith))
 
   pub column-within : (x : ℕ) → x < 8 → AtMost 8 inputSize (nth (lane l x 8))
   column-within x p =
       lane-within inputSize l x 8
       (λ k q.
       let e : (x + k * 8) / 8 ≡ k = omega arith in
-      le-trans (h .entry (x + k * 8) (omega arith)) (subst (λ (n : ℕ). down x k ≤ inputSize n) e (small-at (x + k * 8) (omega arith))))
+      le-trans (h .each (x + k * 8) (omega arith)) (subst (λ (n : ℕ). down x k ≤ inputSize n) e (small-at (x + k * 8) (omega arith))))
 
   -- what a column gives keeps to the size of the input that the column is: computed for each column and output
   given : (x : ℕ) (p : x < 8) → T (every (good (down x) (lane l x 8) (column-down x p) (inputSize x)) 0 outs)

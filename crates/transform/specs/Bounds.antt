@@ -1,18 +1,13 @@
 -- RULES 4.4: the sizes at which no step of the transform leaves 32 bits.
-use Prim.Native.Nat.{ℕ, _*_, _%_, _≤_, _<_}
+use Prim.Native.Nat.{ℕ, _%_, _≤_, _<_}
 use mathlib.Core.List.{List, [], _∷_}
 use lib.IntN.{ℤ, natAbs}
 use lib.ListN.{getD}
-use Rattle.codes.specs.Matrices.{premultiplierMatrix}
 use Rattle.transform.specs.Idct.{at}
 
 -- the absolute value of each f k, k below n, is at most size k
 pub record AtMost (n : ℕ) (size : ℕ → ℕ) (f : ℕ → ℤ) : Type 0 where
   pub entry : (k : ℕ) → k < n → natAbs (f k) ≤ size k
-
--- RULES 4.4: coefficients as dequantisation gives them, at most 2048 × premultiplier
-abbrev pub Bounded : List ℤ → Type 0
-Bounded l = AtMost 64 (λ k. 2048 * natAbs (at premultiplierMatrix k)) (at l)
 
 -- the eight inputs of the step. Columns of coefficients keep to these sizes, and so do the rows between the passes
 abbrev pub inputSize : ℕ → ℕ

@@ -9,12 +9,12 @@ use Rattle.codes.specs.Codes.{dctCoeff}
 use Rattle.codes.specs.Tables.{dctCoeffIndex, dctCoeffValue}
 use Rattle.codes.proofs.Good.{good-dct-coeff}
 use Rattle.bench.specs.Codes.{sumOfCodes}
-use Rattle.bench.proofs.CodeTurns.{Adding, adding-start, adding-less, adding-on, adding-end}
+use Rattle.bench.proofs.Turns.{Summing, summing-start, summing-less, summing-on, summing-end, code-on}
 use Rattle.bench.proofs.coefficient_codes.bench_codes.Statement.{statement}
 use Rattle.bench.proofs.coefficient_codes.bench_codes.Tie as tie
 
 abbrev Inv-loop : tie.InvT-loop
-Inv-loop bytes index value reader₀ sum₀ reader sum = Adding bytes (reader .at .0) sum
+Inv-loop bytes index value reader₀ sum₀ reader sum = Summing 1 dctCoeff bytes (reader .at .0) sum
 
 abbrev μ-loop : tie.MeasureT-loop
 μ-loop bytes index value reader₀ sum₀ reader sum = 134217728 - reader .at .0
@@ -27,7 +27,7 @@ new-requires : tie.Need-new-requires Inv-loop μ-loop
 new-requires c κs = search needs
 
 loop-holds : tie.Need-loop-holds Inv-loop μ-loop
-loop-holds c = adding-start _ _ (c .new .ensures)
+loop-holds c = summing-start _ _ _ _ (c .new .ensures)
 
 has-requires : tie.Need-has-requires Inv-loop μ-loop
 has-requires c κs = search needs
@@ -57,16 +57,18 @@ unfolding dctCoeff dctCoeffIndex dctCoeffValue
 loop-less c =
     let r = c .before .before in
     let l = r .before .before .before .before .before in
-    adding-less (l .before .before .before .before .args .bytes .now) _ (l .loop .sum) _ _ (omega (arith, l .before .before .if1 .left))
-    (sym (r .before .before .before .before .has .ensures .0) ∙ r .before .before .before .if2 .taken) (r .read-vlc-uint .ensures .0) (l .loop .inv .most)
+    let there = sym (r .before .before .before .before .has .ensures .0) ∙ r .before .before .before .if2 .taken in
+    let code = r .read-vlc-uint .ensures .0 in
+    summing-less 1 dctCoeff (l .before .before .before .before .args .bytes .now) _ (l .loop .sum) _ _ (omega (arith, l .before .before .if1 .left)) there code (code-on there code) (l .loop .inv .most)
 
 loop-again : tie.Need-loop-again Inv-loop μ-loop
 unfolding dctCoeff dctCoeffIndex dctCoeffValue
 loop-again c =
     let r = c .before .before in
     let l = r .before .before .before .before .before in
-    adding-on _ _ _ _ _ (omega (arith, l .before .before .if1 .left)) (sym (r .before .before .before .before .has .ensures .0) ∙ r .before .before .before .if2 .taken)
-    (r .read-vlc-uint .ensures .0) (omega (arith, c .struct-known .given)) (l .loop .inv)
+    let there = sym (r .before .before .before .before .has .ensures .0) ∙ r .before .before .before .if2 .taken in
+    let code = r .read-vlc-uint .ensures .0 in
+    summing-on 1 dctCoeff _ _ _ _ _ (omega (arith, l .before .before .if1 .left)) there code (code-on there code) (omega (arith, c .struct-known .given)) (l .loop .inv)
 
 cast-result : tie.Need-cast-result Inv-loop μ-loop
 cast-result c = omega arith
@@ -77,7 +79,7 @@ returns-2 c =
     let l = c .before .before in
     let s = l .before .before .before .before in
     simp (le-ltb _ _ (l .before .before .if1 .left))
-    (ap (λ (x : ℕ). x % 4294967296) (sym (adding-end (s .args .bytes .now) _ _ (sym (c .before .has .ensures .0) ∙ c .if2 .left) (l .loop .inv))))
+    (ap (λ (x : ℕ). x % 4294967296) (sym (summing-end 1 dctCoeff (s .args .bytes .now) _ _ (sym (c .before .has .ensures .0) ∙ c .if2 .left) (l .loop .inv))))
 
 pub bench-codes-spec : {M : Type 1} → statement M
 bench-codes-spec =

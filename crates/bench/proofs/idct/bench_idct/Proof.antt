@@ -12,8 +12,8 @@ use mir.Val.{toZ}
 use Rattle.laws.proofs.Ints.{v, lit, _⊕_, abs-of, at-dif, cast-by}
 use Rattle.laws.proofs.Bytes.{natural-num}
 use Rattle.laws.proofs.Exprs.{Exp, var, cst, _⊹_, Input, signed, term, eval, need, value, within}
+use Rattle.codes.specs.Matrices.{Bounded}
 use Rattle.transform.specs.Idct.{at, idct}
-use Rattle.transform.specs.Bounds.{Bounded}
 use Rattle.bench.specs.Transform.{sumOfTurns, sumOfTransforms, blockOf, turnOf}
 use Rattle.bench.proofs.Coefficients.{block-bounded}
 use Rattle.bench.proofs.idct.bench_idct.Statement.{statement}

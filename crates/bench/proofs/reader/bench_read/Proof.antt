@@ -3,13 +3,15 @@ use Prim.Native.Nat.{ℕ, _-_, _%_}
 use native.Mathlib.Omega.{arith}
 use borrow.Author.Needs.{needs}
 use borrow.Author.Tests.{lt-ltb, le-ltb, eq-eqb, ne-eqb}
+use Rattle.bits.specs.Programs.{bits}
+use Rattle.bits.proofs.Rules.{r-reads}
 use Rattle.bench.specs.Loops.{sumOfReads}
-use Rattle.bench.proofs.Turns.{few, Summing, summing-start, summing-less, summing-on, summing-end}
+use Rattle.bench.proofs.Turns.{Summing, summing-start, summing-less, summing-on, summing-end, bits-on}
 use Rattle.bench.proofs.reader.bench_read.Statement.{statement}
 use Rattle.bench.proofs.reader.bench_read.Tie as tie
 
 abbrev Inv-loop : tie.InvT-loop
-Inv-loop bytes count n reader₀ sum₀ reader sum = Summing n bytes (reader .at .0) sum
+Inv-loop bytes count n reader₀ sum₀ reader sum = Summing n (bits n) bytes (reader .at .0) sum
 
 abbrev μ-loop : tie.MeasureT-loop
 μ-loop bytes count n reader₀ sum₀ reader sum = 134217728 - reader .at .0
@@ -30,7 +32,7 @@ new-requires : tie.Need-new-requires Inv-loop μ-loop
 new-requires c κs = search needs
 
 loop-holds : tie.Need-loop-holds Inv-loop μ-loop
-loop-holds c = summing-start _ _ _ (c .new .ensures)
+loop-holds c = summing-start _ _ _ _ (c .new .ensures)
 
 has-requires : tie.Need-has-requires Inv-loop μ-loop
 has-requires c κs = search needs
@@ -49,14 +51,18 @@ loop-less c =
     let r = c .before .before in
     let l = r .before .before .before in
     let s = l .before .before .before .before .before .before in
-    summing-less _ (s .args .bytes .now) _ (l .loop .sum) _ _ (omega arith) (omega (arith, l .before .before .before .before .if1 .left)) (sym (r .before .before .has .ensures .0) ∙ r .before .if4 .taken) (few (s .args .count) (omega arith) (r .read .ensures .0))
+    let there = sym (r .before .before .has .ensures .0) ∙ r .before .if4 .taken in
+    let read = r-reads (s .args .count) (omega arith) (r .read .ensures .0) in
+    summing-less _ _ (s .args .bytes .now) _ (l .loop .sum) _ _ (omega (arith, l .before .before .before .before .if1 .left)) there read (bits-on (omega arith) there read) (l .loop .inv .most)
 
 loop-again : tie.Need-loop-again Inv-loop μ-loop
 loop-again c =
     let r = c .before .before in
     let l = r .before .before .before in
     let s = l .before .before .before .before .before .before in
-    summing-on _ _ _ _ _ _ (omega arith) (omega (arith, l .before .before .before .before .if1 .left)) (sym (r .before .before .has .ensures .0) ∙ r .before .if4 .taken) (few (s .args .count) (omega arith) (r .read .ensures .0)) (omega (arith, c .struct-known .given)) (l .loop .inv)
+    let there = sym (r .before .before .has .ensures .0) ∙ r .before .if4 .taken in
+    let read = r-reads (s .args .count) (omega arith) (r .read .ensures .0) in
+    summing-on _ _ _ _ _ _ _ (omega (arith, l .before .before .before .before .if1 .left)) there read (bits-on (omega arith) there read) (omega (arith, c .struct-known .given)) (l .loop .inv)
 
 cast-result : tie.Need-cast-result Inv-loop μ-loop
 cast-result c = omega arith
@@ -67,7 +73,7 @@ returns-4 c =
     let l = c .before .before in
     let s = l .before .before .before .before .before .before in
     simp (le-ltb _ _ (l .before .before .before .before .if1 .left), ne-eqb _ _ (l .before .before .before .if2 .left), le-ltb _ _ (l .before .before .if3 .left))
-    (ap (λ (x : ℕ). x % 4294967296) (sym (summing-end (s .args .count) (s .args .bytes .now) _ _ (sym (c .before .has .ensures .0) ∙ c .if4 .left) (l .loop .inv))))
+    (ap (λ (x : ℕ). x % 4294967296) (sym (summing-end (s .args .count) _ (s .args .bytes .now) _ _ (sym (c .before .has .ensures .0) ∙ c .if4 .left) (l .loop .inv))))
 
 pub bench-read-spec : {M : Type 1} → statement M
 bench-read-spec =

@@ -4,13 +4,14 @@ use Prim.Native.Nat.{ℕ, _-_, _%_}
 use native.Mathlib.Omega.{arith}
 use borrow.Author.Needs.{needs}
 use borrow.Author.Tests.{lt-ltb, le-ltb}
+use Rattle.bits.specs.Programs.{bits}
 use Rattle.bench.specs.Loops.{sumOfReads}
-use Rattle.bench.proofs.Turns.{Summing, summing-start, summing-less, summing-on, summing-end}
+use Rattle.bench.proofs.Turns.{Summing, summing-start, summing-less, summing-on, summing-end, bits-on}
 use Rattle.bench.proofs.reader.bench_read_bit.Statement.{statement}
 use Rattle.bench.proofs.reader.bench_read_bit.Tie as tie
 
 abbrev Inv-loop : tie.InvT-loop
-Inv-loop bytes reader₀ sum₀ reader sum = Summing 1 bytes (reader .at .0) sum
+Inv-loop bytes reader₀ sum₀ reader sum = Summing 1 (bits 1) bytes (reader .at .0) sum
 
 abbrev μ-loop : tie.MeasureT-loop
 μ-loop bytes reader₀ sum₀ reader sum = 134217728 - reader .at .0
@@ -23,7 +24,7 @@ new-requires : tie.Need-new-requires Inv-loop μ-loop
 new-requires c κs = search needs
 
 loop-holds : tie.Need-loop-holds Inv-loop μ-loop
-loop-holds c = summing-start _ _ _ (c .new .ensures)
+loop-holds c = summing-start _ _ _ _ (c .new .ensures)
 
 has-requires : tie.Need-has-requires Inv-loop μ-loop
 has-requires c κs = search needs
@@ -41,13 +42,15 @@ loop-less : tie.Need-loop-less Inv-loop μ-loop
 loop-less c =
     let r = c .before .before in
     let l = r .before .before .before in
-    summing-less 1 (l .before .before .before .before .args .bytes .now) _ (l .loop .sum) _ _ (omega arith) (omega arith) (sym (r .before .before .has .ensures .0) ∙ r .before .if2 .taken) (r .read-bit .ensures .0)
+    let there = sym (r .before .before .has .ensures .0) ∙ r .before .if2 .taken in
+    summing-less 1 _ (l .before .before .before .before .args .bytes .now) _ (l .loop .sum) _ _ (omega arith) there (r .read-bit .ensures .0) (bits-on (omega arith) there (r .read-bit .ensures .0)) (l .loop .inv .most)
 
 loop-again : tie.Need-loop-again Inv-loop μ-loop
 loop-again c =
     let r = c .before .before in
     let l = r .before .before .before in
-    summing-on _ _ _ _ _ _ (omega arith) (omega arith) (sym (r .before .before .has .ensures .0) ∙ r .before .if2 .taken) (r .read-bit .ensures .0) (omega arith) (l .loop .inv)
+    let there = sym (r .before .before .has .ensures .0) ∙ r .before .if2 .taken in
+    summing-on _ _ _ _ _ _ _ (omega arith) there (r .read-bit .ensures .0) (bits-on (omega arith) there (r .read-bit .ensures .0)) (omega arith) (l .loop .inv)
 
 cast-result : tie.Need-cast-result Inv-loop μ-loop
 cast-result c = omega arith
@@ -58,7 +61,7 @@ returns-2 c =
     let l = c .before .before in
     let s = l .before .before .before .before in
     simp (le-ltb _ _ (l .before .before .if1 .left))
-    (ap (λ (x : ℕ). x % 4294967296) (sym (summing-end 1 (s .args .bytes .now) _ _ (sym (c .before .has .ensures .0) ∙ c .if2 .left) (l .loop .inv))))
+    (ap (λ (x : ℕ). x % 4294967296) (sym (summing-end 1 _ (s .args .bytes .now) _ _ (sym (c .before .has .ensures .0) ∙ c .if2 .left) (l .loop .inv))))
 
 pub bench-read-bit-spec : {M : Type 1} → statement M
 bench-read-bit-spec =

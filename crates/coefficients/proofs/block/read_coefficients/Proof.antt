@@ -15,11 +15,11 @@ use Rattle.laws.proofs.Nums.{Num, num, rd}
 use Rattle.laws.specs.Turns.{again}
 use Rattle.bits.specs.Runs.{Runs}
 use Rattle.bits.proofs.Rules.{Loops, loop-start, loop-on, loop-end, r-call, r-yes, r-no, r-done}
-use Rattle.codes.specs.Matrices.{zigZag, premultiplierMatrix}
+use Rattle.codes.specs.Matrices.{zigZag, premultiplierMatrix, Bounded}
 use Rattle.coefficients.specs.declared.coefficient.Coefficient.the-variants.{RunLevel}
 use Rattle.coefficients.specs.declared.block.BlockEnd.the-variants.{Dropped}
 use Rattle.coefficients.specs.Dequantise.{dequantised}
-use Rattle.coefficients.specs.Blocks.{Bounded, Quantiser, quantiser, Filled, filled, coded, taken, coefficientTurn, coefficients}
+use Rattle.coefficients.specs.Blocks.{Quantiser, quantiser, Filled, filled, coded, taken, coefficientTurn, coefficients}
 use Rattle.coefficients.proofs.Bounds.{zig-zag-inside, premultiplier-small, premultiplier-read, bounded-set}
 use Rattle.coefficients.proofs.block.read_coefficients.Statement.{statement}
 use Rattle.coefficients.proofs.block.read_coefficients.Tie as tie

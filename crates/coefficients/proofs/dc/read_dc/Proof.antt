@@ -9,9 +9,9 @@ use lib.IntN.{ℤ, natAbs}
 use mir.Facts.{toZ-ofZ}
 use mir.Syntax.{w32}
 use Rattle.laws.proofs.Exprs.{Exp, var, _⊹_, Input, signed, need, num-of}
-use Rattle.bits.proofs.Rules.{r-call, r-yes, r-no, r-done}
+use Rattle.bits.proofs.Rules.{r-call, r-yes, r-no, r-done, r-reads}
 use Rattle.coefficients.specs.Dcs.{dc}
-use Rattle.coefficients.proofs.Sizes.{served, inside-small}
+use Rattle.coefficients.proofs.Sizes.{inside-small}
 use Rattle.coefficients.proofs.dc.read_dc.Statement.{statement}
 use Rattle.coefficients.proofs.dc.read_dc.Tie as tie
 
@@ -51,7 +51,7 @@ returns-2 c =
     let x = i .before .before .read-dc-size .ensures in
     let n = num-of (ρ c) sum tt in
     rw (n .is, c .added .ensures .0)
-    (r-call _ (x .0) (r-no _ (ne-eqb _ _ (i .if1 .left)) (r-call _ (served (omega arith) (r .0)) r-done)), (rw (c .added .ensures .0) at (n .bound), r .1 .1))
+    (r-call _ (x .0) (r-no _ (ne-eqb _ _ (i .if1 .left)) (r-call _ (r-reads _ (omega arith) (r .0)) r-done)), (rw (c .added .ensures .0) at (n .bound), r .1 .1))
 
 pub read-dc-spec : {M : Type 1} → statement M
 read-dc-spec =

@@ -9,11 +9,10 @@ use mir.Facts.{toZ-ofZ}
 use mir.Syntax.{w16, w32}
 use mir.Val.{SFits, ofZ}
 use borrow.Author.Needs.{needs, sfits-of}
-use borrow.Author.Tests.{le-leb}
 use Rattle.laws.proofs.Ints.{reread, v, abs-of, fits-by, zero-bits, not-zero, natAbs-is}
 use Rattle.bits.specs.Programs.{eqZ}
 use Rattle.bits.proofs.Codes.{eqZ-yes, eqZ-no}
-use Rattle.bits.proofs.Rules.{r-call, r-yes, r-no, r-done}
+use Rattle.bits.proofs.Rules.{r-call, r-yes, r-no, r-done, r-reads}
 use Rattle.motion.specs.Vector.{displacement}
 use Rattle.motion.proofs.vector.read_displacement.Statement.{statement}
 use Rattle.motion.proofs.vector.read_displacement.Tie as tie
@@ -83,8 +82,7 @@ returns-2 c =
     let r = x .before .before .args .r in
     let small = x .read-motion .ensures .1 .1 in
     let t = both m r (above-zero m small (y .before .before .if1 .left)) (y .before .if2 .left) in
-    let h : r ≤ 32 = omega arith in
-    let b = rw (le-leb r 32 h) at (y .read .ensures .0) in
+    let b = r-reads r (omega arith) (y .read .ensures .0) in
     rw (toZ-ofZ (sfits-of (c .displacement .ok)), c .displacement .ensures, code-is m small)
     (r-call _ (x .read-motion .ensures .0) (r-no _ t (r-call _ b r-done)))
 
