@@ -1,6 +1,6 @@
 -- The cases of a list that all have the same size are counted one after the other.
-use mathlib.Core.Path.{_≡_, refl, sym, _∙_}
-use mathlib.Core.Bool.{Bool, true, false}
+use mathlib.Core.Path.{_≡_, refl, sym}
+use mathlib.Core.Bool.{Bool, false}
 use mathlib.Core.List.{List}
 use Prim.Native.Nat.{ℕ, zero, suc, _+_, _-_, _*_, _≤_, _<_}
 use native.Mathlib.Omega.{arith}
@@ -11,7 +11,7 @@ use Rattle.replay.specs.declared.cases.Kind.{Kind}
 use Rattle.lists.specs.declared.tally.Tally.{Tally}
 use Rattle.lists.specs.Numbers.{numberAt}
 use Rattle.lists.specs.Tallies.{none, counted}
-use Rattle.replay.specs.Cases.{numbersOf, sizeOf, agreesAt, scoreFrom, scored}
+use Rattle.replay.specs.Cases.{sizeOf, agreesAt, scoreFrom, scored}
 
 -- a list of n cases in the middle: with `left` cases from the byte i on, and those before them counted in t, it still comes to what the whole list
 -- comes to

@@ -5,7 +5,7 @@ use mathlib.Core.List.{List}
 use lib.ListN.{length}
 use Rattle.lists.specs.declared.tally.Tally.{Tally}
 
--- t is the score of a list of at most 256 KiB, which is what was read from the file
+-- t is the score of some list of at most 256 KiB: of the bytes that were read, of which a contract cannot say more
 pub record Replayed (score : List ℕ → Tally) (t : Tally) : Type 0 where
   pub list : List ℕ
   pub short : length list ≤ 262144

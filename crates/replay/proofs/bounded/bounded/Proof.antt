@@ -10,7 +10,6 @@ use Rattle.lists.proofs.Each.{Passed, passed-none, passed-one, passed-fails, pa
 use Rattle.replay.specs.Bounded.{withinAt, bounded}
 use Rattle.replay.proofs.bounded.bounded.Statement.{statement}
 use Rattle.replay.proofs.bounded.bounded.Tie as tie
-use Rattle.codes.proofs.matrices.premultiplier_matrix.Reads as premultiplier-matrix-reads
 
 abbrev Inv-loop : tie.InvT-loop
 Inv-loop block premultipliers i₀ i = Passed (withinAt block) 64 i
