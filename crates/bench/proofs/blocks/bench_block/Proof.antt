@@ -28,15 +28,6 @@ returns c = simp (lt-ltb _ _ (c .if1 .taken))
 loop-holds : tie.Need-loop-holds Inv-loop μ-loop
 loop-holds c = (omega arith, omega arith, omega arith)
 
-new-requires : tie.Need-new-requires Inv-loop μ-loop
-new-requires c κs = search needs
-
-slice-aggregate-read-block : tie.Need-slice-aggregate-read-block Inv-loop μ-loop
-slice-aggregate-read-block c = search needs
-
-slice-aggregate-read-block-2 : tie.Need-slice-aggregate-read-block-2 Inv-loop μ-loop
-slice-aggregate-read-block-2 c = search needs
-
 read-block-requires : tie.Need-read-block-requires Inv-loop μ-loop
 unfolding dctCoeffIndex dctCoeffValue zigZag downFrom diagonals premultiplierMatrix
 read-block-requires c κs =
@@ -77,9 +68,6 @@ loop-again c =
       omega (arith, l .loop .inv .2, c .read-block .ensures .1 .1),
     )
 
-cast-result : tie.Need-cast-result Inv-loop μ-loop
-cast-result c = omega arith
-
 returns-2 : tie.Need-returns-2 Inv-loop μ-loop
 unfolding placesOfBlocks
 returns-2 c =
@@ -95,13 +83,13 @@ bench-block-spec =
     μ-loop
     returns
     loop-holds
-    new-requires
-    slice-aggregate-read-block
-    slice-aggregate-read-block-2
+    (λ c κs. search needs)
+    (λ c. search needs)
+    (λ c. search needs)
     read-block-requires
     add-sum
     add-t
     loop-less
     loop-again
-    cast-result
+    (λ c. omega arith)
     returns-2)

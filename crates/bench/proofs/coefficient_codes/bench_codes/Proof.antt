@@ -23,29 +23,14 @@ returns : tie.Need-returns Inv-loop μ-loop
 unfolding sumOfCodes
 returns c = simp (lt-ltb _ _ (c .if1 .taken))
 
-new-requires : tie.Need-new-requires Inv-loop μ-loop
-new-requires c κs = search needs
-
 loop-holds : tie.Need-loop-holds Inv-loop μ-loop
 loop-holds c = summing-start _ _ _ _ (c .new .ensures)
-
-has-requires : tie.Need-has-requires Inv-loop μ-loop
-has-requires c κs = search needs
-
-slice-aggregate-read-vlc-uint : tie.Need-slice-aggregate-read-vlc-uint Inv-loop μ-loop
-slice-aggregate-read-vlc-uint c = search needs
-
-slice-aggregate-read-vlc-uint-2 : tie.Need-slice-aggregate-read-vlc-uint-2 Inv-loop μ-loop
-slice-aggregate-read-vlc-uint-2 c = search needs
 
 read-vlc-uint-requires : tie.Need-read-vlc-uint-requires Inv-loop μ-loop
 unfolding dctCoeffIndex
 read-vlc-uint-requires c κs =
     let l = c .before .before .before .before in
     (l .loop .inv .most, (omega (arith, l .before .before .if1 .left), (good-dct-coeff, refl)))
-
-cast-sum : tie.Need-cast-sum Inv-loop μ-loop
-cast-sum c = search needs
 
 add-sum : tie.Need-add-sum Inv-loop μ-loop
 add-sum c =
@@ -70,9 +55,6 @@ loop-again c =
     let code = r .read-vlc-uint .ensures .0 in
     summing-on 1 dctCoeff _ _ _ _ _ (omega (arith, l .before .before .if1 .left)) there code (code-on there code) (omega (arith, c .struct-known .given)) (l .loop .inv)
 
-cast-result : tie.Need-cast-result Inv-loop μ-loop
-cast-result c = omega arith
-
 returns-2 : tie.Need-returns-2 Inv-loop μ-loop
 unfolding sumOfCodes
 returns-2 c =
@@ -88,15 +70,15 @@ bench-codes-spec =
     Inv-loop
     μ-loop
     returns
-    new-requires
+    (λ c κs. search needs)
     loop-holds
-    has-requires
-    slice-aggregate-read-vlc-uint
-    slice-aggregate-read-vlc-uint-2
+    (λ c κs. search needs)
+    (λ c. search needs)
+    (λ c. search needs)
     read-vlc-uint-requires
-    cast-sum
+    (λ c. search needs)
     add-sum
     loop-less
     loop-again
-    cast-result
+    (λ c. omega arith)
     returns-2)

@@ -29,18 +29,9 @@ returns : tie.Need-returns Inv-loop μ-loop
 unfolding sumOfTransforms
 returns c = simp (lt-ltb _ _ (c .if1 .taken))
 
-block-of-requires : tie.Need-block-of-requires Inv-loop μ-loop
-block-of-requires c κs = omega arith
-
 loop-holds : tie.Need-loop-holds Inv-loop μ-loop
 unfolding sumOfTurns
 loop-holds c = (omega arith, refl, omega arith)
-
-cast-c : tie.Need-cast-c Inv-loop μ-loop
-cast-c c = omega arith
-
-array-set-from-block : tie.Need-array-set-from-block Inv-loop μ-loop
-array-set-from-block c = search needs
 
 -- the block that is transformed
 block-is : (c : tie.After-block Inv-loop μ-loop) → let l = c .before .before in let b = l .before in
@@ -55,15 +46,6 @@ idct-requires c κs =
     let l = c .before .before in
     let k = l .before .before .before in
     subst Bounded (sym (block-is c)) (block-bounded (k .before .args .bytes .now) (λ i. k .shared-slice-known .given i .fits) (l .loop .t % 65536) (omega arith))
-
-cast-place : tie.Need-cast-place Inv-loop μ-loop
-cast-place c = omega arith
-
-mul-result : tie.Need-mul-result Inv-loop μ-loop
-mul-result c = omega arith
-
-array-copy-out-result : tie.Need-array-copy-out-result Inv-loop μ-loop
-array-copy-out-result c = omega arith
 
 -- the result that is read
 abbrev ins : tie.After-result Inv-loop μ-loop → List (Input w32)
@@ -90,12 +72,6 @@ cast-sum c =
 add-sum : tie.Need-add-sum Inv-loop μ-loop
 add-sum c = let b = small c in omega arith
 
-add-t : tie.Need-add-t Inv-loop μ-loop
-add-t c = omega arith
-
-loop-less : tie.Need-loop-less Inv-loop μ-loop
-loop-less c = omega arith
-
 loop-again : tie.Need-loop-again Inv-loop μ-loop
 unfolding sumOfTurns turnOf
 loop-again c =
@@ -109,9 +85,6 @@ loop-again c =
     = ap natAbs (value (ins c) result tt)
     ∙ ap (λ (x : List ℤ). natAbs (at x (t % 64) +ℤ pos 131072)) (d .idct .ensures .0 ∙ ap (λ (z : ℤ). idct (set f 0 z)) (natural-num w32 (t % 65536) 65535 (omega arith) tt .is)) in
     (omega arith, ap (λ (x : ℕ). x + n) (l .loop .inv .1) ∙ ap (λ (x : ℕ). sumOfTurns f t + x) e ∙ ap (sumOfTurns f) (sym (add-one t)), omega arith)
-
-cast-result : tie.Need-cast-result Inv-loop μ-loop
-cast-result c = omega arith
 
 returns-2 : tie.Need-returns-2 Inv-loop μ-loop
 unfolding sumOfTransforms
@@ -129,19 +102,19 @@ bench-idct-spec =
     Inv-loop
     μ-loop
     returns
-    block-of-requires
+    (λ c κs. omega arith)
     loop-holds
-    cast-c
-    array-set-from-block
+    (λ c. omega arith)
+    (λ c. search needs)
     idct-requires
-    cast-place
-    mul-result
-    array-copy-out-result
+    (λ c. omega arith)
+    (λ c. omega arith)
+    (λ c. omega arith)
     add-result
     cast-sum
     add-sum
-    add-t
-    loop-less
+    (λ c. omega arith)
+    (λ c. omega arith)
     loop-again
-    cast-result
+    (λ c. omega arith)
     returns-2)

@@ -30,9 +30,6 @@ byte≤ c = omega (arith, c .shared-slice-known .given (c .before .before .loop 
 abbrev ins : tie.After-shared-slice-known Inv-loop μ-loop → List (Input w32)
 ins c = natural w32 (getD (c .before .before .before .args .bytes .now) (c .before .before .loop .k) 0) 255 (byte≤ c) ∷ []
 
-shared-slice-read-c : tie.Need-shared-slice-read-c Inv-loop μ-loop
-shared-slice-read-c c = omega arith
-
 cast-c : tie.Need-cast-c Inv-loop μ-loop
 cast-c c = eval-fits (ins c) (var 0) tt
 
@@ -41,18 +38,6 @@ mul-c c = need (ins c) (var 0 ×̇ cst 16) tt
 
 sub-c : tie.Need-sub-c Inv-loop μ-loop
 sub-c c = need (ins c) (var 0 ×̇ cst 16 ∸ cst 2048) tt
-
-mul-block : tie.Need-mul-block Inv-loop μ-loop
-mul-block c = omega arith
-
-array-set-from-block : tie.Need-array-set-from-block Inv-loop μ-loop
-array-set-from-block c = omega arith
-
-add-k : tie.Need-add-k Inv-loop μ-loop
-add-k c = omega arith
-
-loop-less : tie.Need-loop-less Inv-loop μ-loop
-loop-less c = omega arith
 
 loop-again : tie.Need-loop-again Inv-loop μ-loop
 loop-again c =
@@ -77,13 +62,13 @@ block-of-spec =
     Inv-loop
     μ-loop
     loop-holds
-    shared-slice-read-c
+    (λ c. omega arith)
     cast-c
     mul-c
     sub-c
-    mul-block
-    array-set-from-block
-    add-k
-    loop-less
+    (λ c. omega arith)
+    (λ c. omega arith)
+    (λ c. omega arith)
+    (λ c. omega arith)
     loop-again
     returns)

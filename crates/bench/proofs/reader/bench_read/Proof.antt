@@ -28,17 +28,8 @@ returns-3 : tie.Need-returns-3 Inv-loop μ-loop
 unfolding sumOfReads
 returns-3 c = simp (le-ltb _ _ (c .before .before .if1 .left), ne-eqb _ _ (c .before .if2 .left), lt-ltb _ _ (c .if3 .taken))
 
-new-requires : tie.Need-new-requires Inv-loop μ-loop
-new-requires c κs = search needs
-
 loop-holds : tie.Need-loop-holds Inv-loop μ-loop
 loop-holds c = summing-start _ _ _ _ (c .new .ensures)
-
-has-requires : tie.Need-has-requires Inv-loop μ-loop
-has-requires c κs = search needs
-
-read-requires : tie.Need-read-requires Inv-loop μ-loop
-read-requires c κs = search needs
 
 cast-sum : tie.Need-cast-sum Inv-loop μ-loop
 cast-sum c = omega (arith, c .struct-known .given)
@@ -64,9 +55,6 @@ loop-again c =
     let read = r-reads (s .args .count) (omega arith) (r .read .ensures .0) in
     summing-on _ _ _ _ _ _ _ (omega (arith, l .before .before .before .before .if1 .left)) there read (bits-on (omega arith) there read) (omega (arith, c .struct-known .given)) (l .loop .inv)
 
-cast-result : tie.Need-cast-result Inv-loop μ-loop
-cast-result c = omega arith
-
 returns-4 : tie.Need-returns-4 Inv-loop μ-loop
 unfolding sumOfReads
 returns-4 c =
@@ -84,13 +72,13 @@ bench-read-spec =
     returns
     returns-2
     returns-3
-    new-requires
+    (λ c κs. search needs)
     loop-holds
-    has-requires
-    read-requires
+    (λ c κs. search needs)
+    (λ c κs. search needs)
     cast-sum
     add-sum
     loop-less
     loop-again
-    cast-result
+    (λ c. omega arith)
     returns-4)

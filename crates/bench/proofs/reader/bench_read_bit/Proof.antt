@@ -20,23 +20,8 @@ returns : tie.Need-returns Inv-loop μ-loop
 unfolding sumOfReads
 returns c = simp (lt-ltb _ _ (c .if1 .taken))
 
-new-requires : tie.Need-new-requires Inv-loop μ-loop
-new-requires c κs = search needs
-
 loop-holds : tie.Need-loop-holds Inv-loop μ-loop
 loop-holds c = summing-start _ _ _ _ (c .new .ensures)
-
-has-requires : tie.Need-has-requires Inv-loop μ-loop
-has-requires c κs = search needs
-
-read-bit-requires : tie.Need-read-bit-requires Inv-loop μ-loop
-read-bit-requires c κs = search needs
-
-cast-sum : tie.Need-cast-sum Inv-loop μ-loop
-cast-sum c = omega arith
-
-add-sum : tie.Need-add-sum Inv-loop μ-loop
-add-sum c = omega arith
 
 loop-less : tie.Need-loop-less Inv-loop μ-loop
 loop-less c =
@@ -51,9 +36,6 @@ loop-again c =
     let l = r .before .before .before in
     let there = sym (r .before .before .has .ensures .0) ∙ r .before .if2 .taken in
     summing-on _ _ _ _ _ _ _ (omega arith) there (r .read-bit .ensures .0) (bits-on (omega arith) there (r .read-bit .ensures .0)) (omega arith) (l .loop .inv)
-
-cast-result : tie.Need-cast-result Inv-loop μ-loop
-cast-result c = omega arith
 
 returns-2 : tie.Need-returns-2 Inv-loop μ-loop
 unfolding sumOfReads
@@ -70,13 +52,13 @@ bench-read-bit-spec =
     Inv-loop
     μ-loop
     returns
-    new-requires
+    (λ c κs. search needs)
     loop-holds
-    has-requires
-    read-bit-requires
-    cast-sum
-    add-sum
+    (λ c κs. search needs)
+    (λ c κs. search needs)
+    (λ c. omega arith)
+    (λ c. omega arith)
     loop-less
     loop-again
-    cast-result
+    (λ c. omega arith)
     returns-2)

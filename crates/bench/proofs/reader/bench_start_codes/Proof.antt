@@ -26,14 +26,8 @@ returns : tie.Need-returns Inv-loop μ-loop
 unfolding startCodes
 returns c = simp (lt-ltb _ _ (c .if1 .taken))
 
-new-requires : tie.Need-new-requires Inv-loop μ-loop
-new-requires c κs = search needs
-
 loop-holds : tie.Need-loop-holds Inv-loop μ-loop
 loop-holds c = rw (c .new .ensures) (omega arith, omega arith, loop-start (omega arith))
-
-next-start-code-requires : tie.Need-next-start-code-requires Inv-loop μ-loop
-next-start-code-requires c κs = search needs
 
 returns-2 : tie.Need-returns-2 Inv-loop μ-loop
 unfolding startCodes countCodes countTurn
@@ -43,9 +37,6 @@ returns-2 c =
     let e = same-bits w32 (code-fits k (x .next-start-code .ensures .1 .1)) (code-fits (negsuc 0) (omega arith)) (c .if2 .taken) in
     let l = loop-end (x .before .loop .inv .2) (r-call _ (x .next-start-code .ensures .0) (r-yes _ (eqZ-yes k (negsuc 0) e) r-done)) in
     simp (le-ltb _ _ (x .before .before .before .if1 .left)) (sym (ap (λ (o : Out ℕ). o .value) (l .is)))
-
-add-count : tie.Need-add-count Inv-loop μ-loop
-add-count c = omega arith
 
 -- the search went on past a code
 past : (c : tie.After-reader Inv-loop μ-loop) → c .before .before .before .before .before .loop .reader .at .0 + 32 ≤ c .before .before .before .before .next-start-code .result .reader .at .0
@@ -68,4 +59,4 @@ loop-again c =
 
 pub bench-start-codes-spec : {M : Type 1} → statement M
 bench-start-codes-spec =
-    tie.close (tie.spec Inv-loop μ-loop returns new-requires loop-holds next-start-code-requires returns-2 add-count loop-less loop-again)
+    tie.close (tie.spec Inv-loop μ-loop returns (λ c κs. search needs) loop-holds (λ c κs. search needs) returns-2 (λ c. omega arith) loop-less loop-again)

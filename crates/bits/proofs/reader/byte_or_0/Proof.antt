@@ -6,14 +6,8 @@ use borrow.Author.Needs.{needs}
 use Rattle.bits.proofs.reader.byte_or_0.Statement.{statement}
 use Rattle.bits.proofs.reader.byte_or_0.Tie as tie
 
-byte-requires : tie.Need-byte-requires
-byte-requires c κs = search needs
-
-returns : tie.Need-returns
-returns c = search needs
-
 returns-2 : tie.Need-returns-2
 returns-2 c = (sym (List·getD-eq-default (now (c .before .before .args .s)) 0 (c .if1 .left)), omega arith)
 
 pub byte-or-0-spec : {M : Type 1} → statement M
-byte-or-0-spec = tie.close (tie.spec byte-requires returns returns-2)
+byte-or-0-spec = tie.close (tie.spec (λ c κs. search needs) (λ c. search needs) returns-2)

@@ -22,9 +22,6 @@ kept f p Whole k = let z : ⊥ = ⊎-elim (λ h. omega arith) (λ h. omega arith
 kept f p Dropped k = refl
 kept f p Outside k = refl
 
-enum-told : tie.Need-enum-told
-enum-told c = search needs
-
 returns : tie.Need-returns
 unfolding leftOver
 returns c = (rw (c .before .enum-told .given .1), λ b. bounded-zero)
@@ -33,4 +30,4 @@ returns-2 : tie.Need-returns-2
 returns-2 c = let b = c .before .args .block in (kept (filled (now (c .before .args .values)) (b .n)) (b .predictor) (b .end) (c .match .keys2), λ b. b)
 
 pub left-over-spec : {M : Type 1} → statement M
-left-over-spec = tie.close (tie.spec enum-told returns returns-2)
+left-over-spec = tie.close (tie.spec (λ c. search needs) returns returns-2)

@@ -40,12 +40,6 @@ read-coefficient-requires c κs =
     let p = c .before .before .before .pre in
     (c .loop .inv .1, (p .1 .0, (p .1 .1 .0 .is-index, p .1 .1 .0 .is-value)))
 
-enum-known-coefficient : tie.Need-enum-known-coefficient Inv-loop μ-loop
-enum-known-coefficient c = search needs
-
-enum-told : tie.Need-enum-told Inv-loop μ-loop
-enum-told c = search needs
-
 returns : tie.Need-returns Inv-loop μ-loop
 unfolding coefficients coefficientTurn
 returns c =
@@ -69,12 +63,6 @@ returns-2 c =
     let i = x .before .loop .inv in
     let r = x .read-coefficient .ensures in
     (loop-end (i .3) (r-call _ (rw (w .coefficient .given .1) at (r .0)) (r-no _ (le-ltb _ _ (c .if1 .taken)) r-done)), (i .2, i .0, r .1 .1))
-
-mul-place : tie.Need-mul-place Inv-loop μ-loop
-mul-place c = omega arith
-
-element-copy-out-place : tie.Need-element-copy-out-place Inv-loop μ-loop
-element-copy-out-place c = omega arith
 
 -- at the place n + run
 module _ (c : tie.Else1 Inv-loop μ-loop) where
@@ -113,9 +101,6 @@ mul-v c = omega (arith, inside (c .before .before .before .before))
 
 element-set-from-v : tie.Need-element-set-from-v Inv-loop μ-loop
 element-set-from-v c = inside (c .before .before .before .before)
-
-add-n : tie.Need-add-n Inv-loop μ-loop
-add-n c = omega arith
 
 loop-less : tie.Need-loop-less Inv-loop μ-loop
 loop-less c = omega arith
@@ -165,19 +150,19 @@ read-coefficients-spec =
     μ-loop
     loop-holds
     read-coefficient-requires
-    enum-known-coefficient
-    enum-told
+    (λ c. search needs)
+    (λ c. search needs)
     returns
     add-at
     returns-2
-    mul-place
-    element-copy-out-place
+    (λ c. omega arith)
+    (λ c. omega arith)
     element-copy-out-premultiplied
     mul-premultiplied
     element-copy-out-premultiplied-2
     premultiplied-requires
     mul-v
     element-set-from-v
-    add-n
+    (λ c. omega arith)
     loop-less
     loop-again)

@@ -33,9 +33,6 @@ module _ (q : Quantiser) (luminance : Bool) (predictor : ℤ) (left : List ℤ) 
 read-dc-requires : tie.Need-read-dc-requires
 read-dc-requires c κs = let s = c .before .before in rw (toZ-ofZ (s .fits .predictor)) (s .pre .0, (s .pre .1 .0, s .pre .1 .1 .1 .1))
 
-dc-inside-requires : tie.Need-dc-inside-requires
-dc-inside-requires c κs = tt
-
 -- the DC value as the code reads it, and its coefficient
 abbrev ρ : tie.After-read-dc → List (Input w32)
 ρ d = signed w32 (d .read-dc .result .value) 511 (d .read-dc .ensures .1 .0) ∷ []
@@ -65,9 +62,6 @@ returns c =
 mul-values : tie.Need-mul-values
 mul-values c = need (ρ (c .before .before .before .before)) first tt
 
-element-set-from-values : tie.Need-element-set-from-values
-element-set-from-values c = search needs
-
 read-coefficients-requires : tie.Need-read-coefficients-requires
 read-coefficients-requires c κs =
     let d = c .before .before .before .before .before in
@@ -92,9 +86,9 @@ read-intra-block-spec =
     tie.close
     (tie.spec
     read-dc-requires
-    dc-inside-requires
+    (λ c κs. tt)
     returns
     mul-values
-    element-set-from-values
+    (λ c. search needs)
     read-coefficients-requires
     returns-2)

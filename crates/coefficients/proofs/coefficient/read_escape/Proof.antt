@@ -1,5 +1,4 @@
 use native.Mathlib.Omega.{arith}
-use borrow.Author.Needs.{needs}
 use mir.Syntax.{w32}
 use Rattle.laws.proofs.Nums.{num, rd}
 use Rattle.bits.proofs.Rules.{r-call, r-done}
@@ -9,9 +8,6 @@ use Rattle.coefficients.proofs.coefficient.read_escape.Tie as tie
 
 read-requires : tie.Need-read-requires
 read-requires c κs = c .before .pre
-
-cast-run : tie.Need-cast-run
-cast-run c = omega arith
 
 read-escape-level-requires : tie.Need-read-escape-level-requires
 read-escape-level-requires c κs = (c .before .read .ensures .1 .1, c .before .before .before .pre .1)
@@ -24,4 +20,4 @@ returns c =
     rw (rd w32 (num (l .1 .0)) tt .is) (r-call _ (x .0) (r-call _ (l .0) r-done), ((omega (arith, x .1 .0), l .1 .0), l .1 .1))
 
 pub read-escape-spec : {M : Type 1} → statement M
-read-escape-spec = tie.close (tie.spec read-requires cast-run read-escape-level-requires returns)
+read-escape-spec = tie.close (tie.spec read-requires (λ c. omega arith) read-escape-level-requires returns)

@@ -2,7 +2,6 @@ use mathlib.Core.Path.{_≡_, ap}
 use mathlib.Core.List.{List, [], _∷_}
 use Prim.Native.Nat.{ℕ, _%_, _≤_}
 use native.Mathlib.Omega.{arith}
-use borrow.Author.Needs.{needs}
 use borrow.Author.Tests.{eq-eqb, ne-eqb}
 use lib.IntN.{natAbs}
 use mir.Syntax.{w32}
@@ -25,9 +24,6 @@ returns c = let r = c .read-escape .ensures in (r-yes _ (eq-eqb _ _ (c .before .
 
 read-bit-requires : tie.Need-read-bit-requires
 read-bit-requires c κs = c .before .before .pre
-
-cast-run : tie.Need-cast-run
-cast-run c = omega arith
 
 cast-size : tie.Need-cast-size
 cast-size c = eval-fits (ρ (c .before .before .before .before)) (var 0) tt
@@ -60,7 +56,7 @@ read-run-level-spec =
     read-escape-requires
     returns
     read-bit-requires
-    cast-run
+    (λ c. omega arith)
     cast-size
     returns-2
     sub-level

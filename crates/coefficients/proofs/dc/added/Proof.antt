@@ -36,15 +36,6 @@ abbrev ρ : tie.Start → List (Input w32)
 mask : (s : tie.Start) → bitAnd (s .args .differential) (1 * 2 ^ (s .args .size - 1) % 4294967296) ≡ bitAnd (s .args .differential) (2 ^ (s .args .size - 1))
 mask s = ap (bitAnd (s .args .differential)) (shl-one w32 (s .args .size - 1) (omega arith))
 
-sub-if1 : tie.Need-sub-if1
-sub-if1 c = search needs
-
-cast-if1 : tie.Need-cast-if1
-cast-if1 c = search needs
-
-shl-if1 : tie.Need-shl-if1
-shl-if1 c = search needs
-
 cast-result : tie.Need-cast-result
 cast-result c = eval-fits (ρ (c .before)) (var 0) tt
 
@@ -61,12 +52,6 @@ cast-result-2 c = eval-fits (ρ (c .before)) (var 0) tt
 
 add-result : tie.Need-add-result
 add-result c = need (ρ (c .before)) more tt
-
-cast-result-3 : tie.Need-cast-result-3
-cast-result-3 c = search needs
-
-shl-result : tie.Need-shl-result
-shl-result c = search needs
 
 sub-result : tie.Need-sub-result
 sub-result c = need (ρ (c .before)) less tt
@@ -86,14 +71,14 @@ pub added-spec : {M : Type 1} → statement M
 added-spec =
     tie.close
     (tie.spec
-    sub-if1
-    cast-if1
-    shl-if1
+    (λ c. search needs)
+    (λ c. search needs)
+    (λ c. search needs)
     cast-result
     returns
     cast-result-2
     add-result
-    cast-result-3
-    shl-result
+    (λ c. search needs)
+    (λ c. search needs)
     sub-result
     returns-2)

@@ -37,9 +37,6 @@ returns c =
 read-requires : tie.Need-read-requires
 read-requires c κs = (c .before .before .read-dc-size .ensures .1 .1, c .before .before .before .before .pre .1 .0)
 
-added-requires : tie.Need-added-requires
-added-requires c κs = omega arith
-
 add-value : tie.Need-add-value
 add-value c = need (ρ c) sum tt
 
@@ -56,4 +53,4 @@ returns-2 c =
 pub read-dc-spec : {M : Type 1} → statement M
 read-dc-spec =
     tie.close
-    (tie.spec read-dc-size-requires returns read-requires added-requires add-value returns-2)
+    (tie.spec read-dc-size-requires returns read-requires (λ c κs. omega arith) add-value returns-2)

@@ -24,26 +24,14 @@ abbrev ρ : tie.After-doubled → List (Input w32)
     ∷ natural w32 (c .before .args .entry) 255 (omega arith)
     ∷ []
 
-doubled-requires : tie.Need-doubled-requires
-doubled-requires c κs = search needs
-
-cast-product : tie.Need-cast-product
-cast-product c = search needs
-
 mul-product : tie.Need-mul-product
 mul-product c = need (ρ c) scaled tt
-
-cast-product-2 : tie.Need-cast-product-2
-cast-product-2 c = search needs
 
 mul-product-2 : tie.Need-mul-product-2
 mul-product-2 c = need (ρ c) product tt
 
 made-odd-requires : tie.Need-made-odd-requires
 made-odd-requires c κs = let x = num-of (ρ c) (shr 4 product) tt in omega (arith, ap natAbs (x .is), x .bound)
-
-clipped-requires : tie.Need-clipped-requires
-clipped-requires c κs = search needs
 
 returns : tie.Need-returns
 unfolding dequantised
@@ -61,11 +49,11 @@ pub dequantise-spec : {M : Type 1} → statement M
 dequantise-spec =
     tie.close
     (tie.spec
-    doubled-requires
-    cast-product
+    (λ c κs. search needs)
+    (λ c. search needs)
     mul-product
-    cast-product-2
+    (λ c. search needs)
     mul-product-2
     made-odd-requires
-    clipped-requires
+    (λ c κs. search needs)
     returns)

@@ -36,9 +36,6 @@ other k c p q = rw (eqZ-no k c p, eqZ-no k (negsuc 0) q)
 loop-holds : tie.Need-loop-holds Inv-loop μ-loop
 loop-holds c = (omega arith, loop-start (omega arith))
 
-next-start-code-requires : tie.Need-next-start-code-requires Inv-loop μ-loop
-next-start-code-requires c κs = search needs
-
 returns : tie.Need-returns Inv-loop μ-loop
 unfolding findStartCode findTurn
 returns c =
@@ -87,7 +84,7 @@ find-start-code-spec =
     Inv-loop
     μ-loop
     loop-holds
-    next-start-code-requires
+    (λ c κs. search needs)
     returns
     returns-2
     loop-less

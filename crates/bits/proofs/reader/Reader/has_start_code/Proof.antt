@@ -7,9 +7,6 @@ use Rattle.bits.proofs.Codes.{code-fits}
 use Rattle.bits.proofs.reader.Reader.has_start_code.Statement.{statement}
 use Rattle.bits.proofs.reader.Reader.has_start_code.Tie as tie
 
-find-start-code-requires : tie.Need-find-start-code-requires
-find-start-code-requires c κs = search needs
-
 returns : tie.Need-returns
 returns c =
     let x = c .before in
@@ -19,4 +16,4 @@ returns c =
     ((sym (ap (λ (o : Out ℤ). o .value) (runs .is)), refl), small)
 
 pub has-start-code-spec : {M : Type 1} → statement M
-has-start-code-spec = tie.close (tie.spec find-start-code-requires returns)
+has-start-code-spec = tie.close (tie.spec (λ c κs. search needs) returns)

@@ -22,44 +22,8 @@ Inv-loop s b₀ b = (b ≤ 16777216) × (codeFrom s b₀ (length s - 4 - b₀) �
 abbrev μ-loop : tie.MeasureT-loop
 μ-loop s b₀ b = length s - b
 
-align-requires : tie.Need-align-requires Inv-loop μ-loop
-align-requires c κs = search needs
-
-tell-requires : tie.Need-tell-requires Inv-loop μ-loop
-tell-requires c κs = search needs
-
 loop-holds : tie.Need-loop-holds Inv-loop μ-loop
 loop-holds c = (omega arith, refl)
-
-add-loop : tie.Need-add-loop Inv-loop μ-loop
-add-loop c = search needs
-
-shared-slice-read-if1 : tie.Need-shared-slice-read-if1 Inv-loop μ-loop
-shared-slice-read-if1 c = search needs
-
-add-if2 : tie.Need-add-if2 Inv-loop μ-loop
-add-if2 c = search needs
-
-shared-slice-read-if2 : tie.Need-shared-slice-read-if2 Inv-loop μ-loop
-shared-slice-read-if2 c = search needs
-
-add-if3 : tie.Need-add-if3 Inv-loop μ-loop
-add-if3 c = search needs
-
-shared-slice-read-if3 : tie.Need-shared-slice-read-if3 Inv-loop μ-loop
-shared-slice-read-if3 c = search needs
-
-add-t20 : tie.Need-add-t20 Inv-loop μ-loop
-add-t20 c = search needs
-
-bit-of-requires : tie.Need-bit-of-requires Inv-loop μ-loop
-bit-of-requires c κs = search needs
-
-add-t23 : tie.Need-add-t23 Inv-loop μ-loop
-add-t23 c = search needs
-
-shared-slice-read-t25 : tie.Need-shared-slice-read-t25 Inv-loop μ-loop
-shared-slice-read-t25 c = search needs
 
 cast-t26 : tie.Need-cast-t26 Inv-loop μ-loop
 cast-t26 c = record { sfits = omega (arith, c .shared-slice-known5 .given (c .before .before .before .before .before .before .before .before .before .loop .b + 3)) }
@@ -77,12 +41,6 @@ returns c =
     rw (toZ-pos w32 (getD s (b + 3) 0) (omega (arith, c .shared-slice-known5 .given (b + 3))))
     (is-start (rw (c .before .bit-of .ensures) e), (omega arith, omega (arith, c .shared-slice-known5 .given (b + 3))))
 
-add-b : tie.Need-add-b Inv-loop μ-loop
-add-b c = search needs
-
-loop-less : tie.Need-loop-less Inv-loop μ-loop
-loop-less c = search needs
-
 loop-again : tie.Need-loop-again Inv-loop μ-loop
 loop-again c =
     let b = c .before .before .before .loop .b in
@@ -92,9 +50,6 @@ loop-again c =
     (⊎-elim (λ w. not-second s b (w .0 .taken) (w .2 .left)) (λ w. not-first s b (w .left))) (c .if1 .came)
     in
     (omega arith, c .before .before .before .loop .inv .1 ∙ found-on-by-one s b (c .before .before .loop-test .taken) no)
-
-bit-of-requires-2 : tie.Need-bit-of-requires-2 Inv-loop μ-loop
-bit-of-requires-2 c κs = search needs
 
 returns-2 : tie.Need-returns-2 Inv-loop μ-loop
 returns-2 c =
@@ -109,23 +64,23 @@ next-start-code-spec =
     (tie.spec
     Inv-loop
     μ-loop
-    align-requires
-    tell-requires
+    (λ c κs. search needs)
+    (λ c κs. search needs)
     loop-holds
-    add-loop
-    shared-slice-read-if1
-    add-if2
-    shared-slice-read-if2
-    add-if3
-    shared-slice-read-if3
-    add-t20
-    bit-of-requires
-    add-t23
-    shared-slice-read-t25
+    (λ c. search needs)
+    (λ c. search needs)
+    (λ c. search needs)
+    (λ c. search needs)
+    (λ c. search needs)
+    (λ c. search needs)
+    (λ c. search needs)
+    (λ c κs. search needs)
+    (λ c. search needs)
+    (λ c. search needs)
     cast-t26
     returns
-    add-b
-    loop-less
+    (λ c. search needs)
+    (λ c. search needs)
     loop-again
-    bit-of-requires-2
+    (λ c κs. search needs)
     returns-2)

@@ -6,24 +6,15 @@ use borrow.Author.Needs.{needs}
 use Rattle.bits.proofs.reader.Reader.peek_bytes.Statement.{statement}
 use Rattle.bits.proofs.reader.Reader.peek_bytes.Tie as tie
 
-tell-requires : tie.Need-tell-requires
-tell-requires c κs = search needs
-
 returns : tie.Need-returns
 returns c =
     let a = c .before .before .before .args in
     ((sym (part-absent (now (a .s)) (a .self .at .0) (a .count) (omega arith)), refl), tt)
 
-sub-if2 : tie.Need-sub-if2
-sub-if2 c = search needs
-
 returns-2 : tie.Need-returns-2
 returns-2 c =
     let a = c .before .before .before .before .args in
     ((sym (part-absent (now (a .s)) (a .self .at .0) (a .count) (omega arith)), refl), tt)
-
-add-t7 : tie.Need-add-t7
-add-t7 c = search needs
 
 returns-3 : tie.Need-returns-3
 returns-3 c =
@@ -31,4 +22,4 @@ returns-3 c =
     ((rw (c .before .before .tell .ensures .0) (sym (part-there (now (a .s)) (a .self .at .0) (a .count) (omega arith))), refl), (omega arith, omega arith))
 
 pub peek-bytes-spec : {M : Type 1} → statement M
-peek-bytes-spec = tie.close (tie.spec tell-requires returns sub-if2 returns-2 add-t7 returns-3)
+peek-bytes-spec = tie.close (tie.spec (λ c κs. search needs) returns (λ c. search needs) returns-2 (λ c. search needs) returns-3)

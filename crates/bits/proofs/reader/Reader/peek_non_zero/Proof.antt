@@ -4,11 +4,8 @@ use borrow.Author.Needs.{needs}
 use Rattle.bits.proofs.reader.Reader.peek_non_zero.Statement.{statement}
 use Rattle.bits.proofs.reader.Reader.peek_non_zero.Tie as tie
 
-read-requires : tie.Need-read-requires
-read-requires c κs = search needs
-
 returns : tie.Need-returns
 returns c = (is-nonZero (c .before .before .before .args .count) (c .before .read .ensures .0), refl)
 
 pub peek-non-zero-spec : {M : Type 1} → statement M
-peek-non-zero-spec = tie.close (tie.spec read-requires returns)
+peek-non-zero-spec = tie.close (tie.spec (λ c κs. search needs) returns)

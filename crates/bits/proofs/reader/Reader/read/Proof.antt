@@ -14,12 +14,6 @@ returns : tie.Need-returns
 returns c =
     (r-no _ (lt-leb _ _ (c .if1 .taken)) r-done, (pow-pos (c .before .before .args .count), omega arith))
 
-add-to : tie.Need-add-to
-add-to c = search needs
-
-mul-if2 : tie.Need-mul-if2
-mul-if2 c = search needs
-
 returns-2 : tie.Need-returns-2
 returns-2 c =
     let a = c .before .before .before .args in
@@ -27,24 +21,6 @@ returns-2 c =
       r-yes _ (le-leb _ _ (c .before .if1 .left)) (is-bits (sym (refused-got (now (a .s)) (a .self .at .0) (a .count) past)) (sym (refused-next (now (a .s)) (a .self .at .0) (a .count) past))),
       (pow-pos (a .count), omega arith),
     )
-
-window-requires : tie.Need-window-requires
-window-requires c κs = search needs
-
-sub-w : tie.Need-sub-w
-sub-w c = search needs
-
-sub-w-2 : tie.Need-sub-w-2
-sub-w-2 c = search needs
-
-shr-w : tie.Need-shr-w
-shr-w c = search needs
-
-shr-value : tie.Need-shr-value
-shr-value c = search needs
-
-shl-value : tie.Need-shl-value
-shl-value c = search needs
 
 sub-value : tie.Need-sub-value
 sub-value c = cut-le _ _
@@ -71,15 +47,15 @@ read-spec =
     tie.close
     (tie.spec
     returns
-    add-to
-    mul-if2
+    (λ c. search needs)
+    (λ c. search needs)
     returns-2
-    window-requires
-    sub-w
-    sub-w-2
-    shr-w
-    shr-value
-    shl-value
+    (λ c κs. search needs)
+    (λ c. search needs)
+    (λ c. search needs)
+    (λ c. search needs)
+    (λ c. search needs)
+    (λ c. search needs)
     sub-value
     cast-t19
     returns-3)

@@ -10,24 +10,6 @@ use borrow.Author.Needs.{needs}
 use Rattle.bits.proofs.reader.Reader.read_bit.Statement.{statement}
 use Rattle.bits.proofs.reader.Reader.read_bit.Tie as tie
 
-shared-slice-read-bit : tie.Need-shared-slice-read-bit
-shared-slice-read-bit c = search needs
-
-sub-bit : tie.Need-sub-bit
-sub-bit c = search needs
-
-cast-bit : tie.Need-cast-bit
-cast-bit c = search needs
-
-shr-bit : tie.Need-shr-bit
-shr-bit c = search needs
-
-add-t10 : tie.Need-add-t10
-add-t10 c = search needs
-
-cast-t16 : tie.Need-cast-t16
-cast-t16 c = search needs
-
 returns : tie.Need-returns
 returns c =
     let a = c .before .before .args in
@@ -45,4 +27,4 @@ returns-2 c =
 pub read-bit-spec : {M : Type 1} → statement M
 read-bit-spec =
     tie.close
-    (tie.spec shared-slice-read-bit sub-bit cast-bit shr-bit add-t10 cast-t16 returns returns-2)
+    (tie.spec (λ c. search needs) (λ c. search needs) (λ c. search needs) (λ c. search needs) (λ c. search needs) (λ c. search needs) returns returns-2)

@@ -10,9 +10,6 @@ use borrow.Author.Needs.{needs}
 use Rattle.bits.proofs.reader.Reader.skip.Statement.{statement}
 use Rattle.bits.proofs.reader.Reader.skip.Tie as tie
 
-has-requires : tie.Need-has-requires
-has-requires c κs = search needs
-
 add-t7 : tie.Need-add-t7
 add-t7 c =
     let a = c .before .before .before .args in
@@ -30,4 +27,4 @@ returns-2 c =
     (is-skips (sym (next-not (now (a .s)) (a .self .at .0) (a .count) (sym (c .before .has .ensures .0) ∙ c .if1 .left))), omega arith)
 
 pub skip-spec : {M : Type 1} → statement M
-skip-spec = tie.close (tie.spec has-requires add-t7 returns returns-2)
+skip-spec = tie.close (tie.spec (λ c κs. search needs) add-t7 returns returns-2)

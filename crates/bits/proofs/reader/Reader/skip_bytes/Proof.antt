@@ -16,23 +16,8 @@ Inv-loop s v from b₀ b = (from ≤ b) × (b ≤ 16777216) × (equalBytes s v f
 abbrev μ-loop : tie.MeasureT-loop
 μ-loop s v from b₀ b = length s - b
 
-align-requires : tie.Need-align-requires Inv-loop μ-loop
-align-requires c κs = search needs
-
-tell-requires : tie.Need-tell-requires Inv-loop μ-loop
-tell-requires c κs = search needs
-
 loop-holds : tie.Need-loop-holds Inv-loop μ-loop
 loop-holds c = (omega arith, omega arith, omega arith)
-
-shared-slice-read-if1 : tie.Need-shared-slice-read-if1 Inv-loop μ-loop
-shared-slice-read-if1 c = search needs
-
-sub-count : tie.Need-sub-count Inv-loop μ-loop
-sub-count c = search needs
-
-bit-of-requires : tie.Need-bit-of-requires Inv-loop μ-loop
-bit-of-requires c κs = search needs
 
 returns : tie.Need-returns Inv-loop μ-loop
 returns c =
@@ -43,23 +28,11 @@ returns c =
       (omega arith, omega arith),
     )
 
-add-b : tie.Need-add-b Inv-loop μ-loop
-add-b c = search needs
-
-loop-less : tie.Need-loop-less Inv-loop μ-loop
-loop-less c = search needs
-
 loop-again : tie.Need-loop-again Inv-loop μ-loop
 loop-again c =
     let x = c .before .before .before in
     let a = x .before .before .before .before .args in
     (omega arith, omega arith, omega (arith, x .loop .inv .2, equal-on (now (a .s)) (a .v) (x .loop .b) (c .before .before .loop-test .taken) (c .if1 .left)))
-
-sub-count-2 : tie.Need-sub-count-2 Inv-loop μ-loop
-sub-count-2 c = search needs
-
-bit-of-requires-2 : tie.Need-bit-of-requires-2 Inv-loop μ-loop
-bit-of-requires-2 c κs = search needs
 
 returns-2 : tie.Need-returns-2 Inv-loop μ-loop
 returns-2 c =
@@ -74,16 +47,16 @@ skip-bytes-spec =
     (tie.spec
     Inv-loop
     μ-loop
-    align-requires
-    tell-requires
+    (λ c κs. search needs)
+    (λ c κs. search needs)
     loop-holds
-    shared-slice-read-if1
-    sub-count
-    bit-of-requires
+    (λ c. search needs)
+    (λ c. search needs)
+    (λ c κs. search needs)
     returns
-    add-b
-    loop-less
+    (λ c. search needs)
+    (λ c. search needs)
     loop-again
-    sub-count-2
-    bit-of-requires-2
+    (λ c. search needs)
+    (λ c κs. search needs)
     returns-2)
