@@ -10,6 +10,7 @@ use lib.Pow.{pow-pos}
 use lib.Signed.{leZ}
 use borrow.Author.Tests.{le-leb}
 use Rattle.laws.specs.Turns.{Turn, again, stop}
+use Rattle.laws.proofs.Tests.{by-case}
 use Rattle.bits.specs.Bits.{Found, has, got, found, boundary}
 use Rattle.bits.specs.Programs.{Prog, done, run, bind, bits, nextStartCode, turn, loop}
 use Rattle.bits.proofs.Bits.{bits-lt}
@@ -29,10 +30,6 @@ Leaves I P (stop v) e = P v
 abbrev pub Turned : {S A : Type 0} → (S → Type 0) → (A → Type 0) → Turn S A → Type 0
 Turned I P (again x) = I x
 Turned I P (stop v) = P v
-
-pub by-case : {A : Type 0} (P : A → Type 0) (b : Bool) {x y : A} → (b ≡ true → P x) → (b ≡ false → P y) → P (cond b x y)
-by-case P true p q = p refl
-by-case P false p q = q refl
 
 -- a loop keeps an invariant of state and place
 module _ {S A : Type 0} (s : List ℕ) (I : S → ℕ → Type 0) (P : A → Type 0) (f : S → Prog (Turn S A)) (d : A)

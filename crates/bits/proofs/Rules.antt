@@ -15,7 +15,7 @@ use Rattle.bits.specs.Bits.{Found, bitsAt, has, got, next, found, bounda
 use Rattle.bits.specs.Programs.{Prog, done, look, Out, run, bind, bits, skips, reads, nonZero, nextStartCode, turn, loop}
 use Rattle.bits.specs.Runs.{Runs}
 use Rattle.bits.proofs.Start.{Searched, first, none, found-is-first}
-use Rattle.bits.proofs.Programs.{run-bind, run-on, run-most, got-served}
+use Rattle.bits.proofs.Programs.{run-bind, run-most}
 
 pub r-done : {A : Type 0} {s : List ℕ} {a : ℕ} {v : A} → Runs (done v) s a v a
 unfolding run
@@ -71,13 +71,6 @@ is-nonZero {s} {a} {v} {e} n = go (leb n 32)
     go true r = looked s a n v e r
     go false r = refused s a v e r
 
--- a read that is not 0 was served
-pub r-got : {s : List ℕ} {a n v e : ℕ} → Runs (bits n) s a v e → (v ≡ 0 → ⊥) → (e ≡ a + n) × (a + n ≤ length s * 8)
-unfolding run
-r-got {s} {a} {n} q g =
-    let h = got-served s a n (λ z. g (sym (ap (λ (x : Out ℕ). x .value) (q .is)) ∙ z)) in
-    (sym (ap (λ (x : Out ℕ). x .at) (q .is)) ∙ h .0, h .1)
-
 -- a search that gives a code has passed its four bytes
 pub r-start-past : {s : List ℕ} {a e : ℕ} {k : ℤ} → Runs nextStartCode s a k e → (k ≡ negsuc 0 → ⊥) → a + 32 ≤ e
 unfolding run
@@ -87,10 +80,7 @@ r-start-past {s} {a} {e} {k} r g = go (found s a) (found-is-first s a) (ap (λ (
     go f (first p w q) x y = omega (arith, w .from, ap (λ (h : Found). h .at) q)
     go f (none w q) x y = absurd (g (sym x ∙ ap (λ (h : Found). h .code) q))
 
--- places go on, and stay within
-pub r-from : {A : Type 0} {p : Prog A} {s : List ℕ} {a : ℕ} {v : A} {e : ℕ} → Runs p s a v e → a ≤ e
-r-from {p = p} {s} {a} r = rw (r .is) at (run-on p s a)
-
+-- a run stays within the bounds of the position
 pub r-most : {A : Type 0} {p : Prog A} {s : List ℕ} {a : ℕ} {v : A} {e : ℕ} → Runs p s a v e → a ≤ 134217728 → length s ≤ 16777216 → e ≤ 134217728
 r-most {p = p} {s} {a} r h l = rw (r .is) at (run-most p s a 16777216 h l)
 

@@ -9,12 +9,8 @@ use native.Mathlib.Omega.{arith}
 use lib.ListN.{length, getD}
 use lib.IntN.{ℤ, pos, negsuc}
 use borrow.Author.Tests.{eq-eqb, ne-eqb}
+use Rattle.laws.proofs.Tests.{by-case}
 use Rattle.bits.specs.Bits.{Found, codePrefix, codeFrom, found, boundary}
-
--- what a search of one byte and more gives, by cases: here, or further on
-by-case : (P : Found → Type 0) (t : Bool) (x y : Found) → (t ≡ true → P x) → (t ≡ false → P y) → P (cond t x y)
-by-case P true x y f g = f refl
-by-case P false x y f g = g refl
 
 -- the code is one, and not the -1 of a search that found none
 abbrev pub isCode : ℤ → Bool
@@ -26,21 +22,21 @@ codeFrom-on : (s : List ℕ) (b n : ℕ) → b * 8 ≤ codeFrom s b n .at
 unfolding codeFrom
 codeFrom-on s b zero = omega arith
 codeFrom-on s b (suc n) =
-    by-case (λ f. b * 8 ≤ f .at) (codePrefix s b) _ _ (λ p. omega arith) (λ p. omega (arith, codeFrom-on s (b + 1) n))
+    by-case (λ (f : Found). b * 8 ≤ f .at) (codePrefix s b) (λ p. omega arith) (λ p. omega (arith, codeFrom-on s (b + 1) n))
 
 -- and ends four bytes behind the last that it looks at, at most
 codeFrom-most : (s : List ℕ) (b n : ℕ) → codeFrom s b n .at ≤ (b + n + 3) * 8
 unfolding codeFrom
 codeFrom-most s b zero = omega arith
 codeFrom-most s b (suc n) =
-    by-case (λ f. f .at ≤ (b + suc n + 3) * 8) (codePrefix s b) _ _ (λ p. omega arith) (λ p. omega (arith, codeFrom-most s (b + 1) n))
+    by-case (λ (f : Found). f .at ≤ (b + suc n + 3) * 8) (codePrefix s b) (λ p. omega arith) (λ p. omega (arith, codeFrom-most s (b + 1) n))
 
 -- a search that finds none ends behind the last byte that it looks at
 codeFrom-none : (s : List ℕ) (b n : ℕ) → isCode (codeFrom s b n .code) ≡ false → codeFrom s b n .at ≡ (b + n) * 8
 unfolding codeFrom
 codeFrom-none s b zero = λ e. omega arith
 codeFrom-none s b (suc n) =
-    by-case (λ f. isCode (f .code) ≡ false → f .at ≡ (b + suc n) * 8) (codePrefix s b) _ _
+    by-case (λ (f : Found). isCode (f .code) ≡ false → f .at ≡ (b + suc n) * 8) (codePrefix s b)
     (λ p e. absurd (true≢false e))
     (λ p e. omega (arith, codeFrom-none s (b + 1) n e))
 
@@ -49,17 +45,13 @@ pub codeFrom-past : (s : List ℕ) (b n : ℕ) → isCode (codeFrom s b n .code)
 unfolding codeFrom
 codeFrom-past s b zero = λ e. absurd (true≢false (sym e))
 codeFrom-past s b (suc n) =
-    by-case (λ f. isCode (f .code) ≡ true → (b + 4) * 8 ≤ f .at) (codePrefix s b) _ _
+    by-case (λ (f : Found). isCode (f .code) ≡ true → (b + 4) * 8 ≤ f .at) (codePrefix s b)
     (λ p e. omega arith)
     (λ p e. omega (arith, codeFrom-past s (b + 1) n e))
 
 pub found-on : (s : List ℕ) (a : ℕ) → a ≤ found s a .at
 unfolding found
 found-on s a = omega (arith, codeFrom-on s (boundary a) (length s - 4 - boundary a))
-
-pub found-past : (s : List ℕ) (a : ℕ) → isCode (found s a .code) ≡ true → a + 32 ≤ found s a .at
-unfolding found
-found-past s a e = omega (arith, codeFrom-past s (boundary a) (length s - 4 - boundary a) e)
 
 pub found-most : (s : List ℕ) (a m : ℕ) → a ≤ m * 8 → length s ≤ m → found s a .at ≤ m * 8
 unfolding found codeFrom
@@ -144,7 +136,7 @@ unfolding codeFrom
 searched s b zero h =
     none (λ j g l. let z : ⊥ = omega arith in absurd z) (ap (λ (k : ℕ). record { code = negsuc 0; at = k * 8 }) (omega arith))
 searched s b (suc n) h =
-    by-case (Searched s b) (codePrefix s b) _ _
+    by-case (Searched s b) (codePrefix s b)
     (λ e. first b (record { from = omega arith; five = omega arith; here = e; none-before = λ j g l. let z : ⊥ = omega arith in absurd z }) refl)
     (λ e. earlier s b _ e (omega arith) (searched s (b + 1) n (omega arith)))
 

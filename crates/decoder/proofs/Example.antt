@@ -75,22 +75,17 @@ second = handOut (first .decoder) stream (first .store)
 abbrev third : Left Outcome
 third = handOut (second .decoder) stream (second .store)
 
--- the I picture is handed out of store 0
-pub hands : outcomeSays (second .answer) ≡ picture 0 (ofInt binary64 (pos 0))
-unfolding clamp255 half0 odd storeRow storeRows turns bitAt bitsAt got next codePrefix codeFrom found run bind loop findTurn findStartCode macroblockAddressIncrementIndex macroblockAddressIncrementValue macroblockTypeIntraIndex macroblockTypeIntraValue macroblockTypePredictiveIndex macroblockTypePredictiveValue motionIndex motionValue dctSizeLuminanceIndex dctSizeLuminanceValue dctSizeChrominanceIndex dctSizeChrominanceValue dctCoeffIndex dctCoeffValue walkTurn walk vlc Codes.macroblockAddressIncrement Codes.macroblockTypeIntra Codes.macroblockTypePredictive Codes.motion Codes.dctSizeLuminance Codes.dctSizeChrominance Codes.dctCoeff downFrom diagonals zigZag intraQuantMatrix nonIntraQuantMatrix premultiplierMatrix displacement motionVector corrected Dcs.dcSize Dcs.added Dcs.dc Coefficients.runLevel Coefficients.coefficient dequantised Block.coefficientTurn Block.coefficients Block.block Block.intraBlock Block.leftOver butterfly columns rows idct dcOnly sample way predicted setConst overwrite also leave onward plain incrementTurn increment follow following predictedPlanes unlessRefused predictFrom predict macroblockType scale vector forward backward vectors head pattern placeOf results written blockEnd oneBlock lastBlocks blocks advance predictUnlessIntra body firstOf laterOf macroblock extraTurn extra pastMacroblock sliceTurn slice P.direction P.forwardHeader P.pictureHeader P.pastSlice P.slicesTurn P.slices P.coded P.picture fresh cleared every possible matrix size rest findSequence accepted askSize askHeader askStore opened opening nextPicture isFollowed timeOf counted handed shown pastPicture decoded searched pictureTurn pictures ended askFirst begun goOn handOut ofInt
-hands = refl
+-- what the two hand-outs give
+pub record TwoPictures : Type 0 where
+  -- the I picture, out of store 0
+  pub hands : outcomeSays (second .answer) ≡ picture 0 (ofInt binary64 (pos 0))
+  -- the first row of its plane Y
+  pub intra-row : take 32 (second .store) ≡ replicate 16 133 ++ replicate 16 128
+  -- and of that of the P picture in store 1, where one sample is the average of 133 and 128
+  pub predictive-row : take 32 (drop 768 (second .store)) ≡ replicate 16 133 ++ (131 ∷ replicate 15 128)
+  -- the P picture, out of store 1, a 25th of a second later (RULES 8.9)
+  pub hands-next : outcomeSays (third .answer) ≡ picture 1 (div binary64 (ofInt binary64 (pos 1)) (ofInt binary64 (pos 25)))
 
--- the first row of plane Y of the I picture
-pub intra-row : take 32 (second .store) ≡ replicate 16 133 ++ replicate 16 128
-unfolding clamp255 half0 odd storeRow storeRows turns bitAt bitsAt got next codePrefix codeFrom found run bind loop findTurn findStartCode macroblockAddressIncrementIndex macroblockAddressIncrementValue macroblockTypeIntraIndex macroblockTypeIntraValue macroblockTypePredictiveIndex macroblockTypePredictiveValue motionIndex motionValue dctSizeLuminanceIndex dctSizeLuminanceValue dctSizeChrominanceIndex dctSizeChrominanceValue dctCoeffIndex dctCoeffValue walkTurn walk vlc Codes.macroblockAddressIncrement Codes.macroblockTypeIntra Codes.macroblockTypePredictive Codes.motion Codes.dctSizeLuminance Codes.dctSizeChrominance Codes.dctCoeff downFrom diagonals zigZag intraQuantMatrix nonIntraQuantMatrix premultiplierMatrix displacement motionVector corrected Dcs.dcSize Dcs.added Dcs.dc Coefficients.runLevel Coefficients.coefficient dequantised Block.coefficientTurn Block.coefficients Block.block Block.intraBlock Block.leftOver butterfly columns rows idct dcOnly sample way predicted setConst overwrite also leave onward plain incrementTurn increment follow following predictedPlanes unlessRefused predictFrom predict macroblockType scale vector forward backward vectors head pattern placeOf results written blockEnd oneBlock lastBlocks blocks advance predictUnlessIntra body firstOf laterOf macroblock extraTurn extra pastMacroblock sliceTurn slice P.direction P.forwardHeader P.pictureHeader P.pastSlice P.slicesTurn P.slices P.coded P.picture fresh cleared every possible matrix size rest findSequence accepted askSize askHeader askStore opened opening nextPicture isFollowed timeOf counted handed shown pastPicture decoded searched pictureTurn pictures ended askFirst begun goOn handOut
-intra-row = refl
-
--- and of the P picture in store 1, where one sample is the average of 133 and 128
-pub predictive-row : take 32 (drop 768 (second .store)) ≡ replicate 16 133 ++ (131 ∷ replicate 15 128)
-unfolding clamp255 half0 odd storeRow storeRows turns bitAt bitsAt got next codePrefix codeFrom found run bind loop findTurn findStartCode macroblockAddressIncrementIndex macroblockAddressIncrementValue macroblockTypeIntraIndex macroblockTypeIntraValue macroblockTypePredictiveIndex macroblockTypePredictiveValue motionIndex motionValue dctSizeLuminanceIndex dctSizeLuminanceValue dctSizeChrominanceIndex dctSizeChrominanceValue dctCoeffIndex dctCoeffValue walkTurn walk vlc Codes.macroblockAddressIncrement Codes.macroblockTypeIntra Codes.macroblockTypePredictive Codes.motion Codes.dctSizeLuminance Codes.dctSizeChrominance Codes.dctCoeff downFrom diagonals zigZag intraQuantMatrix nonIntraQuantMatrix premultiplierMatrix displacement motionVector corrected Dcs.dcSize Dcs.added Dcs.dc Coefficients.runLevel Coefficients.coefficient dequantised Block.coefficientTurn Block.coefficients Block.block Block.intraBlock Block.leftOver butterfly columns rows idct dcOnly sample way predicted setConst overwrite also leave onward plain incrementTurn increment follow following predictedPlanes unlessRefused predictFrom predict macroblockType scale vector forward backward vectors head pattern placeOf results written blockEnd oneBlock lastBlocks blocks advance predictUnlessIntra body firstOf laterOf macroblock extraTurn extra pastMacroblock sliceTurn slice P.direction P.forwardHeader P.pictureHeader P.pastSlice P.slicesTurn P.slices P.coded P.picture fresh cleared every possible matrix size rest findSequence accepted askSize askHeader askStore opened opening nextPicture isFollowed timeOf counted handed shown pastPicture decoded searched pictureTurn pictures ended askFirst begun goOn handOut
-predictive-row = refl
-
--- the P picture is handed out of store 1, a 25th of a second later (RULES 8.9)
-pub hands-next : outcomeSays (third .answer) ≡ picture 1 (div binary64 (ofInt binary64 (pos 1)) (ofInt binary64 (pos 25)))
-unfolding clamp255 half0 odd storeRow storeRows turns bitAt bitsAt got next codePrefix codeFrom found run bind loop findTurn findStartCode macroblockAddressIncrementIndex macroblockAddressIncrementValue macroblockTypeIntraIndex macroblockTypeIntraValue macroblockTypePredictiveIndex macroblockTypePredictiveValue motionIndex motionValue dctSizeLuminanceIndex dctSizeLuminanceValue dctSizeChrominanceIndex dctSizeChrominanceValue dctCoeffIndex dctCoeffValue walkTurn walk vlc Codes.macroblockAddressIncrement Codes.macroblockTypeIntra Codes.macroblockTypePredictive Codes.motion Codes.dctSizeLuminance Codes.dctSizeChrominance Codes.dctCoeff downFrom diagonals zigZag intraQuantMatrix nonIntraQuantMatrix premultiplierMatrix displacement motionVector corrected Dcs.dcSize Dcs.added Dcs.dc Coefficients.runLevel Coefficients.coefficient dequantised Block.coefficientTurn Block.coefficients Block.block Block.intraBlock Block.leftOver butterfly columns rows idct dcOnly sample way predicted setConst overwrite also leave onward plain incrementTurn increment follow following predictedPlanes unlessRefused predictFrom predict macroblockType scale vector forward backward vectors head pattern placeOf results written blockEnd oneBlock lastBlocks blocks advance predictUnlessIntra body firstOf laterOf macroblock extraTurn extra pastMacroblock sliceTurn slice P.direction P.forwardHeader P.pictureHeader P.pastSlice P.slicesTurn P.slices P.coded P.picture fresh cleared every possible matrix size rest findSequence accepted askSize askHeader askStore opened opening nextPicture isFollowed timeOf counted handed shown pastPicture decoded searched pictureTurn pictures ended askFirst begun goOn handOut pixelAspectRatio pictureRate div ofInt
-hands-next = refl
+pub two-pictures : TwoPictures
+unfolding clamp255 half0 odd storeRow storeRows turns bitAt bitsAt got next codePrefix codeFrom found run bind loop findTurn findStartCode macroblockAddressIncrementIndex macroblockAddressIncrementValue macroblockTypeIntraIndex macroblockTypeIntraValue macroblockTypePredictiveIndex macroblockTypePredictiveValue motionIndex motionValue dctSizeLuminanceIndex dctSizeLuminanceValue dctSizeChrominanceIndex dctSizeChrominanceValue dctCoeffIndex dctCoeffValue walkTurn walk vlc Codes.macroblockAddressIncrement Codes.macroblockTypeIntra Codes.macroblockTypePredictive Codes.motion Codes.dctSizeLuminance Codes.dctSizeChrominance Codes.dctCoeff downFrom diagonals zigZag intraQuantMatrix nonIntraQuantMatrix premultiplierMatrix displacement motionVector corrected Dcs.dcSize Dcs.added Dcs.dc Coefficients.runLevel Coefficients.coefficient dequantised Block.coefficientTurn Block.coefficients Block.block Block.intraBlock Block.leftOver butterfly columns rows idct dcOnly sample way predicted setConst overwrite also leave onward plain incrementTurn increment follow following predictedPlanes unlessRefused predictFrom predict macroblockType scale vector forward backward vectors head pattern placeOf results written blockEnd oneBlock lastBlocks blocks advance predictUnlessIntra body firstOf laterOf macroblock extraTurn extra pastMacroblock sliceTurn slice P.direction P.forwardHeader P.pictureHeader P.pastSlice P.slicesTurn P.slices P.coded P.picture fresh cleared every possible matrix size rest findSequence accepted askSize askHeader askStore opened opening nextPicture isFollowed timeOf counted handed shown pastPicture decoded searched pictureTurn pictures ended askFirst begun goOn handOut ofInt pixelAspectRatio pictureRate div
+two-pictures = record { hands = refl; intra-row = refl; predictive-row = refl; hands-next = refl }

@@ -14,7 +14,7 @@ use Rattle.bits.specs.Runs.{Runs}
 use Rattle.bits.proofs.Start.{found-here}
 use Rattle.bits.proofs.Programs.{served-has, refused-has}
 use Rattle.bits.proofs.Rules.{r-call, r-done, is-start, loop-start, loop-end}
-use Rattle.bits.proofs.Gives.{by-case}
+use Rattle.laws.proofs.Tests.{by-case}
 use Rattle.decoder.specs.declared.record.Decoder.{Decoder}
 use Rattle.decoder.specs.declared.answers.Opening.{Opening}
 use Rattle.decoder.specs.declared.answers.Opening.the-variants as O

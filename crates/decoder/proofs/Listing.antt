@@ -44,25 +44,17 @@ second = handOut (first .decoder) example (first .store)
 abbrev pub third : Left Outcome
 third = handOut (second .decoder) example (second .store)
 
-pub opens : openingSays (first .answer) ≡ success
-unfolding bitAt bitsAt got next codePrefix codeFrom found run bind loop findTurn findStartCode fresh matrix size rest findSequence accepted askSize askHeader askStore opened opening
-opens = refl
+-- what they give, and what the listing prints
+pub record Listed : Type 0 where
+  pub opens : openingSays (first .answer) ≡ success
+  pub clears : first .store ≡ replicate 1152 0
+  -- the first picture is handed out of store 0, at the time 0
+  pub hands : outcomeSays (second .answer) ≡ picture 0 (ofInt binary64 (pos 0))
+  -- the third picture is the last of the stream, and is never decoded (RULES 8.3)
+  pub ends : outcomeSays (third .answer) ≡ number 7
+  -- RULES L.5
+  pub lines : listing example ≡ line 1 0 1 0 ∷ line 1 0 0 7 ∷ []
 
-pub clears : first .store ≡ replicate 1152 0
-unfolding bitAt bitsAt got next codePrefix codeFrom found run bind loop findTurn findStartCode fresh cleared matrix size rest findSequence accepted askSize askHeader askStore opened opening
-clears = refl
-
--- the first picture is handed out of store 0, at the time 0
-pub hands : outcomeSays (second .answer) ≡ picture 0 (ofInt binary64 (pos 0))
-unfolding bitAt bitsAt got next codePrefix codeFrom found run bind loop findTurn findStartCode fresh cleared matrix size rest findSequence accepted askSize askHeader askStore opened opening turns intraQuantMatrix nonIntraQuantMatrix premultiplierMatrix leave onward P.pictureHeader P.coded P.slicesTurn P.slices P.picture every possible nextPicture isFollowed timeOf counted handed shown pastPicture decoded searched pictureTurn pictures ended askFirst begun goOn handOut ofInt
-hands = refl
-
--- the third picture is the last of the stream, and is never decoded (RULES 8.3)
-pub ends : outcomeSays (third .answer) ≡ number 7
-unfolding bitAt bitsAt got next codePrefix codeFrom found run bind loop findTurn findStartCode fresh cleared matrix size rest findSequence accepted askSize askHeader askStore opened opening turns intraQuantMatrix nonIntraQuantMatrix premultiplierMatrix leave onward P.pictureHeader P.coded P.slicesTurn P.slices P.picture every possible nextPicture isFollowed timeOf counted handed shown pastPicture decoded searched pictureTurn pictures ended askFirst begun goOn handOut
-ends = refl
-
--- RULES L.5
-pub lines : listing example ≡ line 1 0 1 0 ∷ line 1 0 0 7 ∷ []
-unfolding bitAt bitsAt got next codePrefix codeFrom found run bind loop findTurn findStartCode fresh cleared matrix size rest findSequence accepted askSize askHeader askStore opened opening turns intraQuantMatrix nonIntraQuantMatrix premultiplierMatrix leave onward P.pictureHeader P.coded P.slicesTurn P.slices P.picture every possible nextPicture isFollowed timeOf counted handed shown pastPicture decoded searched pictureTurn pictures ended askFirst begun goOn handOut linesFrom linesOf listing
-lines = refl
+pub listed : Listed
+unfolding bitAt bitsAt got next codePrefix codeFrom found run bind loop findTurn findStartCode fresh matrix size rest findSequence accepted askSize askHeader askStore opened opening cleared turns intraQuantMatrix nonIntraQuantMatrix premultiplierMatrix leave onward P.pictureHeader P.coded P.slicesTurn P.slices P.picture every possible nextPicture isFollowed timeOf counted handed shown pastPicture decoded searched pictureTurn pictures ended askFirst begun goOn handOut ofInt linesFrom linesOf listing
+listed = record { opens = refl; clears = refl; hands = refl; ends = refl; lines = refl }

@@ -12,7 +12,7 @@ use Rattle.bits.specs.Bits.{has, got, next}
 use Rattle.bits.specs.Programs.{Out, run, bind, eqZ, findStartCode}
 use Rattle.bits.proofs.Bits.{bits-lt}
 use Rattle.bits.proofs.Programs.{run-most}
-use Rattle.bits.proofs.Gives.{by-case}
+use Rattle.laws.proofs.Tests.{by-case}
 use Rattle.codes.specs.Matrices.{premultiplierMatrix}
 use Rattle.picture.specs.State.{startCodeAs, storesAs}
 use Rattle.picture.specs.Possible.{every, possiblePicture}

@@ -11,7 +11,7 @@ use lib.IntN.{negsuc}
 use lib.ListN.{length}
 use Rattle.laws.specs.Turns.{Turn, again, stop, turns}
 use Rattle.bits.specs.Programs.{eqZ}
-use Rattle.bits.proofs.Gives.{by-case}
+use Rattle.laws.proofs.Tests.{by-case}
 use Rattle.picture.specs.Ways.{Way, on, out}
 use Rattle.picture.specs.Pictures.{Frame, picture}
 use Rattle.picture.proofs.Kept.{Ends, SameLength, picture-leaves}

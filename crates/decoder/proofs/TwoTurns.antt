@@ -7,7 +7,7 @@ use lib.Dec.{eqb}
 use lib.IntN.{pos, negsuc}
 use Rattle.laws.specs.Turns.{Turn, again, stop, stops}
 use Rattle.bits.specs.Programs.{eqZ}
-use Rattle.bits.proofs.Gives.{by-case}
+use Rattle.laws.proofs.Tests.{by-case}
 use Rattle.picture.specs.Ways.{Way, on, out}
 use Rattle.picture.specs.Pictures.{Frame, picture}
 use Rattle.decoder.specs.declared.record.Decoder.{Decoder}

@@ -33,9 +33,6 @@ unfolding clamp255
 clamp-is (pos n) = refl
 clamp-is (negsuc n) = omega arith
 
-pub clamp-below : (z : ℤ) → clamp255 z < 256
-clamp-below z = omega (arith, clamp-is z)
-
 -- its three branches
 pub clamp-low : (z : ℤ) → ltZ z (pos 0) ≡ true → 0 ≡ clamp255 z
 clamp-low z e = omega (arith, clamp-is z, one-side z, lt-yes (v z) (lit 0) e)
@@ -55,10 +52,6 @@ pub quot-dif : (z : ℤ) (m : ℕ) → Dif (quotZ z (pos m)) (up z / m) (dn z / 
 quot-dif (pos a) m = as-dif (a / m) (0 / m) (lit (a / m)) (omega (arith, zero-div m))
 quot-dif (negsuc a) m = as-dif (0 / m) (suc a / m) (neg (lit (suc a / m))) (omega (arith, zero-div m))
 
-pub rem-dif : (z : ℤ) (m : ℕ) → Dif (remZ z (pos m)) (up z % m) (dn z % m)
-rem-dif (pos a) m = as-dif (a % m) (0 % m) (lit (a % m)) (omega (arith, zero-mod m))
-rem-dif (negsuc a) m = as-dif (0 % m) (suc a % m) (neg (lit (suc a % m))) (omega (arith, zero-mod m))
-
 pub quot-fits : {w : Width} {z : ℤ} (m : ℕ) → SFits w z → SFits w (quotZ z (pos m))
 quot-fits {w} {z} m f =
     let b = fits-of (v z) f in
@@ -75,9 +68,6 @@ pub half-is : (z : ℤ) → quotZ z (pos 2) ≡ half0 z
 unfolding half0
 half-is (pos n) = refl
 half-is (negsuc n) = refl
-
-pub half-dif : (z : ℤ) → Dif (half0 z) (up z / 2) (dn z / 2)
-half-dif z = at-dif (sym (half-is z)) (quot-dif z 2)
 
 -- ---- is it odd: `z & 1` and `z % 2`, as a flag and as a branch's fact
 

@@ -14,7 +14,7 @@ use Rattle.laws.specs.Turns.{Turn, again, stop}
 use Rattle.bits.specs.Bits.{Found, boundary, has, got, next, found}
 use Rattle.bits.specs.Programs.{Prog, bind, eqZ, loop, many, run, turn}
 use Rattle.bits.proofs.Fuel.{loop-enough-fuel}
-use Rattle.bits.proofs.Gives.{by-case}
+use Rattle.laws.proofs.Tests.{by-case}
 use Rattle.bits.proofs.Programs.{run-bind, run-on, next-le, got-served}
 use Rattle.bits.proofs.Rules.{loop-suc}
 use Rattle.bits.proofs.Start.{Searched, first, none, found-is-first}

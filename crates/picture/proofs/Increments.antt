@@ -17,7 +17,8 @@ use Rattle.laws.proofs.Tables.{every, at}
 use Rattle.bits.specs.Programs.{Out, Prog, done, run, eqZ, many}
 use Rattle.bits.proofs.Codes.{eqZ-yes}
 use Rattle.bits.proofs.Programs.{run-bind}
-use Rattle.bits.proofs.Gives.{Gives, Leaves, by-case, loop-value}
+use Rattle.bits.proofs.Gives.{Gives, Leaves, loop-value}
+use Rattle.laws.proofs.Tests.{by-case}
 use Rattle.codes.specs.Codes.{macroblockAddressIncrement}
 use Rattle.codes.specs.Standard.{Code, _∈_, taken, macroblockAddressIncrementCodes}
 use Rattle.codes.specs.Tables.{macroblockAddressIncrementIndex, macroblockAddressIncrementValue}

@@ -16,7 +16,8 @@ use lib.Seq.{set-out, getD-set-same, getD-set-other}
 use lib.Signed.{leZ}
 use Rattle.laws.proofs.Ints.{up, dn, v, lit, _⊕_, _⊖_, le-no, le-yes, abs-by}
 use Rattle.bits.specs.Programs.{Prog, nonZero, many, run}
-use Rattle.bits.proofs.Gives.{Gives, Turned, by-case, g-done, g-any, g-bind, g-if, g-loop, g-bits, g-start, g-as, g-when}
+use Rattle.bits.proofs.Gives.{Gives, Turned, g-done, g-any, g-bind, g-if, g-loop, g-bits, g-start, g-as, g-when}
+use Rattle.laws.proofs.Tests.{by-case}
 use Rattle.coefficients.specs.Dcs.{dcInside}
 use Rattle.coefficients.specs.Blocks as Block
 use Rattle.coefficients.specs.declared.block.BlockEnd.{BlockEnd}

@@ -8,7 +8,7 @@ use lib.IntN.{ℤ}
 use lib.ListN.{length}
 use borrow.Rule.Slice.PartMut.{midOf, same-len-mid}
 use Rattle.laws.proofs.Lists.{length-rows}
-use Rattle.bits.proofs.Gives.{by-case}
+use Rattle.laws.proofs.Tests.{by-case}
 use Rattle.coefficients.specs.Blocks.{Read}
 use Rattle.prediction.specs.declared.place.Macroblock.{Macroblock}
 use Rattle.prediction.specs.declared.place.Place.{Place}

@@ -12,7 +12,7 @@ use Rattle.bits.specs.Bits.{Found, boundary, has, got, next, found}
 use Rattle.bits.specs.Programs.{Prog, done, bind, bits, skips, loop, many, run, turn}
 use Rattle.bits.proofs.Start.{isCode, Searched, first, none, found-is-first}
 use Rattle.bits.proofs.Programs.{run-bind, run-on, served-next}
-use Rattle.bits.proofs.Gives.{by-case}
+use Rattle.laws.proofs.Tests.{by-case}
 use Rattle.picture.specs.declared.state.Motion.{Motion}
 use Rattle.picture.specs.declared.state.Stores.{Stores}
 use Rattle.picture.specs.declared.state.Sizes.{Sizes}

@@ -13,7 +13,8 @@ use lib.Signed.{ltZ, shrZ}
 use Rattle.laws.proofs.Ints.{v, lit, neg, lt-no, abs-by}
 use Rattle.laws.proofs.Nums.{mul-abs}
 use Rattle.bits.specs.Programs.{run}
-use Rattle.bits.proofs.Gives.{Gives, Turned, by-case, g-done, g-any, g-bind, g-if, g-loop, g-bits}
+use Rattle.bits.proofs.Gives.{Gives, Turned, g-done, g-any, g-bind, g-if, g-loop, g-bits}
+use Rattle.laws.proofs.Tests.{by-case}
 use Rattle.codes.specs.Matrices.{zigZag, premultiplierMatrix, Bounded}
 use Rattle.motion.specs.Displacement.{InRange}
 use Rattle.motion.specs.Vector.{displacement, motionVector}
