@@ -18,36 +18,13 @@ Inv-loop list block₀ i₀ block i = (i ≤ 64) × (block ≡ storeRow blank 0 
 abbrev μ-loop : tie.MeasureT-loop
 μ-loop list block₀ i₀ block i = 64 - i
 
-blank-requires : tie.Need-blank-requires Inv-loop μ-loop
-blank-requires c κs = tt
-
 loop-holds : tie.Need-loop-holds Inv-loop μ-loop
 unfolding storeRow
 loop-holds c = (omega arith, c .blank .ensures)
 
-mul-number-at : tie.Need-mul-number-at Inv-loop μ-loop
-mul-number-at c = omega arith
-
-number-at-requires : tie.Need-number-at-requires Inv-loop μ-loop
-number-at-requires c κs = tt
-
-signed-requires : tie.Need-signed-requires Inv-loop μ-loop
-signed-requires c κs = tt
-
-mul-block : tie.Need-mul-block Inv-loop μ-loop
-mul-block c = omega arith
-
-array-set-from-block : tie.Need-array-set-from-block Inv-loop μ-loop
-array-set-from-block c = omega arith
-
-add-i : tie.Need-add-i Inv-loop μ-loop
-add-i c = omega arith
-
-loop-less : tie.Need-loop-less Inv-loop μ-loop
-loop-less c = omega arith
-
 loop-again : tie.Need-loop-again Inv-loop μ-loop
-loop-again c = let l = c .before .before .before in
+loop-again c =
+    let l = c .before .before .before in
     (omega arith, stored _ (l .loop .i) (l .loop .inv .1) (toZ-ofZ {w = w32} (sfits-of (c .signed .ok)) ∙ c .signed .ensures ∙ ap (toZ w32) (c .before .number-at .ensures)))
 
 returns : tie.Need-returns Inv-loop μ-loop
@@ -60,14 +37,14 @@ block-of-spec =
     (tie.spec
     Inv-loop
     μ-loop
-    blank-requires
+    (λ c κs. tt)
     loop-holds
-    mul-number-at
-    number-at-requires
-    signed-requires
-    mul-block
-    array-set-from-block
-    add-i
-    loop-less
+    (λ c. omega arith)
+    (λ c κs. tt)
+    (λ c κs. tt)
+    (λ c. omega arith)
+    (λ c. omega arith)
+    (λ c. omega arith)
+    (λ c. omega arith)
     loop-again
     returns)

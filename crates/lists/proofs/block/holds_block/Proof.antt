@@ -17,40 +17,18 @@ Inv-loop list block i₀ i = Passed (sameAt list block) 64 i
 abbrev μ-loop : tie.MeasureT-loop
 μ-loop list block i₀ i = 64 - i
 
-loop-holds : tie.Need-loop-holds Inv-loop μ-loop
-loop-holds c = passed-none
-
-mul-number-at : tie.Need-mul-number-at Inv-loop μ-loop
-mul-number-at c = omega arith
-
-number-at-requires : tie.Need-number-at-requires Inv-loop μ-loop
-number-at-requires c κs = tt
-
-mul-z : tie.Need-mul-z Inv-loop μ-loop
-mul-z c = omega arith
-
-element-copy-out-z : tie.Need-element-copy-out-z Inv-loop μ-loop
-element-copy-out-z c = omega arith
-
-held-requires : tie.Need-held-requires Inv-loop μ-loop
-held-requires c κs = tt
-
 tested : (c : tie.After-held Inv-loop μ-loop) → sameAt (c .before .before .before .before .before .before .args .list .now) (c .before .before .before .before .before .before .args .block .now) (c .before .before .before .before .loop .i) ≡ eqb (c .held .result) (c .before .before .number-at .result)
 tested c = rw (c .held .ensures, toZ-ofZ {w = w32} (sfits-of (c .before .z .given)), c .before .before .number-at .ensures)
 
 returns : tie.Need-returns Inv-loop μ-loop
 unfolding holdsBlock
-returns c = let t = c .before .before .before .before in
+returns c =
+    let t = c .before .before .before .before in
     passed-fails (t .before .loop .inv) (t .loop-test .taken) (tested (c .before) ∙ ne-eqb _ _ (c .if1 .taken))
 
-add-i : tie.Need-add-i Inv-loop μ-loop
-add-i c = omega arith
-
-loop-less : tie.Need-loop-less Inv-loop μ-loop
-loop-less c = omega arith
-
 loop-again : tie.Need-loop-again Inv-loop μ-loop
-loop-again c = let t = c .before .before .before .before in
+loop-again c =
+    let t = c .before .before .before .before in
     passed-one (t .before .loop .inv) (t .loop-test .taken) (tested (c .before) ∙ eq-eqb _ _ (c .if1 .left))
 
 returns-2 : tie.Need-returns-2 Inv-loop μ-loop
@@ -63,14 +41,14 @@ holds-block-spec =
     (tie.spec
     Inv-loop
     μ-loop
-    loop-holds
-    mul-number-at
-    number-at-requires
-    mul-z
-    element-copy-out-z
-    held-requires
+    (λ c. passed-none)
+    (λ c. omega arith)
+    (λ c κs. tt)
+    (λ c. omega arith)
+    (λ c. omega arith)
+    (λ c κs. tt)
     returns
-    add-i
-    loop-less
+    (λ c. omega arith)
+    (λ c. omega arith)
     loop-again
     returns-2)

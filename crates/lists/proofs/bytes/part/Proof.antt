@@ -8,52 +8,22 @@ use Rattle.lists.specs.Bytes.{part}
 use Rattle.lists.proofs.bytes.part.Statement.{statement}
 use Rattle.lists.proofs.bytes.part.Tie as tie
 
-sub-result : tie.Need-sub-result
-sub-result c = search needs
-
-part-result-start : tie.Need-part-result-start
-part-result-start c = search needs
-
-part-result-end : tie.Need-part-result-end
-part-result-end c = search needs
-
 returns : tie.Need-returns
 unfolding part
-returns c = let x = c .before .before .args in
+returns c =
+    let x = c .before .before .args in
     rw (drop-of-length-le (x .list .now) {i = length (x .list .now)} (omega arith), drop-of-length-le (x .list .now) {i = x .from} (c .before .if1 .taken), take-nil (length (x .list .now) - length (x .list .now)), take-nil (x .count))
-
-sub-if2 : tie.Need-sub-if2
-sub-if2 c = search needs
-
-sub-result-2 : tie.Need-sub-result-2
-sub-result-2 c = search needs
-
-part-result-start-2 : tie.Need-part-result-start-2
-part-result-start-2 c = search needs
-
-part-result-end-2 : tie.Need-part-result-end-2
-part-result-end-2 c = search needs
 
 returns-2 : tie.Need-returns-2
 unfolding part
-returns-2 c = let x = c .before .before .before .args in
+returns-2 c =
+    let x = c .before .before .before .args in
     rw (take-all (length (x .list .now) - x .from) (drop (x .from) (x .list .now)) (rw length-drop (omega arith)), take-all (x .count) (drop (x .from) (x .list .now)) (rw length-drop (omega arith)))
-
-add-end : tie.Need-add-end
-add-end c = search needs
-
-sub-result-3 : tie.Need-sub-result-3
-sub-result-3 c = search needs
-
-part-result-start-3 : tie.Need-part-result-start-3
-part-result-start-3 c = search needs
-
-part-result-end-3 : tie.Need-part-result-end-3
-part-result-end-3 c = search needs
 
 returns-3 : tie.Need-returns-3
 unfolding part
-returns-3 c = let x = c .before .before .before .args in
+returns-3 c =
+    let x = c .before .before .before .args in
     let e : x .from + x .count - x .from ≡ x .count = omega arith in
     rw e
 
@@ -61,17 +31,17 @@ pub part-spec : {M : Type 1} → statement M
 part-spec =
     tie.close
     (tie.spec
-    sub-result
-    part-result-start
-    part-result-end
+    (λ c. search needs)
+    (λ c. search needs)
+    (λ c. search needs)
     returns
-    sub-if2
-    sub-result-2
-    part-result-start-2
-    part-result-end-2
+    (λ c. search needs)
+    (λ c. search needs)
+    (λ c. search needs)
+    (λ c. search needs)
     returns-2
-    add-end
-    sub-result-3
-    part-result-start-3
-    part-result-end-3
+    (λ c. search needs)
+    (λ c. search needs)
+    (λ c. search needs)
+    (λ c. search needs)
     returns-3)

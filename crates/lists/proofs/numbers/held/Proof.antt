@@ -23,15 +23,6 @@ itself c =
     let e : toZ w32 (ofZ w32 z) ≡ z = toZ-ofZ (c .before .fits .z) in
     e ∙ not-below z (rw e at (c .if1 .left))
 
-sub-result : tie.Need-sub-result
-sub-result c = rw (turned c) (record { sfits = c .before .fits .z .sfits })
-
-cast-result : tie.Need-cast-result
-cast-result c = rw (turned c, toZ-pos w32 (c .before .fits .z .sfits)) (tt, omega (arith, c .before .fits .z .sfits))
-
-sub-result-2 : tie.Need-sub-result-2
-sub-result-2 c = rw (turned c, toZ-pos w32 (c .before .fits .z .sfits)) (omega (arith, c .before .fits .z .sfits))
-
 returns : tie.Need-returns
 returns c =
     let z = c .before .args .z in
@@ -39,11 +30,13 @@ returns c =
     let b : ofZ w32 z ≡ 4294967296 - suc (mag z) = ap (ofZ w32) (below z (rw e at (c .if1 .taken))) in
     rw (turned c, toZ-pos w32 (c .before .fits .z .sfits)) (omega arith ∙ sym b)
 
-cast-result-2 : tie.Need-cast-result-2
-cast-result-2 c = rw (itself c) (tt, omega (arith, c .before .fits .z .sfits))
-
-returns-2 : tie.Need-returns-2
-returns-2 c = rw (itself c) (sym (ap (ofZ w32) (sym (toZ-ofZ (c .before .fits .z)) ∙ itself c)))
-
 pub held-spec : {M : Type 1} → statement M
-held-spec = tie.close (tie.spec sub-result cast-result sub-result-2 returns cast-result-2 returns-2)
+held-spec =
+    tie.close
+    (tie.spec
+    (λ c. rw (turned c) (record { sfits = c .before .fits .z .sfits }))
+    (λ c. rw (turned c, toZ-pos w32 (c .before .fits .z .sfits)) (tt, omega (arith, c .before .fits .z .sfits)))
+    (λ c. rw (turned c, toZ-pos w32 (c .before .fits .z .sfits)) (omega (arith, c .before .fits .z .sfits)))
+    returns
+    (λ c. rw (itself c) (tt, omega (arith, c .before .fits .z .sfits)))
+    (λ c. rw (itself c) (sym (ap (ofZ w32) (sym (toZ-ofZ (c .before .fits .z)) ∙ itself c)))))

@@ -11,24 +11,9 @@ use Rattle.lists.proofs.Signs.{less-other}
 use Rattle.lists.proofs.numbers.signed.Statement.{statement}
 use Rattle.lists.proofs.numbers.signed.Tie as tie
 
-cast-result : tie.Need-cast-result
-cast-result c = search needs
-
-returns : tie.Need-returns
-returns c = search needs
-
-sub-result : tie.Need-sub-result
-sub-result c = search needs
-
-cast-result-2 : tie.Need-cast-result-2
-cast-result-2 c = search needs
-
 -- -1 - (2^32 - 1 - n), of an n that is held for a number below 0
 turned : (c : tie.Else1) → negsuc 0 -ℤ toZ w32 (4294967295 - c .before .args .n) ≡ negsuc (4294967295 - c .before .args .n)
 turned c = rw (toZ-pos w32 {n = 4294967295 - c .before .args .n} (omega arith)) (less-other (4294967295 - c .before .args .n))
-
-sub-result-2 : tie.Need-sub-result-2
-sub-result-2 c = rw (turned c) (record { sfits = omega arith })
 
 returns-2 : tie.Need-returns-2
 returns-2 c =
@@ -36,4 +21,12 @@ returns-2 c =
     rw (turned c, toZ-neg w32 (4294967295 - n) (omega arith), le-ltb n 2147483648 (omega arith)) (ap negsuc (omega arith))
 
 pub signed-spec : {M : Type 1} → statement M
-signed-spec = tie.close (tie.spec cast-result returns sub-result cast-result-2 sub-result-2 returns-2)
+signed-spec =
+    tie.close
+    (tie.spec
+    (λ c. search needs)
+    (λ c. search needs)
+    (λ c. search needs)
+    (λ c. search needs)
+    (λ c. rw (turned c) (record { sfits = omega arith }))
+    returns-2)

@@ -12,8 +12,5 @@ fits c = sfits-of (c .struct-told .given .1 .0 .1)
 cast-value : tie.Need-cast-value
 cast-value c = rw (toZ-ofZ (fits c)) (sfits-widen tt (fits c))
 
-returns : tie.Need-returns
-returns c = (refl, toZ-ofZ (cast-value c) ∙ toZ-ofZ (fits c))
-
 pub of-signed-spec : {M : Type 1} → statement M
-of-signed-spec = tie.close (tie.spec cast-value returns)
+of-signed-spec = tie.close (tie.spec cast-value (λ c. (refl, toZ-ofZ (cast-value c) ∙ toZ-ofZ (fits c))))

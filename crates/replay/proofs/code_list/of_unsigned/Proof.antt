@@ -6,11 +6,5 @@ use mir.Facts.{toZ-pos}
 use Rattle.replay.proofs.code_list.of_unsigned.Statement.{statement}
 use Rattle.replay.proofs.code_list.of_unsigned.Tie as tie
 
-cast-value : tie.Need-cast-value
-cast-value c = search needs
-
-returns : tie.Need-returns
-returns c = (refl, toZ-pos w32 (omega arith))
-
 pub of-unsigned-spec : {M : Type 1} → statement M
-of-unsigned-spec = tie.close (tie.spec cast-value returns)
+of-unsigned-spec = tie.close (tie.spec (λ c. search needs) (λ c. (refl, toZ-pos w32 (omega arith))))

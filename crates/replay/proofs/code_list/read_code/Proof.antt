@@ -18,60 +18,6 @@ coded x e = rw (e .0, e .1) x
 past : (k n : ℕ) → k ≤ n → (n ≡ k → ⊥) → suc k ≤ n
 past k n h g = omega arith
 
-read-macroblock-address-increment-requires : tie.Need-read-macroblock-address-increment-requires
-read-macroblock-address-increment-requires c κs = let p = c .before .before .pre in (p .0, p .1 .0)
-
-of-signed-requires : tie.Need-of-signed-requires
-of-signed-requires c κs = tt
-
-read-macroblock-type-intra-requires : tie.Need-read-macroblock-type-intra-requires
-read-macroblock-type-intra-requires c κs = let p = c .before .before .pre in (p .0, p .1 .0)
-
-of-signed-requires-2 : tie.Need-of-signed-requires-2
-of-signed-requires-2 c κs = tt
-
-read-macroblock-type-predictive-requires : tie.Need-read-macroblock-type-predictive-requires
-read-macroblock-type-predictive-requires c κs = let p = c .before .before .pre in (p .0, p .1 .0)
-
-of-signed-requires-3 : tie.Need-of-signed-requires-3
-of-signed-requires-3 c κs = tt
-
-read-macroblock-type-b-requires : tie.Need-read-macroblock-type-b-requires
-read-macroblock-type-b-requires c κs = let p = c .before .before .pre in (p .0, p .1 .0)
-
-of-signed-requires-4 : tie.Need-of-signed-requires-4
-of-signed-requires-4 c κs = tt
-
-read-code-block-pattern-requires : tie.Need-read-code-block-pattern-requires
-read-code-block-pattern-requires c κs = let p = c .before .before .pre in (p .0, p .1 .0)
-
-of-signed-requires-5 : tie.Need-of-signed-requires-5
-of-signed-requires-5 c κs = tt
-
-read-motion-requires : tie.Need-read-motion-requires
-read-motion-requires c κs = let p = c .before .before .pre in (p .0, p .1 .0)
-
-of-signed-requires-6 : tie.Need-of-signed-requires-6
-of-signed-requires-6 c κs = tt
-
-read-dct-size-luminance-requires : tie.Need-read-dct-size-luminance-requires
-read-dct-size-luminance-requires c κs = let p = c .before .before .pre in (p .0, p .1 .0)
-
-of-signed-requires-7 : tie.Need-of-signed-requires-7
-of-signed-requires-7 c κs = tt
-
-read-dct-size-chrominance-requires : tie.Need-read-dct-size-chrominance-requires
-read-dct-size-chrominance-requires c κs = let p = c .before .before .pre in (p .0, p .1 .0)
-
-of-signed-requires-8 : tie.Need-of-signed-requires-8
-of-signed-requires-8 c κs = tt
-
-read-dct-coeff-requires : tie.Need-read-dct-coeff-requires
-read-dct-coeff-requires c κs = let p = c .before .before .pre in (p .0, p .1 .0)
-
-of-unsigned-requires : tie.Need-of-unsigned-requires
-of-unsigned-requires c κs = tt
-
 returns : tie.Need-returns
 unfolding codeOf
 returns c = rw (c .before .before .match .keys1) (coded (c .before .read-macroblock-address-increment .ensures .0) (c .of-signed .ensures))
@@ -118,24 +64,24 @@ pub read-code-spec : {M : Type 1} → statement M
 read-code-spec =
     tie.close
     (tie.spec
-    read-macroblock-address-increment-requires
-    of-signed-requires
-    read-macroblock-type-intra-requires
-    of-signed-requires-2
-    read-macroblock-type-predictive-requires
-    of-signed-requires-3
-    read-macroblock-type-b-requires
-    of-signed-requires-4
-    read-code-block-pattern-requires
-    of-signed-requires-5
-    read-motion-requires
-    of-signed-requires-6
-    read-dct-size-luminance-requires
-    of-signed-requires-7
-    read-dct-size-chrominance-requires
-    of-signed-requires-8
-    read-dct-coeff-requires
-    of-unsigned-requires
+    (λ c κs. let p = c .before .before .pre in (p .0, p .1 .0))
+    (λ c κs. tt)
+    (λ c κs. let p = c .before .before .pre in (p .0, p .1 .0))
+    (λ c κs. tt)
+    (λ c κs. let p = c .before .before .pre in (p .0, p .1 .0))
+    (λ c κs. tt)
+    (λ c κs. let p = c .before .before .pre in (p .0, p .1 .0))
+    (λ c κs. tt)
+    (λ c κs. let p = c .before .before .pre in (p .0, p .1 .0))
+    (λ c κs. tt)
+    (λ c κs. let p = c .before .before .pre in (p .0, p .1 .0))
+    (λ c κs. tt)
+    (λ c κs. let p = c .before .before .pre in (p .0, p .1 .0))
+    (λ c κs. tt)
+    (λ c κs. let p = c .before .before .pre in (p .0, p .1 .0))
+    (λ c κs. tt)
+    (λ c κs. let p = c .before .before .pre in (p .0, p .1 .0))
+    (λ c κs. tt)
     returns
     returns-2
     returns-3

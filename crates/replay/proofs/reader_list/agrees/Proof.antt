@@ -2,8 +2,5 @@ use mathlib.Core.Path.{refl}
 use Rattle.replay.proofs.reader_list.agrees.Statement.{statement}
 use Rattle.replay.proofs.reader_list.agrees.Tie as tie
 
-returns : tie.Need-returns
-returns c = refl
-
 pub agrees-spec : {M : Type 1} → statement M
-agrees-spec = tie.close (tie.spec returns)
+agrees-spec = tie.close (tie.spec (λ c. refl))

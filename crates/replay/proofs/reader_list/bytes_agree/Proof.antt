@@ -10,26 +10,8 @@ use Rattle.lists.specs.Bytes.{sameBytes}
 use Rattle.replay.proofs.reader_list.bytes_agree.Statement.{statement}
 use Rattle.replay.proofs.reader_list.bytes_agree.Tie as tie
 
-peek-bytes-requires : tie.Need-peek-bytes-requires
-peek-bytes-requires c κs = search needs
-
-enum-known-part : tie.Need-enum-known-part
-enum-known-part c = search needs
-
 enum-told : tie.Need-enum-told
 enum-told c = search needs
-
-sub-same : tie.Need-sub-same
-sub-same c = search needs
-
-part-same-start : tie.Need-part-same-start
-part-same-start c = search needs
-
-part-same-end : tie.Need-part-same-end
-part-same-end c = search needs
-
-same-requires : tie.Need-same-requires
-same-requires c κs = search needs
 
 returns : tie.Need-returns
 returns c =
@@ -43,18 +25,6 @@ returns c =
 inside : (c : tie.After-known-told) → let b = c .before .part .given .0 in (b .0 .0 ≤ b .1 .0 .0) × (b .1 .0 .0 ≤ length (c .before .before .before .before .before .before .before .args .s .now))
 inside c = rw (c .before .part .given .1) at (c .before .before .before .peek-bytes .ensures .1)
 
-sub-same-2 : tie.Need-sub-same-2
-sub-same-2 c = omega (arith, inside c)
-
-part-same-start-2 : tie.Need-part-same-start-2
-part-same-start-2 c = omega (arith, inside c)
-
-part-same-end-2 : tie.Need-part-same-end-2
-part-same-end-2 c = omega (arith, inside c)
-
-same-requires-2 : tie.Need-same-requires-2
-same-requires-2 c κs = search needs
-
 returns-2 : tie.Need-returns-2
 returns-2 c =
     let t = c .before .before .before in
@@ -63,24 +33,21 @@ returns-2 c =
     simp (eq-eqb _ _ (p .before .if1 .taken))
     (c .same2 .ensures ∙ ap (λ (q : Part). sameBytes (s .args .bytes .now) (bytesOf (s .args .s .now) q)) (sym (t .part .given .1) ∙ p .peek-bytes .ensures .0 .0))
 
-returns-3 : tie.Need-returns-3
-returns-3 c = simp (ne-eqb _ _ (c .if1 .left))
-
 pub bytes-agree-spec : {M : Type 1} → statement M
 bytes-agree-spec =
     tie.close
     (tie.spec
-    peek-bytes-requires
-    enum-known-part
+    (λ c κs. search needs)
+    (λ c. search needs)
     enum-told
-    sub-same
-    part-same-start
-    part-same-end
-    same-requires
+    (λ c. search needs)
+    (λ c. search needs)
+    (λ c. search needs)
+    (λ c κs. search needs)
     returns
-    sub-same-2
-    part-same-start-2
-    part-same-end-2
-    same-requires-2
+    (λ c. omega (arith, inside c))
+    (λ c. omega (arith, inside c))
+    (λ c. omega (arith, inside c))
+    (λ c κs. search needs)
     returns-2
-    returns-3)
+    (λ c. simp (ne-eqb _ _ (c .if1 .left))))

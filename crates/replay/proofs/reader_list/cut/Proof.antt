@@ -2,8 +2,5 @@ use mathlib.Core.Path.{refl}
 use Rattle.replay.proofs.reader_list.cut.Statement.{statement}
 use Rattle.replay.proofs.reader_list.cut.Tie as tie
 
-returns : tie.Need-returns
-returns c = refl
-
 pub cut-spec : {M : Type 1} → statement M
-cut-spec = tie.close (tie.spec returns)
+cut-spec = tie.close (tie.spec (λ c. refl))

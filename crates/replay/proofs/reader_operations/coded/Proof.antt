@@ -6,12 +6,6 @@ use Rattle.replay.specs.Operations.{gives}
 use Rattle.replay.proofs.reader_operations.coded.Statement.{statement}
 use Rattle.replay.proofs.reader_operations.coded.Tie as tie
 
-held-requires : tie.Need-held-requires
-held-requires c κs = search needs
-
-given-requires : tie.Need-given-requires
-given-requires c κs = search needs
-
 returns : tie.Need-returns
 returns c =
     let f = c .before .before .before .args .found in
@@ -19,4 +13,4 @@ returns c =
     c .given .ensures ∙ ap (λ v. gives v (f .reader .at .0)) (c .before .held .ensures ∙ ap (ofZ w32) e)
 
 pub coded-spec : {M : Type 1} → statement M
-coded-spec = tie.close (tie.spec held-requires given-requires returns)
+coded-spec = tie.close (tie.spec (λ c κs. search needs) (λ c κs. search needs) returns)

@@ -17,169 +17,13 @@ ends e q h = (e ∙ q, rw e h)
 enum-told : tie.Need-enum-told
 enum-told c = c .match .keys1
 
-new-requires : tie.Need-new-requires
-new-requires c κs = tt
-
-given-requires : tie.Need-given-requires
-given-requires c κs = tt
-
-enum-told-2 : tie.Need-enum-told-2
-enum-told-2 c = c .match .keys2
-
-read-requires : tie.Need-read-requires
-read-requires c κs = c .before .before .before .pre
-
-given-requires-2 : tie.Need-given-requires-2
-given-requires-2 c κs = tt
-
-enum-told-3 : tie.Need-enum-told-3
-enum-told-3 c = c .match .keys3
-
-read-bit-requires : tie.Need-read-bit-requires
-read-bit-requires c κs = c .before .before .before .pre
-
-given-requires-3 : tie.Need-given-requires-3
-given-requires-3 c κs = tt
-
-enum-told-4 : tie.Need-enum-told-4
-enum-told-4 c = c .match .keys4
-
-has-requires : tie.Need-has-requires
-has-requires c κs = c .before .before .before .pre .1
-
-flagged-requires : tie.Need-flagged-requires
-flagged-requires c κs = tt
-
-enum-told-5 : tie.Need-enum-told-5
-enum-told-5 c = c .match .keys5
-
-has-ended-requires : tie.Need-has-ended-requires
-has-ended-requires c κs = c .before .before .before .pre .1
-
-flagged-requires-2 : tie.Need-flagged-requires-2
-flagged-requires-2 c κs = tt
-
-enum-told-6 : tie.Need-enum-told-6
-enum-told-6 c = c .match .keys6
-
-skip-requires : tie.Need-skip-requires
-skip-requires c κs = c .before .before .before .pre
-
-given-requires-4 : tie.Need-given-requires-4
-given-requires-4 c κs = tt
-
-enum-told-7 : tie.Need-enum-told-7
-enum-told-7 c = c .match .keys7
-
-align-requires : tie.Need-align-requires
-align-requires c κs = c .before .before .before .pre .0
-
-given-requires-5 : tie.Need-given-requires-5
-given-requires-5 c κs = tt
-
-enum-told-8 : tie.Need-enum-told-8
-enum-told-8 c = c .match .keys8
-
-tell-requires : tie.Need-tell-requires
-tell-requires c κs = tt
-
-cast-given : tie.Need-cast-given
-cast-given c = omega arith
-
-given-requires-6 : tie.Need-given-requires-6
-given-requires-6 c κs = tt
-
-enum-told-9 : tie.Need-enum-told-9
-enum-told-9 c = c .match .keys9
-
-refused-requires : tie.Need-refused-requires
-refused-requires c κs = tt
-
 returns : tie.Need-returns
 unfolding outcome
 returns c = ends (c .refused .ensures) (rw (c .before .before .enum-told9 .given .1, lt-ltb _ _ (c .before .if1 .taken))) (omega arith)
 
-seek-requires : tie.Need-seek-requires
-seek-requires c κs = omega arith
-
-given-requires-7 : tie.Need-given-requires-7
-given-requires-7 c κs = tt
-
-enum-told-10 : tie.Need-enum-told-10
-enum-told-10 c = c .match .keys10
-
-refused-requires-2 : tie.Need-refused-requires-2
-refused-requires-2 c κs = tt
-
 returns-2 : tie.Need-returns-2
 unfolding outcome
 returns-2 c = ends (c .refused2 .ensures) (rw (c .before .before .enum-told10 .given .1, lt-ltb _ _ (c .before .if2 .taken))) (omega arith)
-
-cast-skip-bytes : tie.Need-cast-skip-bytes
-cast-skip-bytes c = omega arith
-
-skip-bytes-requires : tie.Need-skip-bytes-requires
-skip-bytes-requires c κs = c .before .before .before .before .pre
-
-cast-given-2 : tie.Need-cast-given-2
-cast-given-2 c = omega arith
-
-given-requires-8 : tie.Need-given-requires-8
-given-requires-8 c κs = tt
-
-enum-told-11 : tie.Need-enum-told-11
-enum-told-11 c = c .match .keys11
-
-next-start-code-requires : tie.Need-next-start-code-requires
-next-start-code-requires c κs = c .before .before .before .pre
-
-coded-requires : tie.Need-coded-requires
-coded-requires c κs = tt
-
-enum-told-12 : tie.Need-enum-told-12
-enum-told-12 c = c .match .keys12
-
-signed-requires : tie.Need-signed-requires
-signed-requires c κs = tt
-
-find-start-code-requires : tie.Need-find-start-code-requires
-find-start-code-requires c κs = c .before .before .before .before .pre
-
-coded-requires-2 : tie.Need-coded-requires-2
-coded-requires-2 c κs = tt
-
-enum-told-13 : tie.Need-enum-told-13
-enum-told-13 c = c .match .keys13
-
-signed-requires-2 : tie.Need-signed-requires-2
-signed-requires-2 c κs = tt
-
-has-start-code-requires : tie.Need-has-start-code-requires
-has-start-code-requires c κs = c .before .before .before .before .pre
-
-coded-requires-3 : tie.Need-coded-requires-3
-coded-requires-3 c κs = tt
-
-enum-told-14 : tie.Need-enum-told-14
-enum-told-14 c = c .match .keys14
-
-peek-non-zero-requires : tie.Need-peek-non-zero-requires
-peek-non-zero-requires c κs = c .before .before .before .pre
-
-flagged-requires-3 : tie.Need-flagged-requires-3
-flagged-requires-3 c κs = tt
-
-enum-told-15 : tie.Need-enum-told-15
-enum-told-15 c = c .match .keys15
-
-peeked-requires : tie.Need-peeked-requires
-peeked-requires c κs = c .before .before .before .pre .1
-
-enum-told-16 : tie.Need-enum-told-16
-enum-told-16 c = c .match .keys16
-
-refused-requires-3 : tie.Need-refused-requires-3
-refused-requires-3 c κs = tt
 
 returns-3 : tie.Need-returns-3
 unfolding outcome
@@ -262,60 +106,60 @@ operate-spec =
     tie.close
     (tie.spec
     enum-told
-    new-requires
-    given-requires
-    enum-told-2
-    read-requires
-    given-requires-2
-    enum-told-3
-    read-bit-requires
-    given-requires-3
-    enum-told-4
-    has-requires
-    flagged-requires
-    enum-told-5
-    has-ended-requires
-    flagged-requires-2
-    enum-told-6
-    skip-requires
-    given-requires-4
-    enum-told-7
-    align-requires
-    given-requires-5
-    enum-told-8
-    tell-requires
-    cast-given
-    given-requires-6
-    enum-told-9
-    refused-requires
+    (λ c κs. tt)
+    (λ c κs. tt)
+    (λ c. c .match .keys2)
+    (λ c κs. c .before .before .before .pre)
+    (λ c κs. tt)
+    (λ c. c .match .keys3)
+    (λ c κs. c .before .before .before .pre)
+    (λ c κs. tt)
+    (λ c. c .match .keys4)
+    (λ c κs. c .before .before .before .pre .1)
+    (λ c κs. tt)
+    (λ c. c .match .keys5)
+    (λ c κs. c .before .before .before .pre .1)
+    (λ c κs. tt)
+    (λ c. c .match .keys6)
+    (λ c κs. c .before .before .before .pre)
+    (λ c κs. tt)
+    (λ c. c .match .keys7)
+    (λ c κs. c .before .before .before .pre .0)
+    (λ c κs. tt)
+    (λ c. c .match .keys8)
+    (λ c κs. tt)
+    (λ c. omega arith)
+    (λ c κs. tt)
+    (λ c. c .match .keys9)
+    (λ c κs. tt)
     returns
-    seek-requires
-    given-requires-7
-    enum-told-10
-    refused-requires-2
+    (λ c κs. omega arith)
+    (λ c κs. tt)
+    (λ c. c .match .keys10)
+    (λ c κs. tt)
     returns-2
-    cast-skip-bytes
-    skip-bytes-requires
-    cast-given-2
-    given-requires-8
-    enum-told-11
-    next-start-code-requires
-    coded-requires
-    enum-told-12
-    signed-requires
-    find-start-code-requires
-    coded-requires-2
-    enum-told-13
-    signed-requires-2
-    has-start-code-requires
-    coded-requires-3
-    enum-told-14
-    peek-non-zero-requires
-    flagged-requires-3
-    enum-told-15
-    peeked-requires
-    enum-told-16
-    refused-requires-3
+    (λ c. omega arith)
+    (λ c κs. c .before .before .before .before .pre)
+    (λ c. omega arith)
+    (λ c κs. tt)
+    (λ c. c .match .keys11)
+    (λ c κs. c .before .before .before .pre)
+    (λ c κs. tt)
+    (λ c. c .match .keys12)
+    (λ c κs. tt)
+    (λ c κs. c .before .before .before .before .pre)
+    (λ c κs. tt)
+    (λ c. c .match .keys13)
+    (λ c κs. tt)
+    (λ c κs. c .before .before .before .before .pre)
+    (λ c κs. tt)
+    (λ c. c .match .keys14)
+    (λ c κs. c .before .before .before .pre)
+    (λ c κs. tt)
+    (λ c. c .match .keys15)
+    (λ c κs. c .before .before .before .pre .1)
+    (λ c. c .match .keys16)
+    (λ c κs. tt)
     returns-3
     returns-4
     returns-5

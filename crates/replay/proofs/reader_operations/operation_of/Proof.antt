@@ -7,9 +7,6 @@ use Rattle.replay.proofs.Defaults.{there}
 use Rattle.replay.proofs.reader_operations.operation_of.Statement.{statement}
 use Rattle.replay.proofs.reader_operations.operation_of.Tie as tie
 
-array-copy-out-result : tie.Need-array-copy-out-result
-array-copy-out-result c = search needs
-
 returns : tie.Need-returns
 unfolding operationOf
 returns c = there operations (c .before .before .args .number) New Unknown (c .before .if1 .taken)
@@ -19,4 +16,4 @@ unfolding operationOf
 returns-2 c = sym (List·getD-eq-default operations Unknown (c .if1 .left))
 
 pub operation-of-spec : {M : Type 1} → statement M
-operation-of-spec = tie.close (tie.spec array-copy-out-result returns returns-2)
+operation-of-spec = tie.close (tie.spec (λ c. search needs) returns returns-2)

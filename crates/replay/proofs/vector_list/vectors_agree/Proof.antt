@@ -16,53 +16,33 @@ use Rattle.replay.proofs.vector_list.vectors_agree.Tie as tie
 moved : (c : tie.After-signed) → toZ w32 (ofZ w32 (c .signed .result)) ≡ toZ w32 (numberAt (c .before .before .before .before .before .args .case .now) 4)
 moved c = toZ-ofZ {w = w32} (sfits-of (c .signed .ok)) ∙ c .signed .ensures ∙ ap (toZ w32) (c .before .number-at2 .ensures)
 
-number-at-requires : tie.Need-number-at-requires
-number-at-requires c κs = tt
-
 returns : tie.Need-returns
 unfolding vectorAgrees
 returns c = rw (← c .before .number-at .ensures, lt-leb _ _ (c .if1 .taken))
 
-number-at-requires-2 : tie.Need-number-at-requires-2
-number-at-requires-2 c κs = tt
-
-signed-requires : tie.Need-signed-requires
-signed-requires c κs = tt
-
 returns-2 : tie.Need-returns-2
 unfolding vectorAgrees
-returns-2 c = let m = c .before in
+returns-2 c =
+    let m = c .before in
     rw (← m .before .before .before .number-at .ensures, le-leb _ _ (m .before .before .if1 .left), ← moved m, too-low _ (c .if2 .taken))
 
 returns-3 : tie.Need-returns-3
 unfolding vectorAgrees
-returns-3 c = let m = c .before .before in
+returns-3 c =
+    let m = c .before .before in
     rw (← m .before .before .before .number-at .ensures, le-leb _ _ (m .before .before .if1 .left), ← moved m, too-high _ (c .before .if2 .left) (c .if3 .taken))
 
-part-requires : tie.Need-part-requires
-part-requires c κs = tt
-
-possible-requires : tie.Need-possible-requires
-possible-requires c κs = tt
-
-stream-requires : tie.Need-stream-requires
-stream-requires c κs = tt
-
-reader-requires : tie.Need-reader-requires
-reader-requires c κs = tt
-
 decode-motion-vector-requires : tie.Need-decode-motion-vector-requires
-decode-motion-vector-requires c κs = let p = c .before .before .before in
+decode-motion-vector-requires c κs =
+    let p = c .before .before .before in
     let m = p .before .before .before .before in
     let h = sym (p .possible .ensures) ∙ c .before .before .if4 .taken in
     (omega (arith, c .reader .ensures, limits _ h), (short _ h _ (c .before .stream .ensures), (m .before .before .if1 .left, in-range _ (p .before .before .before .if2 .left) (p .before .before .if3 .left))))
 
-same-end-requires : tie.Need-same-end-requires
-same-end-requires c κs = tt
-
 returns-4 : tie.Need-returns-4
 unfolding vectorAgrees
-returns-4 c = let d = c .before .before .before in
+returns-4 c =
+    let d = c .before .before .before in
     let p = d .before .before .before .before in
     let m = p .before .before .before .before in
     let h = sym (p .possible .ensures) ∙ d .before .before .before .if4 .taken in
@@ -72,7 +52,8 @@ returns-4 c = let d = c .before .before .before in
 
 returns-5 : tie.Need-returns-5
 unfolding vectorAgrees
-returns-5 c = let p = c .before in
+returns-5 c =
+    let p = c .before in
     let m = p .before .before .before .before in
     rw (← m .before .before .before .number-at .ensures, ← p .before .part .ensures, le-leb _ _ (m .before .before .if1 .left), ← moved m, within _ (p .before .before .before .if2 .left) (p .before .before .if3 .left))
     (unread _ _ (sym (p .possible .ensures) ∙ c .if4 .left))
@@ -81,17 +62,17 @@ pub vectors-agree-spec : {M : Type 1} → statement M
 vectors-agree-spec =
     tie.close
     (tie.spec
-    number-at-requires
+    (λ c κs. tt)
     returns
-    number-at-requires-2
-    signed-requires
+    (λ c κs. tt)
+    (λ c κs. tt)
     returns-2
     returns-3
-    part-requires
-    possible-requires
-    stream-requires
-    reader-requires
+    (λ c κs. tt)
+    (λ c κs. tt)
+    (λ c κs. tt)
+    (λ c κs. tt)
     decode-motion-vector-requires
-    same-end-requires
+    (λ c κs. tt)
     returns-4
     returns-5)

@@ -12,30 +12,10 @@ use Rattle.replay.proofs.worked.reader.Tie as tie
 gives : {p : Prog ℕ} {s : List ℕ} {a v e : ℕ} → Runs p s a v e → (v ≡ run p s a .value) × (e ≡ run p s a .at)
 gives h = (rw (h .is), rw (h .is))
 
-new-requires : tie.Need-new-requires
-new-requires c κs = tt
-
-slice-aggregate-read : tie.Need-slice-aggregate-read
-slice-aggregate-read c = refl
-
-read-requires : tie.Need-read-requires
-read-requires c κs = omega arith
-
-slice-aggregate-read-2 : tie.Need-slice-aggregate-read-2
-slice-aggregate-read-2 c = refl
-
-read-requires-2 : tie.Need-read-requires-2
-read-requires-2 c κs = omega arith
-
-slice-aggregate-read-3 : tie.Need-slice-aggregate-read-3
-slice-aggregate-read-3 c = refl
-
-read-requires-3 : tie.Need-read-requires-3
-read-requires-3 c κs = omega arith
-
 returns : tie.Need-returns
 unfolding run got next bitsAt bitAt
-returns c = let r = c .before .before .before .before in
+returns c =
+    let r = c .before .before .before .before in
     let s = c .before .before in
     let one : (r .read .result .value ≡ 5) × (r .read .result .reader .at .0 ≡ 3) = gives (rw (r .before .before .new .ensures) at (r .read .ensures .0)) in
     let two : (s .read2 .result .value ≡ 0) × (s .read2 .result .reader .at .0 ≡ 3) = gives (rw (one .1) at (s .read2 .ensures .0)) in
@@ -46,11 +26,11 @@ pub reader-spec : {M : Type 1} → statement M
 reader-spec =
     tie.close
     (tie.spec
-    new-requires
-    slice-aggregate-read
-    read-requires
-    slice-aggregate-read-2
-    read-requires-2
-    slice-aggregate-read-3
-    read-requires-3
+    (λ c κs. tt)
+    (λ c. refl)
+    (λ c κs. omega arith)
+    (λ c. refl)
+    (λ c κs. omega arith)
+    (λ c. refl)
+    (λ c κs. omega arith)
     returns)
