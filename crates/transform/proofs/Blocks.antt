@@ -7,7 +7,7 @@ use lib.IntN.{ℤ, pos}
 use lib.ListN.{length, replicate, length-replicate}
 use lib.Seq.{ext-getD}
 use Rattle.laws.proofs.Lists.{rows-in, length-rows}
-use Rattle.transform.specs.Idct.{at, block, columns, rows, idct}
+use Rattle.transform.specs.Idct.{at, block, columns}
 
 module _ (f : ℕ → ℕ → ℤ) where
   pub block-length : length (block f) ≡ 64
@@ -28,7 +28,3 @@ module _ (f : ℕ → ℕ → ℤ) where
 pub columns-length : (l : List ℤ) → length (columns l) ≡ 64
 unfolding columns
 columns-length l = block-length _
-
-pub idct-length : (l : List ℤ) → length (idct l) ≡ 64
-unfolding idct rows
-idct-length l = block-length _
