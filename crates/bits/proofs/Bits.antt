@@ -4,10 +4,10 @@ use mathlib.Core.Path.{_≡_, refl, ap, sym, _∙_}
 use mathlib.Core.List.{List}
 use Prim.Native.Nat.{ℕ, zero, suc, _+_, _-_, _*_, _/_, _%_, _^_, _<_, _≤_}
 use native.Mathlib.Omega.{arith}
-use native.Mathlib.Nat.{add-zero, add-suc, add-assoc, mod-lt, mod-eq-of-lt, mod-eq-sub-div-mul, div-mul-le-self, div-one, div-div-eq-div-mul, pow-suc, mod-le, div-le-self, lt-of-lt-of-le}
+use native.Mathlib.Nat.{add-zero, add-suc, add-assoc, mod-eq-of-lt, mod-eq-sub-div-mul, div-mul-le-self, div-one, div-div-eq-div-mul, pow-suc, mod-le, div-le-self, lt-of-lt-of-le}
 use lib.Arith.{digits-div, digits-mod}
 use lib.Pow.{high, low, pow-mono}
-use lib.ListN.{length, getD}
+use lib.ListN.{getD}
 use Rattle.bits.specs.Bits.{bitAt, bitsAt}
 
 pub bits-append : (s : List ℕ) (a m n : ℕ) → bitsAt s a (m + n) ≡ bitsAt s a m * 2 ^ n + bitsAt s (a + m) n

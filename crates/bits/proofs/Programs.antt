@@ -1,15 +1,15 @@
 -- Laws of programs, proved once for every program. Assumes nothing.
-use mathlib.Core.Path.{_≡_, refl, ap, sym, _∙_}
+use mathlib.Core.Path.{_≡_, refl, sym, _∙_}
 use mathlib.Core.Bool.{Bool, true, false, cond, not, _||_}
-use mathlib.Core.List.{List, [], _∷_}
-use Prim.Native.Nat.{ℕ, zero, suc, _+_, _-_, _*_, _/_, _^_, _≤_, _<_}
+use mathlib.Core.List.{List}
+use Prim.Native.Nat.{ℕ, zero, suc, _+_, _-_, _*_, _≤_, _<_}
 use native.Mathlib.Omega.{arith}
 use native.Mathlib.Nat.{add-zero}
 use lib.ListN.{length}
 use lib.Dec.{leb, eqb, leb·zero, eqb·suc-zero}
 use borrow.Author.Tests.{leb-true, le-leb, lt-leb}
 use Rattle.bits.specs.Bits.{bitsAt, has, got, next, found}
-use Rattle.bits.specs.Programs.{Prog, done, read, skip, look, start, Out, run, short, bind}
+use Rattle.bits.specs.Programs.{Prog, done, read, skip, look, start, run, short, bind}
 use Rattle.bits.proofs.Start.{found-on, found-most}
 
 -- a sequence runs one after the other

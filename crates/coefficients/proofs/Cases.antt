@@ -1,8 +1,8 @@
 -- The worked cases W.8 to W.12 of docs/RULES.md, and a few more, computed by the definitions. Assumes nothing.
 use mathlib.Core.Path.{_≡_, refl}
 use mathlib.Core.Bool.{true}
-use mathlib.Core.List.{List, [], _∷_}
-use Prim.Native.Nat.{ℕ, _*_}
+use mathlib.Core.List.{[], _∷_}
+use Prim.Native.Nat.{ℕ}
 use native.Mathlib.Nat.{zero-mul}
 use lib.IntN.{pos, negsuc, _+ℤ_}
 use lib.ListN.{set, replicate}

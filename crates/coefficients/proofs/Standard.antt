@@ -7,13 +7,13 @@ use native.Mathlib.Nat.{div-add-mod, mod-lt, mul-comm}
 use native.Mathlib.Omega.{arith}
 use borrow.Author.Tests.{eq-eqb, ne-eqb, lt-ltb, le-ltb, ltb-true, ltb-false}
 use lib.Bits.{bitAnd, bitOr, or-shifted}
-use lib.Dec.{ltb, eqb}
+use lib.Dec.{ltb}
 use lib.IntN.{ℤ, pos, negsuc, negℤ, natAbs, _-ℤ_}
 use lib.ListN.{length}
 use lib.Pow.{pow-add, pow-mono, pow-pos}
 use mir.Facts.{toZ-neg}
 use mir.Syntax.{w32}
-use mir.Val.{ofZ, toZ}
+use mir.Val.{toZ}
 use Rattle.laws.specs.Signed.{odd}
 use Rattle.laws.proofs.Bytes.{and-bit}
 use Rattle.laws.proofs.Ints.{v, lit, _⊖_, eq-by}
@@ -23,7 +23,7 @@ use Rattle.bits.specs.Runs.{Runs}
 use Rattle.bits.proofs.Bits.{bits-append, bits-lt}
 use Rattle.bits.proofs.Programs.{served-has, served-next}
 use Rattle.bits.proofs.Rules.{is-bits, r-call, r-yes, r-no, r-done}
-use Rattle.codes.specs.Standard.{Code, code, Stands}
+use Rattle.codes.specs.Standard.{code, Stands}
 use Rattle.coefficients.specs.Coefficients.{escapeLevel}
 use Rattle.coefficients.specs.Dcs.{added}
 use Rattle.coefficients.specs.Dequantise as ours

@@ -1,13 +1,13 @@
 -- RULES 3.3 to 3.12: the coefficients of a block.
 use mathlib.Core.Path.{_≡_}
-use mathlib.Core.Bool.{Bool, cond}
+use mathlib.Core.Bool.{Bool}
 use mathlib.Core.List.{List}
 use Prim.Native.Nat.{ℕ, _+_}
 use lib.Dec.{ltb}
 use lib.IntN.{ℤ, pos, _*ℤ_}
 use lib.ListN.{getD, set, replicate}
 use Rattle.laws.specs.Turns.{Turn, again, stop}
-use Rattle.bits.specs.Programs.{Prog, done, bind, loop, _>>=_, _>>_, if_then_else_}
+use Rattle.bits.specs.Programs.{Prog, done, loop, _>>=_, _>>_, if_then_else_}
 use Rattle.codes.specs.Tables.{dctCoeffIndex, dctCoeffValue}
 use Rattle.codes.specs.Matrices.{zigZag, premultiplierMatrix}
 use Rattle.coefficients.specs.declared.coefficient.Coefficient.{Coefficient}

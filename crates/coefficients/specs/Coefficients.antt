@@ -1,9 +1,9 @@
 -- RULES 3.5, 3.6 (11172-2, 2.4.2.8): a coefficient as it is coded.
-use mathlib.Core.Bool.{cond, _&&_}
+use mathlib.Core.Bool.{_&&_}
 use Prim.Native.Nat.{ℕ, _/_, _%_, _≤_}
 use lib.Dec.{eqb, ltb}
 use lib.IntN.{ℤ, pos, negℤ, natAbs, _-ℤ_}
-use Rattle.bits.specs.Programs.{Prog, done, bind, bits, _>>=_, _>>_, if_then_else_}
+use Rattle.bits.specs.Programs.{Prog, done, bits, _>>=_, _>>_, if_then_else_}
 use Rattle.codes.specs.Codes.{dctCoeff}
 use Rattle.coefficients.specs.declared.coefficient.Coefficient.{Coefficient}
 use Rattle.coefficients.specs.declared.coefficient.Coefficient.the-variants.{EndOfBlock, RunLevel}

@@ -1,11 +1,9 @@
-use mathlib.Core.Path.{_≡_, ap}
 use mathlib.Core.List.{List, [], _∷_}
-use Prim.Native.Nat.{ℕ, _%_, _≤_}
+use Prim.Native.Nat.{_%_}
 use native.Mathlib.Omega.{arith}
 use borrow.Author.Tests.{eq-eqb, ne-eqb}
-use lib.IntN.{natAbs}
 use mir.Syntax.{w32}
-use Rattle.laws.proofs.Exprs.{Exp, var, neg, Input, natural, need, num-of, eval-fits}
+use Rattle.laws.proofs.Exprs.{var, neg, Input, natural, need, num-of, eval-fits}
 use Rattle.bits.proofs.Rules.{r-call, r-yes, r-no, r-done}
 use Rattle.coefficients.specs.Coefficients.{runLevel}
 use Rattle.coefficients.proofs.coefficient.read_run_level.Statement.{statement}

@@ -1,4 +1,3 @@
-use mathlib.Core.Path.{_≡_, sym, _∙_}
 use mir.Facts.{toZ-ofZ}
 use Rattle.coefficients.proofs.dc.dc_inside.Statement.{statement}
 use Rattle.coefficients.proofs.dc.dc_inside.Tie as tie

@@ -1,6 +1,5 @@
-use mathlib.Core.Path.{_≡_, _∙_}
+use mathlib.Core.Path.{_∙_}
 use native.Mathlib.Omega.{arith}
-use borrow.Author.Needs.{needs}
 use mir.Syntax.{w16}
 use Rattle.laws.proofs.Bytes.{cast-unsigned}
 use Rattle.laws.proofs.Nums.{num, rd}

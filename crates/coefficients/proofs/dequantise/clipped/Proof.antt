@@ -1,11 +1,5 @@
-use mathlib.Core.Path.{_≡_, ap, _∙_}
-use Prim.Native.Nat.{_≤_}
 use native.Mathlib.Omega.{arith}
-use lib.IntN.{ℤ, pos, negℤ, natAbs}
-use lib.Signed.{ltZ}
-use mathlib.Core.Bool.{Bool}
 use mir.Facts.{toZ-ofZ}
-use mir.Syntax.{w32}
 use Rattle.laws.proofs.Ints.{v, lit, neg, lt-no, abs-by}
 use Rattle.coefficients.proofs.dequantise.clipped.Statement.{statement}
 use Rattle.coefficients.proofs.dequantise.clipped.Tie as tie

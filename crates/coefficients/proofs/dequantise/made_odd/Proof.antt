@@ -1,4 +1,4 @@
-use mathlib.Core.Path.{_≡_, sym, _∙_}
+use mathlib.Core.Path.{sym, _∙_}
 use mathlib.Core.List.{List, [], _∷_}
 use mir.Syntax.{w32}
 use Rattle.laws.proofs.Bytes.{odd-yes, odd-no}

@@ -1,11 +1,10 @@
 -- The loop's invariant: the search from b on gives what the search from the next byte boundary on gives.
-use mathlib.Core.Path.{_≡_, refl, ap, sym, _∙_}
+use mathlib.Core.Path.{_≡_, refl, _∙_}
 use mathlib.Core.Bool.{false}
 use mathlib.Core.Logic.{⊎-elim}
-use Prim.Native.Nat.{ℕ, _+_, _≤_, _-_}
+use Prim.Native.Nat.{_+_, _≤_, _-_}
 use native.Mathlib.Omega.{arith}
 use lib.ListN.{length, getD}
-use lib.IntN.{pos, negsuc}
 use mir.Syntax.{w32}
 use mir.ValLaws.{toZ-pos}
 use denote.Ref.{now}
