@@ -6,12 +6,15 @@ mod blocks;
 mod codes;
 mod dequantise;
 mod list;
+mod macroblocks;
+mod noise;
 mod random;
 mod reader;
 mod reading;
 mod transform;
 mod vectors;
 mod video;
+mod writers;
 
 #[allow(dead_code)]
 #[path = "../../docs/src/crates/native32emu-core/src/mpeg/buffer.rs"]
@@ -27,7 +30,10 @@ fn main() {
         ("scaled.bin", argb::scaled()),
         ("dequantised.bin", dequantise::list()),
         ("blocks.bin", blocks::list()),
+        ("random_blocks.bin", blocks::random_list()),
         ("transforms.bin", transform::list()),
+        ("macroblocks.bin", macroblocks::list()),
+        ("writers.bin", writers::list()),
     ];
     for (name, bytes) in lists {
         let path = std::path::Path::new(&folder).join(name);

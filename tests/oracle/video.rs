@@ -45,3 +45,4 @@ impl Table {
     }
 }
 include!("video_blocks.rs");
+include!("video_pictures.rs");

@@ -1,39 +1,41 @@
-// A block of the Rust's decoder, on a picture of one macroblock.
+// A block of the Rust's decoder.
 pub struct BlockInput {
     pub intra: bool,
     pub block: i32,
     pub predictor: i32,
     pub scale: i32,
-    pub entry: u8,
+    pub matrix: [u8; 64],
     pub left: [i32; 64],
+    pub place: Place,
 }
 
-// Where the block ended, its plane's predictor, and the coefficients that are left over.
+// Where the block ended, its plane's predictor, the coefficients that are left over, and the store.
 pub struct BlockAnswer {
     pub place: usize,
     pub predictor: i32,
     pub left: [i32; 64],
+    pub store: Vec<u8>,
 }
 
-pub fn read_block(input: &BlockInput, stream: &[u8], place: usize) -> BlockAnswer {
-    let mut video = Video::new(Vec::new());
-    video.width = 16;
-    video.height = 16;
-    (video.mb_width, video.mb_height, video.mb_size) = (1, 1, 1);
-    (video.luma_width, video.luma_height, video.chroma_width, video.chroma_height) = (16, 16, 8, 8);
-    video.frames = vec![video.make_frame(), video.make_frame(), video.make_frame()];
+// From a place of the stream in bits, into a store that holds these bytes.
+pub fn read_block(input: &BlockInput, store: &[u8], stream: &[u8], place: usize) -> BlockAnswer {
+    let mut video = video_at(input.place, store);
     video.buffer = Buffer::new(stream.to_vec());
     video.buffer.skip(place);
     video.macroblock_intra = input.intra;
     video.dc_predictor = [input.predictor; 3];
     video.quantizer_scale = input.scale;
-    video.intra_quant_matrix = [input.entry; 64];
-    video.non_intra_quant_matrix = [input.entry; 64];
+    video.intra_quant_matrix = input.matrix;
+    video.non_intra_quant_matrix = input.matrix;
     video.block_data = input.left;
     video.decode_block(input.block);
     let plane = if input.block > 3 { (input.block - 3) as usize } else { 0 };
     let left = (0..=stream.len() * 8).rev().find(|&n| video.buffer.has(n)).unwrap();
-    BlockAnswer { place: stream.len() * 8 - left, predictor: video.dc_predictor[plane], left: video.block_data }
+    BlockAnswer { place: stream.len() * 8 - left, predictor: video.dc_predictor[plane], left: video.block_data, store: stores_of(&video) }
+}
+
+pub fn default_matrix(intra: bool) -> [u8; 64] {
+    if intra { INTRA_QUANT_MATRIX } else { NON_INTRA_QUANT_MATRIX }
 }
 
 pub fn transform(block: &mut [i32; 64]) {

@@ -45,8 +45,8 @@ module _ (k : Kind) (l : List ℕ) (n : ℕ) where
     scoring-end (suc left) h z = absurd (omega arith)
 
 -- the bytes that the cases take
-pub bytes-fit : (m n : ℕ) → m ≤ 256 → n ≤ 4294967295 → 4 * m * n ≤ 4398046510080
-bytes-fit m n h k = mul-le-mul {n₁ = 4 * m} {m₁ = n} {n₂ = 1024} {m₂ = 4294967295} (omega arith) k
+pub bytes-fit : (m n : ℕ) → m ≤ 512 → n ≤ 4294967295 → 4 * m * n ≤ 8796093020160
+bytes-fit m n h k = mul-le-mul {n₁ = 4 * m} {m₁ = n} {n₂ = 2048} {m₂ = 4294967295} (omega arith) k
 
 -- the list is as long as its number of cases says, or not
 module _ (k : Kind) (l : List ℕ) (n : ℕ) (is : n ≡ numberAt l 0) where

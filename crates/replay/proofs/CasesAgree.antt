@@ -12,7 +12,7 @@ use Rattle.lists.specs.Numbers.{numberAt}
 use Rattle.lists.specs.Tallies.{none, counted}
 use Rattle.lists.proofs.Tallies.{more-one, counted-behind, counted-fails, counted-agrees}
 use Rattle.replay.specs.declared.cases.Kind.{Kind}
-use Rattle.replay.specs.declared.cases.Kind.the-variants.{Codes, Vectors, Pixels, Scaled, Dequantised, Transforms, Blocks}
+use Rattle.replay.specs.declared.cases.Kind.the-variants.{Codes, Vectors, Pixels, Scaled, Dequantised, Transforms, Blocks, Macroblocks, Writers}
 use Rattle.replay.specs.Cases.{sizeOf, agreesAt, scoreFrom, scored}
 use Rattle.replay.specs.Replayed.{Replayed}
 
@@ -60,6 +60,8 @@ module _ (k : Kind) (l : List ℕ) where
       go Dequantised e = omega arith
       go Transforms e = omega arith
       go Blocks e = omega arith
+      go Macroblocks e = omega arith
+      go Writers e = omega arith
 
   pub all-agree : length l ≤ 4294967295 → scored k l .agreed ≡ scored k l .cases → Whole k l
   unfolding scored

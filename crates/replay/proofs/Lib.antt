@@ -1,12 +1,9 @@
 pub mod AllAgree
-pub mod BlockCases
 pub mod CaseScores
 pub mod CasesAgree
 pub mod Components
 pub mod Defaults
-pub mod InBounds
 pub mod Inside
-pub mod Levels
 pub mod Pictures
 pub mod Readings
 pub mod Replays

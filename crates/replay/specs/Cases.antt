@@ -5,17 +5,19 @@ use mathlib.Core.List.{List}
 use lib.Dec.{eqb}
 use lib.ListN.{length}
 use Rattle.replay.specs.declared.cases.Kind.{Kind}
-use Rattle.replay.specs.declared.cases.Kind.the-variants.{Codes, Vectors, Pixels, Scaled, Dequantised, Transforms, Blocks}
+use Rattle.replay.specs.declared.cases.Kind.the-variants.{Codes, Vectors, Pixels, Scaled, Dequantised, Transforms, Blocks, Macroblocks, Writers}
 use Rattle.lists.specs.declared.tally.Tally.{Tally}
 use Rattle.lists.specs.Bytes.{part}
 use Rattle.lists.specs.Numbers.{numberAt}
 use Rattle.lists.specs.Tallies.{none, counted}
-use Rattle.replay.specs.BlockList.{blockAgrees}
+use Rattle.block_lists.specs.BlockList.{blockAgrees}
+use Rattle.block_lists.specs.DequantisedList.{dequantisedAgrees}
+use Rattle.block_lists.specs.MacroblockList.{macroblockAgrees}
+use Rattle.block_lists.specs.TransformList.{transformAgrees}
+use Rattle.block_lists.specs.WriterList.{writerAgrees}
 use Rattle.replay.specs.CodeList.{codeAgrees}
-use Rattle.replay.specs.DequantisedList.{dequantisedAgrees}
 use Rattle.replay.specs.PixelList.{pixelAgrees}
 use Rattle.replay.specs.ScaledList.{scaledAgrees}
-use Rattle.replay.specs.TransformList.{transformAgrees}
 use Rattle.replay.specs.VectorList.{vectorAgrees}
 
 -- how many numbers a case has
@@ -24,9 +26,11 @@ numbersOf Codes = 7
 numbersOf Vectors = 8
 numbersOf Pixels = 4
 numbersOf Scaled = 165
-numbersOf Dequantised = 5
+numbersOf Dequantised = 259
 numbersOf Transforms = 128
-numbersOf Blocks = 76
+numbersOf Blocks = 188
+numbersOf Macroblocks = 107
+numbersOf Writers = 84
 
 -- and how many bytes
 abbrev pub sizeOf : Kind → ℕ
@@ -41,6 +45,8 @@ agrees Scaled c = scaledAgrees c
 agrees Dequantised c = dequantisedAgrees c
 agrees Transforms c = transformAgrees c
 agrees Blocks c = blockAgrees c
+agrees Macroblocks c = macroblockAgrees c
+agrees Writers c = writerAgrees c
 
 -- the case at the byte i of a list agrees
 abbrev pub agreesAt : Kind → List ℕ → ℕ → Bool

@@ -1,13 +1,9 @@
-pub mod BlockList
-pub mod Bounded
 pub mod Cases
 pub mod CodeList
-pub mod DequantisedList
 pub mod Operations
 pub mod PixelList
 pub mod ReaderList
 pub mod Readings
 pub mod Replayed
 pub mod ScaledList
-pub mod TransformList
 pub mod VectorList

@@ -1,13 +1,15 @@
 // Lists whose cases all have the same size: the number of cases, and then as many numbers for each as its kind says. A file of its own says what
 // the cases of each kind are.
-use crate::block_list::blocks_agree;
 use crate::code_list::codes_agree;
-use crate::dequantised_list::dequantised_agree;
 use crate::load;
 use crate::pixel_list::pixels_agree;
 use crate::scaled_list::scaled_agree;
-use crate::transform_list::transforms_agree;
 use crate::vector_list::vectors_agree;
+use block_lists::block_list::blocks_agree;
+use block_lists::dequantised_list::dequantised_agree;
+use block_lists::macroblock_list::macroblocks_agree;
+use block_lists::transform_list::transforms_agree;
+use block_lists::writer_list::writers_agree;
 use lists::bytes::part;
 use lists::numbers::number_at;
 use lists::tally::Tally;
@@ -24,20 +26,24 @@ pub enum Kind {
     Dequantised,
     Transforms,
     Blocks,
+    Macroblocks,
+    Writers,
 }
 
 // How many numbers a case has.
 fn numbers(kind: Kind) -> usize
-    ensures { λ r. ⌜ (r ≡ numbersOf kind) × (r ≤ 256) ⌝ }
+    ensures { λ r. ⌜ (r ≡ numbersOf kind) × (r ≤ 512) ⌝ }
 {
     match kind {
         Kind::Codes => 7,
         Kind::Vectors => 8,
         Kind::Pixels => 4,
         Kind::Scaled => 165,
-        Kind::Dequantised => 5,
+        Kind::Dequantised => 259,
         Kind::Transforms => 128,
-        Kind::Blocks => 76,
+        Kind::Blocks => 188,
+        Kind::Macroblocks => 107,
+        Kind::Writers => 84,
     }
 }
 
@@ -53,6 +59,8 @@ fn case_agrees(case: &[u8], kind: Kind) -> bool
         Kind::Dequantised => dequantised_agree(case),
         Kind::Transforms => transforms_agree(case),
         Kind::Blocks => blocks_agree(case),
+        Kind::Macroblocks => macroblocks_agree(case),
+        Kind::Writers => writers_agree(case),
     }
 }
 

@@ -1,16 +1,12 @@
 // Runs ours on the lists of the Rust's answers (tests/oracle writes them), and says of each list how many cases agree.
-mod block_list;
-mod bounded;
 mod cases;
 mod code_list;
-mod dequantised_list;
 mod load;
 mod pixel_list;
 mod reader_list;
 mod reader_operations;
 mod reading;
 mod scaled_list;
-mod transform_list;
 mod vector_list;
 mod worked;
 
@@ -61,4 +57,13 @@ fn main() {
         cases::replay(Kind::Transforms, b"transforms.bin"),
     );
     print(b"blocks", cases::replay(Kind::Blocks, b"blocks.bin"));
+    print(
+        b"random_blocks",
+        cases::replay(Kind::Blocks, b"random_blocks.bin"),
+    );
+    print(
+        b"macroblocks",
+        cases::replay(Kind::Macroblocks, b"macroblocks.bin"),
+    );
+    print(b"writers", cases::replay(Kind::Writers, b"writers.bin"));
 }

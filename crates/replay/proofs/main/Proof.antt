@@ -101,8 +101,44 @@ replay-requires-8 c κs = tt
 print-requires-8 : tie.Need-print-requires-8
 print-requires-8 c κs = tt
 
+slice-aggregate-print-9 : tie.Need-slice-aggregate-print-9
+slice-aggregate-print-9 c = refl
+
+slice-aggregate-replay-8 : tie.Need-slice-aggregate-replay-8
+slice-aggregate-replay-8 c = refl
+
+replay-requires-9 : tie.Need-replay-requires-9
+replay-requires-9 c κs = tt
+
+print-requires-9 : tie.Need-print-requires-9
+print-requires-9 c κs = tt
+
+slice-aggregate-print-10 : tie.Need-slice-aggregate-print-10
+slice-aggregate-print-10 c = refl
+
+slice-aggregate-replay-9 : tie.Need-slice-aggregate-replay-9
+slice-aggregate-replay-9 c = refl
+
+replay-requires-10 : tie.Need-replay-requires-10
+replay-requires-10 c κs = tt
+
+print-requires-10 : tie.Need-print-requires-10
+print-requires-10 c κs = tt
+
+slice-aggregate-print-11 : tie.Need-slice-aggregate-print-11
+slice-aggregate-print-11 c = refl
+
+slice-aggregate-replay-10 : tie.Need-slice-aggregate-replay-10
+slice-aggregate-replay-10 c = refl
+
+replay-requires-11 : tie.Need-replay-requires-11
+replay-requires-11 c κs = tt
+
+print-requires-11 : tie.Need-print-requires-11
+print-requires-11 c κs = tt
+
 returns : tie.Need-returns
 returns c = tt
 
 pub main-spec : {M : Type 1} → statement M
-main-spec = tie.close (tie.spec reader-requires print-values-requires slice-aggregate-print replay-requires print-requires slice-aggregate-print-2 slice-aggregate-replay replay-requires-2 print-requires-2 slice-aggregate-print-3 slice-aggregate-replay-2 replay-requires-3 print-requires-3 slice-aggregate-print-4 slice-aggregate-replay-3 replay-requires-4 print-requires-4 slice-aggregate-print-5 slice-aggregate-replay-4 replay-requires-5 print-requires-5 slice-aggregate-print-6 slice-aggregate-replay-5 replay-requires-6 print-requires-6 slice-aggregate-print-7 slice-aggregate-replay-6 replay-requires-7 print-requires-7 slice-aggregate-print-8 slice-aggregate-replay-7 replay-requires-8 print-requires-8 returns)
+main-spec = tie.close (tie.spec reader-requires print-values-requires slice-aggregate-print replay-requires print-requires slice-aggregate-print-2 slice-aggregate-replay replay-requires-2 print-requires-2 slice-aggregate-print-3 slice-aggregate-replay-2 replay-requires-3 print-requires-3 slice-aggregate-print-4 slice-aggregate-replay-3 replay-requires-4 print-requires-4 slice-aggregate-print-5 slice-aggregate-replay-4 replay-requires-5 print-requires-5 slice-aggregate-print-6 slice-aggregate-replay-5 replay-requires-6 print-requires-6 slice-aggregate-print-7 slice-aggregate-replay-6 replay-requires-7 print-requires-7 slice-aggregate-print-8 slice-aggregate-replay-7 replay-requires-8 print-requires-8 slice-aggregate-print-9 slice-aggregate-replay-8 replay-requires-9 print-requires-9 slice-aggregate-print-10 slice-aggregate-replay-9 replay-requires-10 print-requires-10 slice-aggregate-print-11 slice-aggregate-replay-10 replay-requires-11 print-requires-11 returns)

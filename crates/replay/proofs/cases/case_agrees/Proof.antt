@@ -43,6 +43,18 @@ enum-told-7 c = c .match .keys7
 blocks-agree-requires : tie.Need-blocks-agree-requires
 blocks-agree-requires c κs = tt
 
+enum-told-8 : tie.Need-enum-told-8
+enum-told-8 c = c .match .keys8
+
+macroblocks-agree-requires : tie.Need-macroblocks-agree-requires
+macroblocks-agree-requires c κs = tt
+
+enum-told-9 : tie.Need-enum-told-9
+enum-told-9 c = c .match .keys9
+
+writers-agree-requires : tie.Need-writers-agree-requires
+writers-agree-requires c κs = tt
+
 returns : tie.Need-returns
 returns c = rw (c .before .enum-told .given .1) (c .codes-agree .ensures)
 
@@ -64,6 +76,12 @@ returns-6 c = rw (c .before .enum-told6 .given .1) (c .transforms-agree .ensures
 returns-7 : tie.Need-returns-7
 returns-7 c = rw (c .before .enum-told7 .given .1) (c .blocks-agree .ensures)
 
+returns-8 : tie.Need-returns-8
+returns-8 c = rw (c .before .enum-told8 .given .1) (c .macroblocks-agree .ensures)
+
+returns-9 : tie.Need-returns-9
+returns-9 c = rw (c .before .enum-told9 .given .1) (c .writers-agree .ensures)
+
 pub case-agrees-spec : {M : Type 1} → statement M
 case-agrees-spec =
     tie.close
@@ -82,10 +100,16 @@ case-agrees-spec =
     transforms-agree-requires
     enum-told-7
     blocks-agree-requires
+    enum-told-8
+    macroblocks-agree-requires
+    enum-told-9
+    writers-agree-requires
     returns
     returns-2
     returns-3
     returns-4
     returns-5
     returns-6
-    returns-7)
+    returns-7
+    returns-8
+    returns-9)

@@ -24,6 +24,12 @@ enum-told-6 c = c .match .keys6
 enum-told-7 : tie.Need-enum-told-7
 enum-told-7 c = c .match .keys7
 
+enum-told-8 : tie.Need-enum-told-8
+enum-told-8 c = c .match .keys8
+
+enum-told-9 : tie.Need-enum-told-9
+enum-told-9 c = c .match .keys9
+
 returns : tie.Need-returns
 returns c = rw (c .enum-told .given .1) (refl, omega arith)
 
@@ -45,5 +51,31 @@ returns-6 c = rw (c .enum-told6 .given .1) (refl, omega arith)
 returns-7 : tie.Need-returns-7
 returns-7 c = rw (c .enum-told7 .given .1) (refl, omega arith)
 
+returns-8 : tie.Need-returns-8
+returns-8 c = rw (c .enum-told8 .given .1) (refl, omega arith)
+
+returns-9 : tie.Need-returns-9
+returns-9 c = rw (c .enum-told9 .given .1) (refl, omega arith)
+
 pub numbers-spec : {M : Type 1} → statement M
-numbers-spec = tie.close (tie.spec enum-told enum-told-2 enum-told-3 enum-told-4 enum-told-5 enum-told-6 enum-told-7 returns returns-2 returns-3 returns-4 returns-5 returns-6 returns-7)
+numbers-spec =
+    tie.close
+    (tie.spec
+    enum-told
+    enum-told-2
+    enum-told-3
+    enum-told-4
+    enum-told-5
+    enum-told-6
+    enum-told-7
+    enum-told-8
+    enum-told-9
+    returns
+    returns-2
+    returns-3
+    returns-4
+    returns-5
+    returns-6
+    returns-7
+    returns-8
+    returns-9)

@@ -1,0 +1,121 @@
+-- A case of blocks.bin: what a possible one keeps to, and what ours reads and writes there.
+use mathlib.Core.Path.{_≡_, refl, _∙_}
+use mathlib.Core.Bool.{Bool, true, false, cond, _&&_}
+use mathlib.Core.List.{List, [], _∷_}
+use mathlib.Core.Logic.{⊎-elim}
+use Prim.Native.Nat.{ℕ, _*_, _≤_}
+use native.Mathlib.Nat.{mul-le-mul}
+use native.Mathlib.Omega.{arith}
+use borrow.Author.Tests.{leb-true, ltb-true}
+use denote.Enum.Declared.{tagOf}
+use types.Run.{OneOf}
+use lib.Dec.{eqb, leb, ltb}
+use lib.IntN.{ℤ, pos, negℤ}
+use lib.Signed.{leZ}
+use mir.Facts.{toZ-ofZ}
+use mir.Syntax.{w32}
+use mir.Val.{ofZ, toZ}
+use Rattle.laws.proofs.Ints.{v, abs-of, fits-by}
+use Rattle.bits.specs.Programs.{Prog}
+use Rattle.bits.specs.Runs.{Runs}
+use Rattle.coefficients.specs.declared.block.BlockEnd.{BlockEnd}
+use Rattle.coefficients.specs.declared.block.BlockEnd.the-variants.{Whole, Dropped, Outside}
+use Rattle.coefficients.specs.Blocks.{Filled, Read, quantiser, block, leftOver}
+use Rattle.coefficients.specs.Dcs.{dcInside}
+use Rattle.coefficients.proofs.block.BlockEnd.{the-type}
+use Rattle.coefficients.proofs.Sizes.{inside-small}
+use Rattle.lists.specs.Blocks.{blockOf, holdsBlock}
+use Rattle.lists.specs.Bytes.{part, sameBytes}
+use Rattle.lists.specs.Numbers.{numberAt}
+use Rattle.lists.proofs.Each.{both}
+use Rattle.prediction.specs.declared.place.Macroblock.{Macroblock}
+use Rattle.prediction.specs.Planes.{Inside, macroblocks}
+use Rattle.block_lists.specs.BlockList.{possible, placeOf, widthOf, matrixAt, written, endsAs, blockAgrees}
+use Rattle.block_lists.specs.Bounded.{bounded}
+use Rattle.block_lists.specs.MacroblockList.{macroblockAt}
+use Rattle.block_lists.specs.Planes.{noisy, laidOver}
+
+pub record Bounds (m : Macroblock) (predictor : ℤ) (scale start : ℕ) : Type 0 where
+  pub inside : Inside m
+  pub few : macroblocks m ≤ 10
+  pub predictor-inside : dcInside predictor ≡ true
+  pub scale-most : scale ≤ 31
+  pub start-most : start ≤ 512
+
+pub in-bounds : (m : Macroblock) (number intra : ℕ) (predictor : ℤ) (scale start : ℕ) → possible m number intra predictor scale start ≡ true → Bounds m predictor scale start
+unfolding possible
+in-bounds m number intra predictor scale start e =
+    let a = both _ (leb start 512) e in
+    let b = both _ (leb scale 31) (a .0) in
+    let d = both _ (leZ predictor (pos 255)) (b .0) in
+    let f = both _ (leZ (negℤ (pos 256)) predictor) (d .0) in
+    let g = both _ (leb intra 1) (f .0) in
+    let i = both _ (leb number 5) (g .0) in
+    let j = both _ (ltb (m .column) (m .across)) (i .0) in
+    let k = both _ (ltb (m .row) (m .down)) (j .0) in
+    let n = both (leb (m .across) 5) (leb (m .down) 2) (k .0) in
+    let x : m .across ≤ 5 = leb-true _ _ (n .0) in
+    let y : m .down ≤ 2 = leb-true _ _ (n .1) in
+    record {
+      inside = record { across = omega arith; down = omega arith; row = ltb-true _ _ (k .1); column = ltb-true _ _ (j .1) };
+      few = mul-le-mul x y;
+      predictor-inside = rw (f .1) (d .1);
+      scale-most = leb-true _ _ (b .1);
+      start-most = leb-true _ _ (a .1);
+    }
+
+-- a plane of a picture is at least one macroblock wide
+pub wide : {m : Macroblock} → Inside m → (number : ℕ) → 8 ≤ widthOf m number
+wide {m} h number = go (ltb number 4)
+  where
+    go : (b : Bool) → 8 ≤ cond b (m .across * 16) (m .across * 8)
+    go true = omega (arith, h .column)
+    go false = omega (arith, h .column)
+
+-- a block with an end other than the first of the three is not written
+pub not-written : (intra : Bool) (di dw : ℕ) (f : Filled) (p : ℤ) (e : BlockEnd) (d : List ℕ) → OneOf (1 ∷ 2 ∷ []) (tagOf the-type e)
+    → d ≡ written intra di dw (record { filled = f; predictor = p; end = e }) d
+unfolding written
+not-written intra di dw f p Whole d k = let z : ⊥ = ⊎-elim (λ h. omega arith) (λ h. omega arith) k in absurd z
+not-written intra di dw f p Dropped d k = refl
+not-written intra di dw f p Outside d k = refl
+
+-- a predictor as the code reads it
+pub inside-read : (x : ℤ) → dcInside x ≡ true → toZ w32 (ofZ w32 x) ≡ x
+inside-read x h = let b = abs-of (v x) (inside-small x h) in toZ-ofZ {w = w32} {z = x} (fits-by {w = w32} (v x) (omega (arith, b)) (omega (arith, b)))
+
+-- the five comparisons of a case
+pub ended : {p : Prog Read} (intra : Bool) (di dw a : ℕ) (l : List ℕ) {e n z m : ℕ} {r : Read} {t : Bool} {ours rust : List ℕ} {u : Bool} → Runs p (part l 360 64) a r e
+    → n ≡ numberAt l 424 → z ≡ ofZ w32 (r .predictor) → m ≡ numberAt l 428 → t ≡ holdsBlock (part l 432 256) (leftOver r)
+    → ours ≡ written intra di dw r (noisy (numberAt l 32) 2560) → rust ≡ laidOver di dw 8 (part l 688 64) (noisy (numberAt l 32) 2560) → u ≡ sameBytes ours rust
+    → (eqb e n && eqb z m && t && u) ≡ endsAs p intra di dw a l
+unfolding endsAs
+ended intra di dw a l h en ez em et eo er eu = rw (h .is, en, ez, em, et, eu, eo, er)
+
+-- what is read from a case
+pub record Reads (m : Macroblock) (number intra : ℕ) (predictor : ℤ) (scale start : ℕ) (left : List ℤ) (l : List ℕ) : Type 0 where
+  pub macroblock : m ≡ macroblockAt l
+  pub number-is : number ≡ numberAt l 16
+  pub intra-is : intra ≡ numberAt l 20
+  pub predictor-is : predictor ≡ toZ w32 (numberAt l 24)
+  pub scale-is : scale ≡ numberAt l 28
+  pub start-is : start ≡ numberAt l 36
+  pub left-is : left ≡ blockOf (part l 104 256)
+
+module _ (m : Macroblock) (number intra : ℕ) (predictor : ℤ) (scale start : ℕ) (left : List ℤ) {t : Bool} (is : t ≡ possible m number intra predictor scale start) {l : List ℕ}
+    (r : Reads m number intra predictor scale start left l) where
+  pub compared : t ≡ true → {u : Bool} → u ≡ bounded left → u ≡ true → {di dw : ℕ} → di ≡ placeOf m number → dw ≡ widthOf m number
+      → endsAs (block (quantiser (eqb intra 1) scale (matrixAt l)) (ltb number 4) predictor left) (eqb intra 1) di dw start l ≡ blockAgrees l
+  unfolding blockAgrees
+  compared e b f p w =
+      let is-there : t ≡ possible (macroblockAt l) number intra predictor scale start = is ∙ rw (r .macroblock) in
+      rw (p, w, r .macroblock, ← r .number-is, ← r .intra-is, ← r .predictor-is, ← r .scale-is, ← r .start-is, ← r .left-is, ← is-there, e, ← b, f)
+
+  pub too-large : t ≡ true → {u : Bool} → u ≡ bounded left → u ≡ false → false ≡ blockAgrees l
+  unfolding blockAgrees
+  too-large e b f =
+      rw (← r .macroblock, ← r .number-is, ← r .intra-is, ← r .predictor-is, ← r .scale-is, ← r .start-is, ← r .left-is, ← is, e, ← b, f)
+
+  pub refused : t ≡ false → false ≡ blockAgrees l
+  unfolding blockAgrees
+  refused e = rw (← r .macroblock, ← r .number-is, ← r .intra-is, ← r .predictor-is, ← r .scale-is, ← r .start-is, ← is, e)

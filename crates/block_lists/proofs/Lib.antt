@@ -1,0 +1,7 @@
+pub mod BlockCases
+pub mod InBounds
+pub mod Levels
+pub mod Macroblocks
+pub mod Noise
+pub mod Sizes
+pub mod Writers

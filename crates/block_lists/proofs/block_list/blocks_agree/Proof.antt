@@ -1,0 +1,126 @@
+use mathlib.Core.Path.{ap, sym, _∙_}
+use native.Mathlib.Omega.{arith}
+use mir.Syntax.{w32}
+use mir.Val.{ofZ, toZ}
+use mir.Facts.{toZ-ofZ}
+use Rattle.lists.specs.Blocks.{blockOf}
+use Rattle.block_lists.proofs.InBounds.{in-bounds as are-bounded}
+use Rattle.block_lists.proofs.BlockCases.{Bounds, Reads, in-bounds, wide, compared, too-large, refused}
+use borrow.Author.Needs.{needs, sfits-of}
+use Rattle.block_lists.proofs.block_list.blocks_agree.Statement.{statement}
+use Rattle.block_lists.proofs.block_list.blocks_agree.Tie as tie
+
+macroblock-at-requires : tie.Need-macroblock-at-requires
+macroblock-at-requires c κs = search needs
+
+number-at-requires : tie.Need-number-at-requires
+number-at-requires c κs = search needs
+
+number-at-requires-2 : tie.Need-number-at-requires-2
+number-at-requires-2 c κs = search needs
+
+number-at-requires-3 : tie.Need-number-at-requires-3
+number-at-requires-3 c κs = search needs
+
+signed-requires : tie.Need-signed-requires
+signed-requires c κs = search needs
+
+number-at-requires-4 : tie.Need-number-at-requires-4
+number-at-requires-4 c κs = search needs
+
+number-at-requires-5 : tie.Need-number-at-requires-5
+number-at-requires-5 c κs = search needs
+
+part-requires : tie.Need-part-requires
+part-requires c κs = search needs
+
+block-of-requires : tie.Need-block-of-requires
+block-of-requires c κs = search needs
+
+possible-requires : tie.Need-possible-requires
+possible-requires c κs = search needs
+
+bounded-requires : tie.Need-bounded-requires
+bounded-requires c κs = search needs
+
+cast-place-of : tie.Need-cast-place-of
+cast-place-of c = search needs
+
+-- what is read, and what is known of it, once it is possible. c is where the coefficients left over are read
+read : (c : tie.After-block-of) → Reads (c .before .before .before .before .before .before .before .before .macroblock-at .result) (c .before .before .before .before .before .before .before .number-at .result) (c .before .before .before .before .before .before .number-at2 .result) (toZ w32 (ofZ w32 (c .before .before .before .before .signed .result))) (c .before .before .before .number-at4 .result) (c .before .before .number-at5 .result) (c .block-of .result) (c .before .before .before .before .before .before .before .before .before .before .args .case .now)
+read c =
+    record {
+      macroblock = c .before .before .before .before .before .before .before .before .macroblock-at .ensures;
+      number-is = c .before .before .before .before .before .before .before .number-at .ensures;
+      intra-is = c .before .before .before .before .before .before .number-at2 .ensures;
+      predictor-is = toZ-ofZ {w = w32} (sfits-of (c .before .before .before .before .signed .ok)) ∙ c .before .before .before .before .signed .ensures ∙ ap (toZ w32) (c .before .before .before .before .before .number-at3 .ensures);
+      scale-is = c .before .before .before .number-at4 .ensures;
+      start-is = c .before .before .number-at5 .ensures;
+      left-is = c .block-of .ensures ∙ ap blockOf (c .before .part .ensures);
+    }
+
+within : (c : tie.Then1) → let b = c .before .before in Bounds (b .before .before .before .before .before .before .before .before .macroblock-at .result) (toZ w32 (ofZ w32 (b .before .before .before .before .signed .result))) (b .before .before .before .number-at4 .result) (b .before .before .number-at5 .result)
+within c = in-bounds _ _ _ _ _ _ (sym (c .before .possible .ensures) ∙ c .if1 .taken)
+
+place-of-requires : tie.Need-place-of-requires
+place-of-requires c κs = within (c .before .before .before) .inside
+
+cast-width-of : tie.Need-cast-width-of
+cast-width-of c = search needs
+
+width-of-requires : tie.Need-width-of-requires
+width-of-requires c κs = within (c .before .before .before .before) .inside
+
+cast-ends-as : tie.Need-cast-ends-as
+cast-ends-as c = search needs
+
+ends-as-requires : tie.Need-ends-as-requires
+ends-as-requires c κs =
+    let h = within (c .before .before .before .before .before) in
+    let e = c .width-of .ensures in
+    let n = c .before .before .before .before .before .before .before .before .before .before .before .before .before .before .number-at .result in (
+      (rw e (wide (h .inside) n), rw e (omega (arith, c .before .place-of .ensures .1, h .few))),
+      (
+        (h .start-most, h .scale-most, h .predictor-inside),
+        are-bounded _ (sym (c .before .before .before .bounded .ensures) ∙ c .before .before .if2 .taken),
+      ),
+    )
+
+returns : tie.Need-returns
+returns c =
+    let t = c .before .before .before .before .before .before in
+    c .ends-as .ensures
+    ∙ compared _ _ _ _ _ _ _ (t .before .possible .ensures) (read (t .before .before)) (t .if1 .taken) (c .before .before .before .before .bounded .ensures) (c .before .before .before .if2 .taken) (c .before .before .place-of .ensures .0) (c .before .width-of .ensures)
+
+returns-2 : tie.Need-returns-2
+returns-2 c =
+    let t = c .before .before .before in
+    too-large _ _ _ _ _ _ _ (t .before .possible .ensures) (read (t .before .before)) (t .if1 .taken) (c .before .bounded .ensures) (c .if2 .left)
+
+returns-3 : tie.Need-returns-3
+returns-3 c = refused _ _ _ _ _ _ _ (c .before .possible .ensures) (read (c .before .before)) (c .if1 .left)
+
+pub blocks-agree-spec : {M : Type 1} → statement M
+blocks-agree-spec =
+    tie.close
+    (tie.spec
+    macroblock-at-requires
+    number-at-requires
+    number-at-requires-2
+    number-at-requires-3
+    signed-requires
+    number-at-requires-4
+    number-at-requires-5
+    part-requires
+    block-of-requires
+    possible-requires
+    bounded-requires
+    cast-place-of
+    place-of-requires
+    cast-width-of
+    width-of-requires
+    cast-ends-as
+    ends-as-requires
+    returns
+    returns-2
+    returns-3)

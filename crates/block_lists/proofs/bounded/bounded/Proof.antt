@@ -1,0 +1,86 @@
+use mathlib.Core.Path.{_≡_, ap, sym, _∙_}
+use mathlib.Core.Bool.{not, Bool·not-not}
+use Prim.Native.Nat.{_-_}
+use native.Mathlib.Omega.{arith}
+use borrow.Author.Needs.{sfits-of}
+use mir.Syntax.{w32}
+use mir.Facts.{toZ-ofZ}
+use Rattle.coefficients.proofs.Bounds.{premultiplier-small, premultiplier-read}
+use Rattle.lists.proofs.Each.{Passed, passed-none, passed-one, passed-fails, passed-all}
+use Rattle.block_lists.specs.Bounded.{withinAt, bounded}
+use Rattle.block_lists.proofs.bounded.bounded.Statement.{statement}
+use Rattle.block_lists.proofs.bounded.bounded.Tie as tie
+
+abbrev Inv-loop : tie.InvT-loop
+Inv-loop block premultipliers i₀ i = Passed (withinAt block) 64 i
+
+abbrev μ-loop : tie.MeasureT-loop
+μ-loop block premultipliers i₀ i = 64 - i
+
+premultiplier-matrix-requires : tie.Need-premultiplier-matrix-requires Inv-loop μ-loop
+premultiplier-matrix-requires c κs = tt
+
+loop-holds : tie.Need-loop-holds Inv-loop μ-loop
+loop-holds c = passed-none
+
+mul-premultiplier : tie.Need-mul-premultiplier Inv-loop μ-loop
+mul-premultiplier c = omega arith
+
+array-copy-out-premultiplier : tie.Need-array-copy-out-premultiplier Inv-loop μ-loop
+array-copy-out-premultiplier c = omega arith
+
+mul-z : tie.Need-mul-z Inv-loop μ-loop
+mul-z c = omega arith
+
+element-copy-out-z : tie.Need-element-copy-out-z Inv-loop μ-loop
+element-copy-out-z c = omega arith
+
+tested : (c : tie.After-within Inv-loop μ-loop) → c .within .result ≡ withinAt (c .before .before .before .before .before .before .args .block .now) (c .before .before .before .before .loop .i)
+tested c =
+    let l = c .before .before .before .before in
+    c .within .ensures ∙ rw (premultiplier-read (l .before .premultiplier-matrix .ensures) (l .loop .i), toZ-ofZ {w = w32} (sfits-of (c .before .z .given)))
+
+within-requires : tie.Need-within-requires Inv-loop μ-loop
+within-requires c κs =
+    let l = c .before .before .before in
+    rw (premultiplier-read (l .before .premultiplier-matrix .ensures) (l .loop .i)) (premultiplier-small (l .loop .i))
+
+returns : tie.Need-returns Inv-loop μ-loop
+unfolding bounded
+returns c =
+    let t = c .before .before .before .before in
+    passed-fails (t .before .loop .inv) (t .loop-test .taken) (sym (tested (c .before)) ∙ sym (Bool·not-not _) ∙ ap not (c .if1 .taken))
+
+add-i : tie.Need-add-i Inv-loop μ-loop
+add-i c = omega arith
+
+loop-less : tie.Need-loop-less Inv-loop μ-loop
+loop-less c = omega arith
+
+loop-again : tie.Need-loop-again Inv-loop μ-loop
+loop-again c =
+    let t = c .before .before .before .before in
+    passed-one (t .before .loop .inv) (t .loop-test .taken) (sym (tested (c .before)) ∙ sym (Bool·not-not _) ∙ ap not (c .if1 .left))
+
+returns-2 : tie.Need-returns-2 Inv-loop μ-loop
+unfolding bounded
+returns-2 c = passed-all (c .before .loop .inv) (c .loop-test .left)
+
+pub bounded-spec : {M : Type 1} → statement M
+bounded-spec =
+    tie.close
+    (tie.spec
+    Inv-loop
+    μ-loop
+    premultiplier-matrix-requires
+    loop-holds
+    mul-premultiplier
+    array-copy-out-premultiplier
+    mul-z
+    element-copy-out-z
+    within-requires
+    returns
+    add-i
+    loop-less
+    loop-again
+    returns-2)

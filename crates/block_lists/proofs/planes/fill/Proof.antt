@@ -1,0 +1,54 @@
+-- `planes::fill` meets its contract: each turn of the loop writes one byte of the noise.
+use mathlib.Core.Path.{_≡_, refl, ap, sym, _∙_}
+use Prim.Native.Nat.{ℕ, _+_, _-_, _≤_}
+use native.Mathlib.Nat.{zero-add}
+use native.Mathlib.Omega.{arith}
+use denote.Ref.{now}
+use lib.ListN.{length, set}
+use Rattle.laws.specs.Stores.{storeRow}
+use Rattle.laws.proofs.Lists.{length-row, row-on}
+use Rattle.block_lists.specs.Planes.{noise}
+use Rattle.block_lists.proofs.planes.fill.Statement.{statement}
+use Rattle.block_lists.proofs.planes.fill.Tie as tie
+
+abbrev Inv-loop : tie.InvT-loop
+Inv-loop d₀ seed i₀ d i = (i ≤ length d₀) × (length d ≡ length d₀) × (d ≡ storeRow d₀ 0 (noise seed) i)
+
+abbrev μ-loop : tie.MeasureT-loop
+μ-loop d₀ seed i₀ d i = length d₀ - i
+
+loop-holds : tie.Need-loop-holds Inv-loop μ-loop
+unfolding storeRow
+loop-holds c = (omega arith, refl, refl)
+
+noise-requires : tie.Need-noise-requires Inv-loop μ-loop
+noise-requires c κs = tt
+
+slice-write-d : tie.Need-slice-write-d Inv-loop μ-loop
+slice-write-d c = omega arith
+
+add-i : tie.Need-add-i Inv-loop μ-loop
+add-i c = omega arith
+
+loop-less : tie.Need-loop-less Inv-loop μ-loop
+loop-less c = omega arith
+
+loop-again : tie.Need-loop-again Inv-loop μ-loop
+loop-again c =
+    let l = c .before .before in
+    let d = l .before .before .args .d .now in
+    let e = ap (λ (n : ℕ). set (l .loop .d) n (c .noise .result)) (sym (zero-add (l .loop .i))) ∙ row-on d 0 (noise (l .before .before .args .seed)) (l .loop .i) (l .loop .inv .2) (c .noise .ensures) in
+    (omega arith, ap length e ∙ length-row d 0 (noise (l .before .before .args .seed)) (l .loop .i + 1), e)
+
+same-length : tie.Need-same-length Inv-loop μ-loop
+same-length c = omega arith
+
+returns : tie.Need-returns Inv-loop μ-loop
+returns c =
+    let l = c .before in
+    let a = l .before .before .args in
+    let e : l .loop .i ≡ length (now (a .d)) = omega arith in
+    l .loop .inv .2 ∙ ap (storeRow (now (a .d)) 0 (noise (a .seed))) e
+
+pub fill-spec : {M : Type 1} → statement M
+fill-spec = tie.close (tie.spec Inv-loop μ-loop loop-holds noise-requires slice-write-d add-i loop-less loop-again same-length returns)

@@ -1,0 +1,31 @@
+use Prim.Native.Nat.{ℕ, _+_, _*_, _%_, _≤_}
+use native.Mathlib.Nat.{mul-le-mul}
+use native.Mathlib.Omega.{arith}
+use borrow.Author.Needs.{needs}
+use Rattle.block_lists.specs.Planes.{noise}
+use Rattle.block_lists.proofs.planes.noise.Statement.{statement}
+use Rattle.block_lists.proofs.planes.noise.Tie as tie
+
+square : (i seed : ℕ) → (i % 65536 + seed % 65536) * (i % 65536 + seed % 65536) ≤ 131070 * 131070
+square i seed =
+    let h : i % 65536 + seed % 65536 ≤ 131070 = omega arith in
+    mul-le-mul h h
+
+add-x : tie.Need-add-x
+add-x c = search needs
+
+mul-result : tie.Need-mul-result
+mul-result c = omega (arith, square (c .args .i) (c .args .seed))
+
+mul-result-2 : tie.Need-mul-result-2
+mul-result-2 c = omega (arith, square (c .args .i) (c .args .seed))
+
+cast-result : tie.Need-cast-result
+cast-result c = search needs
+
+returns : tie.Need-returns
+unfolding noise
+returns c = search needs
+
+pub noise-spec : {M : Type 1} → statement M
+noise-spec = tie.close (tie.spec add-x mul-result mul-result-2 cast-result returns)

@@ -1,0 +1,63 @@
+-- `planes::overlaid` meets its contract: the tests say whether the byte lies in the block.
+use mathlib.Core.Path.{_∙_}
+use Prim.Native.Nat.{_*_, _≤_}
+use native.Mathlib.Nat.{mul-le-mul}
+use native.Mathlib.Omega.{arith}
+use borrow.Author.Needs.{needs}
+use borrow.Author.Tests.{lt-ltb, le-ltb, le-leb, lt-leb}
+use Rattle.block_lists.specs.Planes.{overlaid}
+use Rattle.prediction.specs.Blocks.{rowOf, columnOf}
+use Rattle.block_lists.proofs.planes.overlaid.Statement.{statement}
+use Rattle.block_lists.proofs.planes.overlaid.Tie as tie
+
+returns : tie.Need-returns
+unfolding overlaid
+returns c = rw (le-ltb 0 (c .before .before .args .dw) (omega arith))
+
+returns-2 : tie.Need-returns-2
+unfolding overlaid
+returns-2 c = let a = c .before .before .before .args in rw (lt-ltb 0 (a .dw) (omega arith), lt-leb (a .at) (a .k) (c .if2 .taken))
+
+div-row : tie.Need-div-row
+div-row c = search needs
+
+rem-column : tie.Need-rem-column
+rem-column c = search needs
+
+returns-3 : tie.Need-returns-3
+unfolding overlaid
+returns-3 c = let a = c .before .before .before .before .args in rw (lt-ltb 0 (a .dw) (omega arith), le-leb (a .at) (a .k) (omega arith), le-ltb (rowOf (a .at) (a .dw) (a .k)) (a .size) (c .if3 .taken))
+
+returns-4 : tie.Need-returns-4
+unfolding overlaid
+returns-4 c = let a = c .before .before .before .before .before .args in rw (lt-ltb 0 (a .dw) (omega arith), le-leb (a .at) (a .k) (omega arith), lt-ltb (rowOf (a .at) (a .dw) (a .k)) (a .size) (c .before .if3 .left), le-ltb (columnOf (a .at) (a .dw) (a .k)) (a .size) (c .if4 .taken))
+
+product : (c : tie.Else4) → let a = c .before .before .before .before .before .args in rowOf (a .at) (a .dw) (a .k) * a .size ≤ 255 * 255
+product c =
+    let a = c .before .before .before .before .before .args in
+    let h : a .size ≤ 255 = omega arith in
+    let g : rowOf (a .at) (a .dw) (a .k) ≤ 255 = omega arith in
+    mul-le-mul g h
+
+mul-byte-at : tie.Need-mul-byte-at
+mul-byte-at c = omega (arith, product c)
+
+add-byte-at : tie.Need-add-byte-at
+add-byte-at c = omega (arith, product c)
+
+byte-at-requires : tie.Need-byte-at-requires
+byte-at-requires c κs = search needs
+
+cast-result : tie.Need-cast-result
+cast-result c = omega (arith, c .byte-at .ensures .1)
+
+returns-5 : tie.Need-returns-5
+unfolding overlaid
+returns-5 c =
+    let b = c .before in
+    let a = b .before .before .before .before .before .args in
+    c .byte-at .ensures .0
+    ∙ rw (lt-ltb 0 (a .dw) (omega arith), le-leb (a .at) (a .k) (omega arith), lt-ltb (rowOf (a .at) (a .dw) (a .k)) (a .size) (b .before .if3 .left), lt-ltb (columnOf (a .at) (a .dw) (a .k)) (a .size) (b .if4 .left))
+
+pub overlaid-spec : {M : Type 1} → statement M
+overlaid-spec = tie.close (tie.spec returns returns-2 div-row rem-column returns-3 returns-4 mul-byte-at add-byte-at byte-at-requires cast-result returns-5)

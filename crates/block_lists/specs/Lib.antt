@@ -1,0 +1,7 @@
+pub mod BlockList
+pub mod Bounded
+pub mod DequantisedList
+pub mod MacroblockList
+pub mod Planes
+pub mod TransformList
+pub mod WriterList
