@@ -10,42 +10,6 @@ use borrow.Author.Needs.{needs, sfits-of}
 use Rattle.block_lists.proofs.block_list.blocks_agree.Statement.{statement}
 use Rattle.block_lists.proofs.block_list.blocks_agree.Tie as tie
 
-macroblock-at-requires : tie.Need-macroblock-at-requires
-macroblock-at-requires c κs = search needs
-
-number-at-requires : tie.Need-number-at-requires
-number-at-requires c κs = search needs
-
-number-at-requires-2 : tie.Need-number-at-requires-2
-number-at-requires-2 c κs = search needs
-
-number-at-requires-3 : tie.Need-number-at-requires-3
-number-at-requires-3 c κs = search needs
-
-signed-requires : tie.Need-signed-requires
-signed-requires c κs = search needs
-
-number-at-requires-4 : tie.Need-number-at-requires-4
-number-at-requires-4 c κs = search needs
-
-number-at-requires-5 : tie.Need-number-at-requires-5
-number-at-requires-5 c κs = search needs
-
-part-requires : tie.Need-part-requires
-part-requires c κs = search needs
-
-block-of-requires : tie.Need-block-of-requires
-block-of-requires c κs = search needs
-
-possible-requires : tie.Need-possible-requires
-possible-requires c κs = search needs
-
-bounded-requires : tie.Need-bounded-requires
-bounded-requires c κs = search needs
-
-cast-place-of : tie.Need-cast-place-of
-cast-place-of c = search needs
-
 -- what is read, and what is known of it, once it is possible. c is where the coefficients left over are read
 read : (c : tie.After-block-of) → Reads (c .before .before .before .before .before .before .before .before .macroblock-at .result) (c .before .before .before .before .before .before .before .number-at .result) (c .before .before .before .before .before .before .number-at2 .result) (toZ w32 (ofZ w32 (c .before .before .before .before .signed .result))) (c .before .before .before .number-at4 .result) (c .before .before .number-at5 .result) (c .block-of .result) (c .before .before .before .before .before .before .before .before .before .before .args .case .now)
 read c =
@@ -65,14 +29,8 @@ within c = in-bounds _ _ _ _ _ _ (sym (c .before .possible .ensures) ∙ c .if1 
 place-of-requires : tie.Need-place-of-requires
 place-of-requires c κs = within (c .before .before .before) .inside
 
-cast-width-of : tie.Need-cast-width-of
-cast-width-of c = search needs
-
 width-of-requires : tie.Need-width-of-requires
 width-of-requires c κs = within (c .before .before .before .before) .inside
-
-cast-ends-as : tie.Need-cast-ends-as
-cast-ends-as c = search needs
 
 ends-as-requires : tie.Need-ends-as-requires
 ends-as-requires c κs =
@@ -104,22 +62,22 @@ pub blocks-agree-spec : {M : Type 1} → statement M
 blocks-agree-spec =
     tie.close
     (tie.spec
-    macroblock-at-requires
-    number-at-requires
-    number-at-requires-2
-    number-at-requires-3
-    signed-requires
-    number-at-requires-4
-    number-at-requires-5
-    part-requires
-    block-of-requires
-    possible-requires
-    bounded-requires
-    cast-place-of
+    (λ c κs. search needs)
+    (λ c κs. search needs)
+    (λ c κs. search needs)
+    (λ c κs. search needs)
+    (λ c κs. search needs)
+    (λ c κs. search needs)
+    (λ c κs. search needs)
+    (λ c κs. search needs)
+    (λ c κs. search needs)
+    (λ c κs. search needs)
+    (λ c κs. search needs)
+    (λ c. search needs)
     place-of-requires
-    cast-width-of
+    (λ c. search needs)
     width-of-requires
-    cast-ends-as
+    (λ c. search needs)
     ends-as-requires
     returns
     returns-2

@@ -4,17 +4,11 @@ use borrow.Author.Needs.{needs}
 use Rattle.block_lists.proofs.block_list.place_of.Statement.{statement}
 use Rattle.block_lists.proofs.block_list.place_of.Tie as tie
 
-luma-place-requires : tie.Need-luma-place-requires
-luma-place-requires c κs = search needs
-
 returns : tie.Need-returns
 returns c = rw (lt-ltb (c .before .before .args .number) 4 (c .before .if1 .taken)) (c .luma-place .ensures)
-
-chroma-place-requires : tie.Need-chroma-place-requires
-chroma-place-requires c κs = search needs
 
 returns-2 : tie.Need-returns-2
 returns-2 c = rw (le-ltb (c .before .before .args .number) 4 (c .before .if1 .left)) (c .chroma-place .ensures .0, omega (arith, c .chroma-place .ensures .1))
 
 pub place-of-spec : {M : Type 1} → statement M
-place-of-spec = tie.close (tie.spec luma-place-requires returns chroma-place-requires returns-2)
+place-of-spec = tie.close (tie.spec (λ c κs. search needs) returns (λ c κs. search needs) returns-2)

@@ -8,24 +8,6 @@ use borrow.Author.Needs.{needs}
 use Rattle.block_lists.proofs.block_list.read.Statement.{statement}
 use Rattle.block_lists.proofs.block_list.read.Tie as tie
 
-zig-zag-requires : tie.Need-zig-zag-requires
-zig-zag-requires c κs = search needs
-
-premultiplier-matrix-requires : tie.Need-premultiplier-matrix-requires
-premultiplier-matrix-requires c κs = search needs
-
-matrix-at-requires : tie.Need-matrix-at-requires
-matrix-at-requires c κs = search needs
-
-part-requires : tie.Need-part-requires
-part-requires c κs = search needs
-
-slice-aggregate-read-block : tie.Need-slice-aggregate-read-block
-slice-aggregate-read-block c = search needs
-
-slice-aggregate-read-block-2 : tie.Need-slice-aggregate-read-block-2
-slice-aggregate-read-block-2 c = search needs
-
 read-block-requires : tie.Need-read-block-requires
 unfolding dctCoeffIndex dctCoeffValue
 read-block-requires c κs =
@@ -53,11 +35,11 @@ pub read-spec : {M : Type 1} → statement M
 read-spec =
     tie.close
     (tie.spec
-    zig-zag-requires
-    premultiplier-matrix-requires
-    matrix-at-requires
-    part-requires
-    slice-aggregate-read-block
-    slice-aggregate-read-block-2
+    (λ c κs. search needs)
+    (λ c κs. search needs)
+    (λ c κs. search needs)
+    (λ c κs. search needs)
+    (λ c. search needs)
+    (λ c. search needs)
     read-block-requires
     returns)

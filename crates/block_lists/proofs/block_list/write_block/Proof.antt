@@ -9,12 +9,6 @@ use Rattle.block_lists.proofs.block_list.write_block.Tie as tie
 enum-told : tie.Need-enum-told
 enum-told c = search needs
 
-write-results-requires : tie.Need-write-results-requires
-write-results-requires c κs = search needs
-
-same-length : tie.Need-same-length
-same-length c = search needs
-
 returns : tie.Need-returns
 unfolding written
 returns c = rw (c .before .before .before .before .enum-told .given .1) (c .before .before .write-results .ensures)
@@ -24,4 +18,4 @@ returns-2 c = let a = c .before .before .args in not-written (a .intra) (a .di) 
 
 pub write-block-spec : {M : Type 1} → statement M
 write-block-spec =
-    tie.close (tie.spec enum-told write-results-requires same-length returns returns-2)
+    tie.close (tie.spec enum-told (λ c κs. search needs) (λ c. search needs) returns returns-2)

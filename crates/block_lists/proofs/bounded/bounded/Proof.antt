@@ -17,24 +17,6 @@ Inv-loop block premultipliers i₀ i = Passed (withinAt block) 64 i
 abbrev μ-loop : tie.MeasureT-loop
 μ-loop block premultipliers i₀ i = 64 - i
 
-premultiplier-matrix-requires : tie.Need-premultiplier-matrix-requires Inv-loop μ-loop
-premultiplier-matrix-requires c κs = tt
-
-loop-holds : tie.Need-loop-holds Inv-loop μ-loop
-loop-holds c = passed-none
-
-mul-premultiplier : tie.Need-mul-premultiplier Inv-loop μ-loop
-mul-premultiplier c = omega arith
-
-array-copy-out-premultiplier : tie.Need-array-copy-out-premultiplier Inv-loop μ-loop
-array-copy-out-premultiplier c = omega arith
-
-mul-z : tie.Need-mul-z Inv-loop μ-loop
-mul-z c = omega arith
-
-element-copy-out-z : tie.Need-element-copy-out-z Inv-loop μ-loop
-element-copy-out-z c = omega arith
-
 tested : (c : tie.After-within Inv-loop μ-loop) → c .within .result ≡ withinAt (c .before .before .before .before .before .before .args .block .now) (c .before .before .before .before .loop .i)
 tested c =
     let l = c .before .before .before .before in
@@ -51,12 +33,6 @@ returns c =
     let t = c .before .before .before .before in
     passed-fails (t .before .loop .inv) (t .loop-test .taken) (sym (tested (c .before)) ∙ sym (Bool·not-not _) ∙ ap not (c .if1 .taken))
 
-add-i : tie.Need-add-i Inv-loop μ-loop
-add-i c = omega arith
-
-loop-less : tie.Need-loop-less Inv-loop μ-loop
-loop-less c = omega arith
-
 loop-again : tie.Need-loop-again Inv-loop μ-loop
 loop-again c =
     let t = c .before .before .before .before in
@@ -72,15 +48,15 @@ bounded-spec =
     (tie.spec
     Inv-loop
     μ-loop
-    premultiplier-matrix-requires
-    loop-holds
-    mul-premultiplier
-    array-copy-out-premultiplier
-    mul-z
-    element-copy-out-z
+    (λ c κs. tt)
+    (λ c. passed-none)
+    (λ c. omega arith)
+    (λ c. omega arith)
+    (λ c. omega arith)
+    (λ c. omega arith)
     within-requires
     returns
-    add-i
-    loop-less
+    (λ c. omega arith)
+    (λ c. omega arith)
     loop-again
     returns-2)

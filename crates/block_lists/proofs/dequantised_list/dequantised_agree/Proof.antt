@@ -6,18 +6,6 @@ use borrow.Author.Needs.{needs}
 use Rattle.block_lists.proofs.dequantised_list.dequantised_agree.Statement.{statement}
 use Rattle.block_lists.proofs.dequantised_list.dequantised_agree.Tie as tie
 
-number-at-requires : tie.Need-number-at-requires
-number-at-requires c κs = search needs
-
-number-at-requires-2 : tie.Need-number-at-requires-2
-number-at-requires-2 c κs = search needs
-
-number-at-requires-3 : tie.Need-number-at-requires-3
-number-at-requires-3 c κs = search needs
-
-possible-requires : tie.Need-possible-requires
-possible-requires c κs = search needs
-
 cast-same-levels : tie.Need-cast-same-levels
 cast-same-levels c = omega (arith, in-bounds _ _ _ (sym (c .before .possible .ensures) ∙ c .if1 .taken) .1)
 
@@ -40,10 +28,10 @@ pub dequantised-agree-spec : {M : Type 1} → statement M
 dequantised-agree-spec =
     tie.close
     (tie.spec
-    number-at-requires
-    number-at-requires-2
-    number-at-requires-3
-    possible-requires
+    (λ c κs. search needs)
+    (λ c κs. search needs)
+    (λ c κs. search needs)
+    (λ c κs. search needs)
     cast-same-levels
     same-levels-requires
     returns

@@ -6,41 +6,11 @@ use Rattle.block_lists.proofs.Levels.{level-fits, level-is, level-small
 use Rattle.block_lists.proofs.dequantised_list.same_level.Statement.{statement}
 use Rattle.block_lists.proofs.dequantised_list.same_level.Tie as tie
 
-cast-level : tie.Need-cast-level
-cast-level c = search needs
-
 sub-level : tie.Need-sub-level
 sub-level c = level-fits (c .before .args .k) (c .before .pre .1)
 
 dequantise-requires : tie.Need-dequantise-requires
 dequantise-requires c κs = let s = c .before in (rw (level-is (s .args .k) (s .pre .1)) (level-small (s .args .k) (s .pre .1)), s .pre .0)
-
-held-requires : tie.Need-held-requires
-held-requires c κs = search needs
-
-mul-byte-at : tie.Need-mul-byte-at
-mul-byte-at c = search needs
-
-add-byte-at : tie.Need-add-byte-at
-add-byte-at c = search needs
-
-byte-at-requires : tie.Need-byte-at-requires
-byte-at-requires c κs = search needs
-
-mul-result : tie.Need-mul-result
-mul-result c = search needs
-
-mul-byte-at-2 : tie.Need-mul-byte-at-2
-mul-byte-at-2 c = search needs
-
-add-byte-at-2 : tie.Need-add-byte-at-2
-add-byte-at-2 c = search needs
-
-byte-at-requires-2 : tie.Need-byte-at-requires-2
-byte-at-requires-2 c κs = search needs
-
-add-result : tie.Need-add-result
-add-result c = search needs
 
 returns : tie.Need-returns
 unfolding sameLevel
@@ -54,16 +24,16 @@ pub same-level-spec : {M : Type 1} → statement M
 same-level-spec =
     tie.close
     (tie.spec
-    cast-level
+    (λ c. search needs)
     sub-level
     dequantise-requires
-    held-requires
-    mul-byte-at
-    add-byte-at
-    byte-at-requires
-    mul-result
-    mul-byte-at-2
-    add-byte-at-2
-    byte-at-requires-2
-    add-result
+    (λ c κs. search needs)
+    (λ c. search needs)
+    (λ c. search needs)
+    (λ c κs. search needs)
+    (λ c. search needs)
+    (λ c. search needs)
+    (λ c. search needs)
+    (λ c κs. search needs)
+    (λ c. search needs)
     returns)

@@ -13,9 +13,6 @@ Inv-loop case intra scale entry k₀ k = Passed (sameLevel intra scale entry cas
 abbrev μ-loop : tie.MeasureT-loop
 μ-loop case intra scale entry k₀ k = 512 - k
 
-loop-holds : tie.Need-loop-holds Inv-loop μ-loop
-loop-holds c = passed-none
-
 same-level-requires : tie.Need-same-level-requires Inv-loop μ-loop
 same-level-requires c κs = (c .before .before .before .pre, c .loop-test .taken)
 
@@ -24,12 +21,6 @@ unfolding sameLevels
 returns c =
     let t = c .before .before in
     passed-fails (t .before .loop .inv) (t .loop-test .taken) (sym (c .before .same-level .ensures) ∙ sym (Bool·not-not _) ∙ ap not (c .if1 .taken))
-
-add-k : tie.Need-add-k Inv-loop μ-loop
-add-k c = omega arith
-
-loop-less : tie.Need-loop-less Inv-loop μ-loop
-loop-less c = omega arith
 
 loop-again : tie.Need-loop-again Inv-loop μ-loop
 loop-again c =
@@ -41,4 +32,4 @@ unfolding sameLevels
 returns-2 c = passed-all (c .before .loop .inv) (c .loop-test .left)
 
 pub same-levels-spec : {M : Type 1} → statement M
-same-levels-spec = tie.close (tie.spec Inv-loop μ-loop loop-holds same-level-requires returns add-k loop-less loop-again returns-2)
+same-levels-spec = tie.close (tie.spec Inv-loop μ-loop (λ c. passed-none) same-level-requires returns (λ c. omega arith) (λ c. omega arith) loop-again returns-2)

@@ -9,17 +9,11 @@ use borrow.Author.Needs.{needs}
 use Rattle.block_lists.proofs.macroblock_list.lay_in.Statement.{statement}
 use Rattle.block_lists.proofs.macroblock_list.lay_in.Tie as tie
 
-block-size-requires : tie.Need-block-size-requires
-block-size-requires c κs = search needs
-
 mul-plane-start : tie.Need-mul-plane-start
 mul-plane-start c = omega (arith, count-most (c .before .before .before .before .pre .0))
 
 plane-start-requires : tie.Need-plane-start-requires
 plane-start-requires c κs = let s = c .before .before .before .before in (s .pre .1, count-most (s .pre .0))
-
-block-requires : tie.Need-block-requires
-block-requires c κs = search needs
 
 address-requires : tie.Need-address-requires
 address-requires c κs =
@@ -48,12 +42,6 @@ cast-lay-over c =
     let z = c .before .before .before .before .before .before in
     omega (arith, block-most (z .before .before .before .args .q), z .block-size .ensures)
 
-lay-over-requires : tie.Need-lay-over-requires
-lay-over-requires c κs = search needs
-
-same-length : tie.Need-same-length
-same-length c = search needs
-
 returns : tie.Need-returns
 returns c =
     let p = c .before .before .before .before .before in
@@ -63,14 +51,14 @@ pub lay-in-spec : {M : Type 1} → statement M
 lay-in-spec =
     tie.close
     (tie.spec
-    block-size-requires
+    (λ c κs. search needs)
     mul-plane-start
     plane-start-requires
-    block-requires
+    (λ c κs. search needs)
     address-requires
     add-at
     mul-lay-over
     cast-lay-over
-    lay-over-requires
-    same-length
+    (λ c κs. search needs)
+    (λ c. search needs)
     returns)

@@ -7,39 +7,6 @@ use borrow.Author.Needs.{needs, sfits-of}
 use Rattle.block_lists.proofs.macroblock_list.macroblocks_agree.Statement.{statement}
 use Rattle.block_lists.proofs.macroblock_list.macroblocks_agree.Tie as tie
 
-macroblock-at-requires : tie.Need-macroblock-at-requires
-macroblock-at-requires c κs = search needs
-
-number-at-requires : tie.Need-number-at-requires
-number-at-requires c κs = search needs
-
-cast-from : tie.Need-cast-from
-cast-from c = search needs
-
-number-at-requires-2 : tie.Need-number-at-requires-2
-number-at-requires-2 c κs = search needs
-
-cast-to : tie.Need-cast-to
-cast-to c = search needs
-
-number-at-requires-3 : tie.Need-number-at-requires-3
-number-at-requires-3 c κs = search needs
-
-signed-requires : tie.Need-signed-requires
-signed-requires c κs = search needs
-
-number-at-requires-4 : tie.Need-number-at-requires-4
-number-at-requires-4 c κs = search needs
-
-signed-requires-2 : tie.Need-signed-requires-2
-signed-requires-2 c κs = search needs
-
-number-at-requires-5 : tie.Need-number-at-requires-5
-number-at-requires-5 c κs = search needs
-
-possible-requires : tie.Need-possible-requires
-possible-requires c κs = search needs
-
 read : (c : tie.After-number-at5) → Reads (c .before .before .before .before .before .before .before .macroblock-at .result) (c .before .before .before .before .before .before .number-at .result) (c .before .before .before .before .before .number-at2 .result) (toZ w32 (ofZ w32 (c .before .before .before .signed .result))) (toZ w32 (ofZ w32 (c .before .signed2 .result))) (c .number-at5 .result) (c .before .before .before .before .before .before .before .before .before .args .case .now)
 read c =
     record {
@@ -64,17 +31,17 @@ pub macroblocks-agree-spec : {M : Type 1} → statement M
 macroblocks-agree-spec =
     tie.close
     (tie.spec
-    macroblock-at-requires
-    number-at-requires
-    cast-from
-    number-at-requires-2
-    cast-to
-    number-at-requires-3
-    signed-requires
-    number-at-requires-4
-    signed-requires-2
-    number-at-requires-5
-    possible-requires
+    (λ c κs. search needs)
+    (λ c κs. search needs)
+    (λ c. search needs)
+    (λ c κs. search needs)
+    (λ c. search needs)
+    (λ c κs. search needs)
+    (λ c κs. search needs)
+    (λ c κs. search needs)
+    (λ c κs. search needs)
+    (λ c κs. search needs)
+    (λ c κs. search needs)
     ends-as-requires
     returns
     returns-2)

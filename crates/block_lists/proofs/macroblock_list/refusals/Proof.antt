@@ -7,9 +7,6 @@ use Rattle.block_lists.proofs.macroblock_list.refusals.Tie as tie
 enum-told : tie.Need-enum-told
 enum-told c = search needs
 
-enum-told-2 : tie.Need-enum-told-2
-enum-told-2 c = search needs
-
 returns : tie.Need-returns
 unfolding refusals
 returns c = ap refusals (sym (c .enum-told .given .1))
@@ -19,4 +16,4 @@ unfolding refusals
 returns-2 c = ap refusals (sym (c .enum-told2 .given .1))
 
 pub refusals-spec : {M : Type 1} → statement M
-refusals-spec = tie.close (tie.spec enum-told enum-told-2 returns returns-2)
+refusals-spec = tie.close (tie.spec enum-told (λ c. search needs) returns returns-2)

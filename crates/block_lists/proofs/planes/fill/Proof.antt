@@ -21,27 +21,12 @@ loop-holds : tie.Need-loop-holds Inv-loop μ-loop
 unfolding storeRow
 loop-holds c = (omega arith, refl, refl)
 
-noise-requires : tie.Need-noise-requires Inv-loop μ-loop
-noise-requires c κs = tt
-
-slice-write-d : tie.Need-slice-write-d Inv-loop μ-loop
-slice-write-d c = omega arith
-
-add-i : tie.Need-add-i Inv-loop μ-loop
-add-i c = omega arith
-
-loop-less : tie.Need-loop-less Inv-loop μ-loop
-loop-less c = omega arith
-
 loop-again : tie.Need-loop-again Inv-loop μ-loop
 loop-again c =
     let l = c .before .before in
     let d = l .before .before .args .d .now in
     let e = ap (λ (n : ℕ). set (l .loop .d) n (c .noise .result)) (sym (zero-add (l .loop .i))) ∙ row-on d 0 (noise (l .before .before .args .seed)) (l .loop .i) (l .loop .inv .2) (c .noise .ensures) in
     (omega arith, ap length e ∙ length-row d 0 (noise (l .before .before .args .seed)) (l .loop .i + 1), e)
-
-same-length : tie.Need-same-length Inv-loop μ-loop
-same-length c = omega arith
 
 returns : tie.Need-returns Inv-loop μ-loop
 returns c =
@@ -51,4 +36,4 @@ returns c =
     l .loop .inv .2 ∙ ap (storeRow (now (a .d)) 0 (noise (a .seed))) e
 
 pub fill-spec : {M : Type 1} → statement M
-fill-spec = tie.close (tie.spec Inv-loop μ-loop loop-holds noise-requires slice-write-d add-i loop-less loop-again same-length returns)
+fill-spec = tie.close (tie.spec Inv-loop μ-loop loop-holds (λ c κs. tt) (λ c. omega arith) (λ c. omega arith) (λ c. omega arith) loop-again (λ c. omega arith) returns)

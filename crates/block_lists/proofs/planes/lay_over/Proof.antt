@@ -26,21 +26,6 @@ loop-holds : tie.Need-loop-holds Inv-loop μ-loop
 unfolding storeRow
 loop-holds c = (omega arith, refl, refl)
 
-slice-read-under : tie.Need-slice-read-under Inv-loop μ-loop
-slice-read-under c = omega arith
-
-overlaid-requires : tie.Need-overlaid-requires Inv-loop μ-loop
-overlaid-requires c κs = tt
-
-slice-write-d : tie.Need-slice-write-d Inv-loop μ-loop
-slice-write-d c = omega arith
-
-add-k : tie.Need-add-k Inv-loop μ-loop
-add-k c = omega arith
-
-loop-less : tie.Need-loop-less Inv-loop μ-loop
-loop-less c = omega arith
-
 loop-again : tie.Need-loop-again Inv-loop μ-loop
 loop-again c =
     let l = c .before .before .before in
@@ -49,9 +34,6 @@ loop-again c =
     let under = ap (λ (z : List ℕ). getD z (l .loop .k) 0) (l .loop .inv .2) ∙ row-out (a .d .now) 0 g (l .loop .k) (l .loop .k) 0 (inr (omega arith)) in
     let e = ap (λ (n : ℕ). set (l .loop .d) n (c .overlaid .result)) (sym (zero-add (l .loop .k))) ∙ row-on (a .d .now) 0 g (l .loop .k) (l .loop .inv .2) (c .overlaid .ensures ∙ rw under) in
     (omega arith, ap length e ∙ length-row (a .d .now) 0 g (l .loop .k + 1), e)
-
-same-length : tie.Need-same-length Inv-loop μ-loop
-same-length c = omega arith
 
 returns : tie.Need-returns Inv-loop μ-loop
 unfolding laidOver
@@ -62,4 +44,4 @@ returns c =
     l .loop .inv .2 ∙ ap (storeRow (now (a .d)) 0 (f (now (a .d)) (a .at) (a .dw) (a .size) (now (a .block)))) e
 
 pub lay-over-spec : {M : Type 1} → statement M
-lay-over-spec = tie.close (tie.spec Inv-loop μ-loop loop-holds slice-read-under overlaid-requires slice-write-d add-k loop-less loop-again same-length returns)
+lay-over-spec = tie.close (tie.spec Inv-loop μ-loop loop-holds (λ c. omega arith) (λ c κs. tt) (λ c. omega arith) (λ c. omega arith) (λ c. omega arith) loop-again (λ c. omega arith) returns)

@@ -11,21 +11,15 @@ square i seed =
     let h : i % 65536 + seed % 65536 ≤ 131070 = omega arith in
     mul-le-mul h h
 
-add-x : tie.Need-add-x
-add-x c = search needs
-
 mul-result : tie.Need-mul-result
 mul-result c = omega (arith, square (c .args .i) (c .args .seed))
 
 mul-result-2 : tie.Need-mul-result-2
 mul-result-2 c = omega (arith, square (c .args .i) (c .args .seed))
 
-cast-result : tie.Need-cast-result
-cast-result c = search needs
-
 returns : tie.Need-returns
 unfolding noise
 returns c = search needs
 
 pub noise-spec : {M : Type 1} → statement M
-noise-spec = tie.close (tie.spec add-x mul-result mul-result-2 cast-result returns)
+noise-spec = tie.close (tie.spec (λ c. search needs) mul-result mul-result-2 (λ c. search needs) returns)

@@ -18,12 +18,6 @@ returns-2 : tie.Need-returns-2
 unfolding overlaid
 returns-2 c = let a = c .before .before .before .args in rw (lt-ltb 0 (a .dw) (omega arith), lt-leb (a .at) (a .k) (c .if2 .taken))
 
-div-row : tie.Need-div-row
-div-row c = search needs
-
-rem-column : tie.Need-rem-column
-rem-column c = search needs
-
 returns-3 : tie.Need-returns-3
 unfolding overlaid
 returns-3 c = let a = c .before .before .before .before .args in rw (lt-ltb 0 (a .dw) (omega arith), le-leb (a .at) (a .k) (omega arith), le-ltb (rowOf (a .at) (a .dw) (a .k)) (a .size) (c .if3 .taken))
@@ -45,9 +39,6 @@ mul-byte-at c = omega (arith, product c)
 add-byte-at : tie.Need-add-byte-at
 add-byte-at c = omega (arith, product c)
 
-byte-at-requires : tie.Need-byte-at-requires
-byte-at-requires c κs = search needs
-
 cast-result : tie.Need-cast-result
 cast-result c = omega (arith, c .byte-at .ensures .1)
 
@@ -60,4 +51,4 @@ returns-5 c =
     ∙ rw (lt-ltb 0 (a .dw) (omega arith), le-leb (a .at) (a .k) (omega arith), lt-ltb (rowOf (a .at) (a .dw) (a .k)) (a .size) (b .before .if3 .left), lt-ltb (columnOf (a .at) (a .dw) (a .k)) (a .size) (b .if4 .left))
 
 pub overlaid-spec : {M : Type 1} → statement M
-overlaid-spec = tie.close (tie.spec returns returns-2 div-row rem-column returns-3 returns-4 mul-byte-at add-byte-at byte-at-requires cast-result returns-5)
+overlaid-spec = tie.close (tie.spec returns returns-2 (λ c. search needs) (λ c. search needs) returns-3 returns-4 mul-byte-at add-byte-at (λ c κs. search needs) cast-result returns-5)

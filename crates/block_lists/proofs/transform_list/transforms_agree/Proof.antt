@@ -4,21 +4,9 @@ use Rattle.block_lists.proofs.InBounds.{in-bounds}
 use Rattle.block_lists.proofs.transform_list.transforms_agree.Statement.{statement}
 use Rattle.block_lists.proofs.transform_list.transforms_agree.Tie as tie
 
-block-of-requires : tie.Need-block-of-requires
-block-of-requires c κs = tt
-
-bounded-requires : tie.Need-bounded-requires
-bounded-requires c κs = tt
-
 idct-requires : tie.Need-idct-requires
 idct-requires c κs = let b = c .before .before in
     in-bounds _ (sym (b .bounded .ensures) ∙ c .before .if1 .taken)
-
-part-requires : tie.Need-part-requires
-part-requires c κs = tt
-
-holds-block-requires : tie.Need-holds-block-requires
-holds-block-requires c κs = tt
 
 returns : tie.Need-returns
 unfolding transformAgrees
@@ -35,10 +23,10 @@ pub transforms-agree-spec : {M : Type 1} → statement M
 transforms-agree-spec =
     tie.close
     (tie.spec
-    block-of-requires
-    bounded-requires
+    (λ c κs. tt)
+    (λ c κs. tt)
     idct-requires
-    part-requires
-    holds-block-requires
+    (λ c κs. tt)
+    (λ c κs. tt)
     returns
     returns-2)

@@ -15,26 +15,11 @@ Inv-loop results i₀ i = Passed (narrowAt results) 64 i
 abbrev μ-loop : tie.MeasureT-loop
 μ-loop results i₀ i = 64 - i
 
-loop-holds : tie.Need-loop-holds Inv-loop μ-loop
-loop-holds c = passed-none
-
-mul-z : tie.Need-mul-z Inv-loop μ-loop
-mul-z c = omega arith
-
-element-copy-out-z : tie.Need-element-copy-out-z Inv-loop μ-loop
-element-copy-out-z c = omega arith
-
 returns : tie.Need-returns Inv-loop μ-loop
 unfolding narrow
 returns c =
     let t = c .before .before in
     passed-fails (t .before .loop .inv) (t .loop-test .taken) (tested (t .before .before .args .results .now) (t .before .loop .i) (toZ-ofZ {w = w32} (sfits-of (c .before .z .given))) (c .if1 .taken))
-
-add-i : tie.Need-add-i Inv-loop μ-loop
-add-i c = omega arith
-
-loop-less : tie.Need-loop-less Inv-loop μ-loop
-loop-less c = omega arith
 
 loop-again : tie.Need-loop-again Inv-loop μ-loop
 loop-again c =
@@ -46,4 +31,4 @@ unfolding narrow
 returns-2 c = passed-all (c .before .loop .inv) (c .loop-test .left)
 
 pub narrow-spec : {M : Type 1} → statement M
-narrow-spec = tie.close (tie.spec Inv-loop μ-loop loop-holds mul-z element-copy-out-z returns add-i loop-less loop-again returns-2)
+narrow-spec = tie.close (tie.spec Inv-loop μ-loop (λ c. passed-none) (λ c. omega arith) (λ c. omega arith) returns (λ c. omega arith) (λ c. omega arith) loop-again returns-2)

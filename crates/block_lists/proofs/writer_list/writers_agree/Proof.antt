@@ -5,33 +5,6 @@ use borrow.Author.Needs.{needs}
 use Rattle.block_lists.proofs.writer_list.writers_agree.Statement.{statement}
 use Rattle.block_lists.proofs.writer_list.writers_agree.Tie as tie
 
-number-at-requires : tie.Need-number-at-requires
-number-at-requires c κs = search needs
-
-number-at-requires-2 : tie.Need-number-at-requires-2
-number-at-requires-2 c κs = search needs
-
-number-at-requires-3 : tie.Need-number-at-requires-3
-number-at-requires-3 c κs = search needs
-
-part-requires : tie.Need-part-requires
-part-requires c κs = search needs
-
-block-of-requires : tie.Need-block-of-requires
-block-of-requires c κs = search needs
-
-possible-requires : tie.Need-possible-requires
-possible-requires c κs = search needs
-
-narrow-requires : tie.Need-narrow-requires
-narrow-requires c κs = search needs
-
-cast-ends-as : tie.Need-cast-ends-as
-cast-ends-as c = search needs
-
-cast-ends-as-2 : tie.Need-cast-ends-as-2
-cast-ends-as-2 c = search needs
-
 ends-as-requires : tie.Need-ends-as-requires
 ends-as-requires c κs =
     let p = c .before .before .before .before in
@@ -63,15 +36,15 @@ pub writers-agree-spec : {M : Type 1} → statement M
 writers-agree-spec =
     tie.close
     (tie.spec
-    number-at-requires
-    number-at-requires-2
-    number-at-requires-3
-    part-requires
-    block-of-requires
-    possible-requires
-    narrow-requires
-    cast-ends-as
-    cast-ends-as-2
+    (λ c κs. search needs)
+    (λ c κs. search needs)
+    (λ c κs. search needs)
+    (λ c κs. search needs)
+    (λ c κs. search needs)
+    (λ c κs. search needs)
+    (λ c κs. search needs)
+    (λ c. search needs)
+    (λ c. search needs)
     ends-as-requires
     returns
     returns-2

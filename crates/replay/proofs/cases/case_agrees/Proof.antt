@@ -4,56 +4,29 @@ use Rattle.replay.proofs.cases.case_agrees.Tie as tie
 enum-told : tie.Need-enum-told
 enum-told c = c .match .keys1
 
-codes-agree-requires : tie.Need-codes-agree-requires
-codes-agree-requires c κs = tt
-
 enum-told-2 : tie.Need-enum-told-2
 enum-told-2 c = c .match .keys2
-
-vectors-agree-requires : tie.Need-vectors-agree-requires
-vectors-agree-requires c κs = tt
 
 enum-told-3 : tie.Need-enum-told-3
 enum-told-3 c = c .match .keys3
 
-pixels-agree-requires : tie.Need-pixels-agree-requires
-pixels-agree-requires c κs = tt
-
 enum-told-4 : tie.Need-enum-told-4
 enum-told-4 c = c .match .keys4
-
-scaled-agree-requires : tie.Need-scaled-agree-requires
-scaled-agree-requires c κs = tt
 
 enum-told-5 : tie.Need-enum-told-5
 enum-told-5 c = c .match .keys5
 
-dequantised-agree-requires : tie.Need-dequantised-agree-requires
-dequantised-agree-requires c κs = tt
-
 enum-told-6 : tie.Need-enum-told-6
 enum-told-6 c = c .match .keys6
-
-transforms-agree-requires : tie.Need-transforms-agree-requires
-transforms-agree-requires c κs = tt
 
 enum-told-7 : tie.Need-enum-told-7
 enum-told-7 c = c .match .keys7
 
-blocks-agree-requires : tie.Need-blocks-agree-requires
-blocks-agree-requires c κs = tt
-
 enum-told-8 : tie.Need-enum-told-8
 enum-told-8 c = c .match .keys8
 
-macroblocks-agree-requires : tie.Need-macroblocks-agree-requires
-macroblocks-agree-requires c κs = tt
-
 enum-told-9 : tie.Need-enum-told-9
 enum-told-9 c = c .match .keys9
-
-writers-agree-requires : tie.Need-writers-agree-requires
-writers-agree-requires c κs = tt
 
 returns : tie.Need-returns
 returns c = rw (c .before .enum-told .given .1) (c .codes-agree .ensures)
@@ -87,23 +60,23 @@ case-agrees-spec =
     tie.close
     (tie.spec
     enum-told
-    codes-agree-requires
+    (λ c κs. tt)
     enum-told-2
-    vectors-agree-requires
+    (λ c κs. tt)
     enum-told-3
-    pixels-agree-requires
+    (λ c κs. tt)
     enum-told-4
-    scaled-agree-requires
+    (λ c κs. tt)
     enum-told-5
-    dequantised-agree-requires
+    (λ c κs. tt)
     enum-told-6
-    transforms-agree-requires
+    (λ c κs. tt)
     enum-told-7
-    blocks-agree-requires
+    (λ c κs. tt)
     enum-told-8
-    macroblocks-agree-requires
+    (λ c κs. tt)
     enum-told-9
-    writers-agree-requires
+    (λ c κs. tt)
     returns
     returns-2
     returns-3
