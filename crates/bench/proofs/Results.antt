@@ -11,11 +11,11 @@ use lib.IntN.{ℤ, pos, natAbs, _-ℤ_}
 use lib.ListN.{length, getD, set, getD-replicate}
 use lib.Seq.{set-out, getD-set-same, getD-set-other}
 use Rattle.laws.proofs.Ints.{lit, _⊖_, abs-by}
-use Rattle.prediction.specs.Writers.{Narrow}
+use Rattle.laws.specs.Sizes.{Narrow}
 use Rattle.bench.specs.Planes.{resultsAt}
 
-set-narrow : {s : List ℤ} (p : ℕ) (v : ℤ) → natAbs v ≤ 131072 → Narrow s → Narrow (set s p v)
-set-narrow {s} p v h b = record { entry = at }
+set-narrow : (s : List ℤ) (p : ℕ) (v : ℤ) → natAbs v ≤ 131072 → Narrow s → Narrow (set s p v)
+set-narrow s p v h b = record { entry = at }
   where
     at : (k : ℕ) → k < 64 → natAbs (getD (set s p v) k (pos 0)) ≤ 131072
     at k l = go (eqb k p) refl (decLt p (length s))
@@ -28,4 +28,4 @@ set-narrow {s} p v h b = record { entry = at }
 pub results-narrow : (n : ℕ) → Narrow (resultsAt n)
 unfolding resultsAt
 results-narrow zero = record { entry = λ k l. rw (getD-replicate 64 k (pos 0) (pos 0) l) zero-le }
-results-narrow (suc n) = set-narrow (n % 64) (pos (n % 512) -ℤ pos 128) (abs-by 131072 (lit (n % 512) ⊖ lit 128) (omega arith) (omega arith)) (results-narrow n)
+results-narrow (suc n) = set-narrow (resultsAt n) (n % 64) (pos (n % 512) -ℤ pos 128) (abs-by 131072 (lit (n % 512) ⊖ lit 128) (omega arith) (omega arith)) (results-narrow n)

@@ -23,8 +23,9 @@ pub record Room (across down unit size : ℕ) : Type 0 where
 pub room-yes : (across down unit size : ℕ) → room across down unit size ≡ true → Room across down unit size
 unfolding room
 room-yes across down unit size e =
-    let x = and-yes (leb 1 across && leb across 256 && leb down 256) (leb (across * down * unit) size) (subst T (sym e) tt) in
-    let y = and-yes (leb 1 across && leb across 256) (leb down 256) (x .0) in
+    let x = and-yes (leb 1 across && leb across 256 && leb down 256 && leb unit 1152) (leb (across * down * unit) size) (subst T (sym e) tt) in
+    let u = and-yes (leb 1 across && leb across 256 && leb down 256) (leb unit 1152) (x .0) in
+    let y = and-yes (leb 1 across && leb across 256) (leb down 256) (u .0) in
     let z = and-yes (leb 1 across) (leb across 256) (y .0) in
     record { some = leb→le _ _ (z .0); wide = leb→le _ _ (z .1); high = leb→le _ _ (y .1); enough = leb→le _ _ (x .1) }
 

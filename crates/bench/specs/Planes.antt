@@ -15,9 +15,10 @@ unfoldable pub repeated : (ℕ → List ℕ → List ℕ) → List ℕ → ℕ �
 repeated f l zero = l
 repeated f l (suc t) = f t (repeated f l t)
 
--- are there 1 to 256 blocks across, at most 256 down, and for each of them `unit` elements of a slice?
+-- are there 1 to 256 blocks across, at most 256 down, and for each of them `unit` elements of a slice, which are at most those of a macroblock in
+-- three stores?
 unfoldable pub room : ℕ → ℕ → ℕ → ℕ → Bool
-room across down unit size = leb 1 across && leb across 256 && leb down 256 && leb (across * down * unit) size
+room across down unit size = leb 1 across && leb across 256 && leb down 256 && leb unit 1152 && leb (across * down * unit) size
 
 -- number n of the macroblocks, counted by rows
 abbrev pub macroblock : ℕ → ℕ → ℕ → Macroblock

@@ -10,7 +10,7 @@ ghost use mathlib.Core.Path.{_≡_};
 ghost use mathlib.Core.Bool.{cond};
 ghost use Prim.Native.Nat.{_+_, _*_, _≤_};
 ghost use lib.ListN.{length};
-ghost use Rattle.prediction.specs.Writers.{Narrow};
+ghost use Rattle.laws.specs.Sizes.{Narrow};
 ghost use Rattle.bench.specs.Planes.{room, writeBlock, writePlane};
 
 // One number, or 64, in place of what is there or added to it.

@@ -6,7 +6,7 @@ use mathlib.Core.List.{List, _++_}
 use Prim.Native.Nat.{ℕ, zero, suc, max, _+_, _-_, _*_, _/_, _%_, _≤_, _<_}
 use native.Mathlib.Omega.{arith}
 use native.Mathlib.Nat.{add-assoc, zero-add}
-use lib.ListN.{length, getD, length-append, List·getD-append}
+use lib.ListN.{length, getD, length-append}
 use lib.Seq.{getD-append-add}
 use borrow.Author.Tests.{leb-true}
 use Rattle.bits.specs.Bits.{Found, bitAt, bitsAt, has, got, next, codePrefix, codeFrom, found, boundary}
@@ -146,15 +146,7 @@ module _ (s : List ℕ) (x : ℕ) (t : List ℕ) (y m : ℕ) (w : Alike s x t y 
       let fr : far (k (found s (x * 8 + o) .code)) s (found s (x * 8 + o) .at) ≤ (x + m) * 8 = omega arith in
       rw (sm .0, es, et) (moved (k (found s (x * 8 + o) .code)) q (rw es at sh) (rw es at fr))
 
--- a stream within another: what a run of the left or of the right part gives, the joined one gives
-pub in-left : (s t : List ℕ) → Alike s 0 (s ++ t) 0 (length s)
-in-left s t =
-    record {
-      bytes = λ i h. rw zero-add (sym (List·getD-append s t 0 i h));
-      left = omega arith;
-      right = simp length-append (omega arith);
-    }
-
+-- a stream behind another: what a run of it gives, the joined one gives
 pub in-right : (s t : List ℕ) → Alike t 0 (s ++ t) (length s) (length t)
 in-right s t =
     record {

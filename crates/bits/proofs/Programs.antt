@@ -6,7 +6,7 @@ use Prim.Native.Nat.{ℕ, zero, suc, _+_, _-_, _*_, _≤_, _<_}
 use native.Mathlib.Omega.{arith}
 use native.Mathlib.Nat.{add-zero}
 use lib.ListN.{length}
-use lib.Dec.{leb, eqb, leb·zero, eqb·suc-zero}
+use lib.Dec.{eqb, leb·zero, eqb·suc-zero}
 use borrow.Author.Tests.{leb-true, le-leb, lt-leb}
 use Rattle.bits.specs.Bits.{bitsAt, has, got, next, found}
 use Rattle.bits.specs.Programs.{Prog, done, read, skip, look, start, run, short, bind}

@@ -27,7 +27,7 @@ use Rattle.coefficients.proofs.Sizes.{inside-small}
 use Rattle.lists.specs.Blocks.{blockOf, holdsBlock}
 use Rattle.lists.specs.Bytes.{part, sameBytes}
 use Rattle.lists.specs.Numbers.{numberAt}
-use Rattle.lists.proofs.Each.{both}
+use Rattle.laws.proofs.Tests.{both}
 use Rattle.prediction.specs.declared.place.Macroblock.{Macroblock}
 use Rattle.prediction.specs.Planes.{Inside, macroblocks}
 use Rattle.block_lists.specs.BlockList.{possible, placeOf, widthOf, matrixAt, written, endsAs, blockAgrees}

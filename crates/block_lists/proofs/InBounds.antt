@@ -9,7 +9,8 @@ use lib.ListN.{getD}
 use lib.Signed.{leZ}
 use Rattle.laws.proofs.Ints.{v, neg, _⊛_, le-yes, abs-by, natAbs-is}
 use Rattle.codes.specs.Matrices.{premultiplierMatrix, Bounded}
-use Rattle.lists.proofs.Each.{both, all-at}
+use Rattle.laws.proofs.Each.{all-at}
+use Rattle.laws.proofs.Tests.{both}
 use Rattle.block_lists.specs.Bounded.{within, withinAt, bounded}
 
 within-size : (p z : ℤ) → within p z ≡ true → natAbs z ≤ 2048 * natAbs p

@@ -10,7 +10,7 @@ use mir.Facts.{toZ-ofZ, toZ-pos}
 use mir.Syntax.{w32}
 use mir.Val.{SFits, ofZ, toZ}
 use Rattle.laws.proofs.Ints.{lit, _⊖_, fits-by, abs-by}
-use Rattle.lists.proofs.Each.{both}
+use Rattle.laws.proofs.Tests.{both}
 use Rattle.block_lists.specs.DequantisedList.{possible}
 
 pub in-bounds : (intra scale entry : ℕ) → possible intra scale entry ≡ true → (scale ≤ 31) × (entry ≤ 255)

@@ -12,7 +12,7 @@ use lib.Signed.{leZ}
 use mir.Syntax.{w32}
 use mir.Val.{toZ}
 use Rattle.lists.specs.Numbers.{numberAt}
-use Rattle.lists.proofs.Each.{both}
+use Rattle.laws.proofs.Tests.{both}
 use Rattle.prediction.specs.declared.place.Macroblock.{Macroblock}
 use Rattle.prediction.specs.declared.planes.Plane.{Plane}
 use Rattle.prediction.specs.declared.planes.Plane.the-variants.{Y, Cr, Cb}

@@ -8,8 +8,9 @@ use lib.Dec.{leb}
 use lib.IntN.{ℤ, pos, negℤ}
 use lib.ListN.{getD}
 use lib.Signed.{leZ}
-use Rattle.lists.proofs.Each.{both, all-at}
-use Rattle.prediction.specs.Writers.{Narrow}
+use Rattle.laws.proofs.Each.{all-at}
+use Rattle.laws.proofs.Tests.{both}
+use Rattle.laws.specs.Sizes.{Narrow}
 use Rattle.block_lists.specs.WriterList.{possible, narrowAt, narrow}
 use Rattle.block_lists.proofs.Sizes.{size-most}
 

@@ -6,7 +6,7 @@ use lib.IntN.{ℤ, pos, negℤ, _*ℤ_}
 use lib.ListN.{getD}
 use lib.Signed.{leZ}
 use Rattle.codes.specs.Matrices.{premultiplierMatrix}
-use Rattle.lists.specs.Each.{allBelow}
+use Rattle.laws.specs.Each.{allBelow}
 
 -- at most 2048 × the premultiplier p in size
 abbrev pub within : ℤ → ℤ → Bool

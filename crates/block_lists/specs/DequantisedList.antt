@@ -8,7 +8,7 @@ use lib.ListN.{getD}
 use mir.Syntax.{w32}
 use mir.Val.{ofZ}
 use Rattle.coefficients.specs.Dequantise.{dequantised}
-use Rattle.lists.specs.Each.{allBelow}
+use Rattle.laws.specs.Each.{allBelow}
 use Rattle.lists.specs.Numbers.{numberAt}
 
 -- 1 or 0, a scale of five bits, and an entry of a byte

@@ -9,7 +9,7 @@ use lib.Signed.{leZ}
 use Rattle.laws.specs.Signed.{clamp255}
 use Rattle.lists.specs.Blocks.{blockOf}
 use Rattle.lists.specs.Bytes.{part, sameBytes}
-use Rattle.lists.specs.Each.{allBelow}
+use Rattle.laws.specs.Each.{allBelow}
 use Rattle.lists.specs.Numbers.{numberAt}
 use Rattle.prediction.specs.Writers.{setConst, overwrite, addConst, addBlock}
 use Rattle.block_lists.specs.Planes.{noisy, laidOver}

@@ -15,7 +15,7 @@ use prediction::writers::block_set_overwrite;
 ghost use mathlib.Core.Path.{_≡_};
 ghost use Prim.Native.Nat.{_+_, _*_, _≤_};
 ghost use lib.ListN.{length};
-ghost use Rattle.prediction.specs.Writers.{Narrow};
+ghost use Rattle.laws.specs.Sizes.{Narrow};
 ghost use Rattle.block_lists.specs.WriterList.{possible, narrow, written, endsAs, writerAgrees};
 
 // Whether there is such a writer, and the block lies in the plane.

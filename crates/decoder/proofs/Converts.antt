@@ -9,7 +9,7 @@ use Rattle.laws.specs.Stores.{storeRow}
 use Rattle.codes.specs.Matrices.{premultiplierMatrix}
 use Rattle.argb.specs.Pixel.{luma, red, green, blue, argb}
 use Rattle.argb.specs.Scaled.{samplePixel, outputPixel, pixelAt, scaled}
-use Rattle.picture.specs.Possible.{every}
+use Rattle.laws.specs.Each.{allBelow}
 use Rattle.decoder.specs.declared.record.Decoder.{Decoder}
 use Rattle.decoder.specs.declared.answers.Converted.the-variants.{Written}
 use Rattle.decoder.specs.Record.{fresh, sequenceAs}
@@ -25,5 +25,5 @@ abbrev pub stores : List ℕ
 stores = replicate 384 0 ++ (replicate 256 235 ++ (replicate 128 128 ++ replicate 384 0))
 
 pub writes : converted one stores 1 (7 ∷ 7 ∷ []) 1 1 ≡ area Written (0xfffefefe ∷ 7 ∷ [])
-unfolding clamp255 storeRow premultiplierMatrix luma red green blue argb samplePixel outputPixel pixelAt scaled every fresh possible converted
+unfolding clamp255 storeRow premultiplierMatrix luma red green blue argb samplePixel outputPixel pixelAt scaled allBelow fresh possible converted
 writes = refl

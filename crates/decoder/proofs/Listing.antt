@@ -13,7 +13,7 @@ use Rattle.picture.specs.Ways.{leave, onward}
 use Rattle.picture.specs.Pictures as P
 use Rattle.decoder.specs.Record.{Left, fresh, cleared}
 use Rattle.decoder.specs.Answers.{success, picture, number, openingSays, outcomeSays}
-use Rattle.picture.specs.Possible.{every}
+use Rattle.laws.specs.Each.{allBelow}
 use Rattle.decoder.specs.Possible.{possible}
 use Rattle.decoder.specs.Sequences.{matrix, size, rest}
 use Rattle.decoder.specs.Headers.{findSequence, accepted, askSize, askHeader, askStore}
@@ -56,5 +56,5 @@ pub record Listed : Type 0 where
   pub lines : listing example ≡ line 1 0 1 0 ∷ line 1 0 0 7 ∷ []
 
 pub listed : Listed
-unfolding bitAt bitsAt got next codePrefix codeFrom found run bind loop findTurn findStartCode fresh matrix size rest findSequence accepted askSize askHeader askStore opened opening cleared turns intraQuantMatrix nonIntraQuantMatrix premultiplierMatrix leave onward P.pictureHeader P.coded P.slicesTurn P.slices P.picture every possible nextPicture isFollowed timeOf counted handed shown pastPicture decoded searched pictureTurn pictures ended askFirst begun goOn handOut ofInt linesFrom linesOf listing
+unfolding bitAt bitsAt got next codePrefix codeFrom found run bind loop findTurn findStartCode fresh matrix size rest findSequence accepted askSize askHeader askStore opened opening cleared turns intraQuantMatrix nonIntraQuantMatrix premultiplierMatrix leave onward P.pictureHeader P.coded P.slicesTurn P.slices P.picture allBelow possible nextPicture isFollowed timeOf counted handed shown pastPicture decoded searched pictureTurn pictures ended askFirst begun goOn handOut ofInt linesFrom linesOf listing
 listed = record { opens = refl; clears = refl; hands = refl; ends = refl; lines = refl }

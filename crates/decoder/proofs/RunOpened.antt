@@ -15,7 +15,8 @@ use Rattle.bits.proofs.Programs.{run-most}
 use Rattle.laws.proofs.Tests.{by-case}
 use Rattle.codes.specs.Matrices.{premultiplierMatrix}
 use Rattle.picture.specs.State.{startCodeAs, storesAs}
-use Rattle.picture.specs.Possible.{every, possiblePicture}
+use Rattle.picture.specs.Possible.{possiblePicture}
+use Rattle.laws.specs.Each.{allBelow}
 use Rattle.decoder.specs.declared.record.Decoder.{Decoder}
 use Rattle.decoder.specs.declared.answers.Opening.{Opening}
 use Rattle.decoder.specs.declared.answers.Opening.the-variants as O
@@ -39,7 +40,7 @@ size-small s a = (twelve s a, twelve s (next s a 12))
 
 -- the picture's state of the fresh record, with the start code of the header
 picture-first : possiblePicture (storesAs firstStores (startCodeAs (pos 0xb3) freshPicture)) ≡ true
-unfolding every premultiplierMatrix
+unfolding allBelow premultiplierMatrix
 picture-first = refl
 
 or-split : (a b : Bool) → (a || b) ≡ false → (a ≡ false) × (b ≡ false)

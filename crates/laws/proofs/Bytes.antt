@@ -2,19 +2,19 @@
 use mathlib.Core.Path.{_≡_, refl, sym, ap, _∙_}
 use mathlib.Core.Bool.{true, false, not}
 use Prim.Native.Nat.{ℕ, zero, suc, _*_, _/_, _%_, _^_, _≤_, _<_, min}
-use native.Mathlib.Nat.{zero-div, zero-mod, div-le-self, lt-of-le-of-lt}
+use native.Mathlib.Nat.{zero-div, div-le-self}
 use native.Mathlib.Omega.{arith}
 use borrow.Author.Tests.{eq-eqb, ne-eqb}
 use lib.Bits.{bitAnd, and-high}
 use lib.Dec.{T, ltb, eqb}
-use lib.IntN.{ℤ, pos, negsuc, natAbs, pos-ne-negsuc}
+use lib.IntN.{ℤ, pos, negsuc, natAbs}
 use lib.Pow.{pow-pos, pow-add, shl-exact}
-use lib.Signed.{ltZ, nonNeg, quotZ, remZ, mag-rem}
+use lib.Signed.{ltZ, nonNeg, quotZ}
 use mir.Syntax.{Width, w8}
 use mir.Val.{SFits, Fits, bits, hbits, toZ, ofZ}
 use Rattle.laws.specs.Signed.{clamp255, half0, odd}
-use Rattle.laws.proofs.Ints.{Dif, up, dn, v, lit, neg, as-dif, at-dif, lt-yes, lt-no, natAbs-is, one-side, fits-by, fits-of, cast-by, zero-bits, parity}
-use Rattle.laws.proofs.Nums.{Num, num, read, write, neg-abs}
+use Rattle.laws.proofs.Ints.{Dif, up, dn, v, lit, neg, as-dif, at-dif, lt-yes, lt-no, natAbs-is, one-side, fits-by, fits-of, cast-by, parity}
+use Rattle.laws.proofs.Nums.{Num, num, read, write}
 
 -- ---- casts. That a cast fits is `fits` of Nums at the new width, and `search needs` for an unsigned number that is cast to a wider signed one.
 
@@ -57,25 +57,12 @@ quot-fits {w} {z} m f =
     let b = fits-of (v z) f in
     fits-by (quot-dif z m) (omega (arith, one-side z, div-le-self (up z) m)) (omega (arith, one-side z, div-le-self (dn z) m))
 
-pub rem-fits : {w : Width} {z : ℤ} (m : ℕ) → SFits w z → SFits w (remZ z (pos m))
-rem-fits {z = z} m f = record { sfits = lt-of-le-of-lt (mag-rem z (pos m)) (f .sfits) }
-
-pub rem-abs : (z : ℤ) (m : ℕ) → natAbs (remZ z (pos m)) ≡ natAbs z % m
-rem-abs (pos a) m = refl
-rem-abs (negsuc a) m = neg-abs (pos (suc a % m))
-
 pub half-is : (z : ℤ) → quotZ z (pos 2) ≡ half0 z
 unfolding half0
 half-is (pos n) = refl
 half-is (negsuc n) = refl
 
--- ---- is it odd: `z & 1` and `z % 2`, as a flag and as a branch's fact
-
--- a signed number is 0 where its bits are
-pub zero-flag : (w : Width) {z : ℤ} → SFits w z → eqb (ofZ w z) 0 ≡ eqb (natAbs z) 0
-zero-flag w {z = pos n} f = refl
-zero-flag w {z = negsuc n} f =
-    ne-eqb (ofZ w (negsuc n)) 0 (λ e. pos-ne-negsuc 0 n (sym (zero-bits w f e))) ∙ sym (ne-eqb (suc n) 0 (λ e. omega arith))
+-- ---- is it odd: `z & 1`, as a flag and as a branch's fact
 
 bit-flag : (k : ℕ) → k < 2 → not (eqb k 0) ≡ eqb k 1
 bit-flag zero h = refl
@@ -96,10 +83,6 @@ module _ (w : Width) {z : ℤ} (f : SFits w z) where
 
   pub odd-no : bitAnd (ofZ w z) 1 ≡ 0 → odd z ≡ false
   odd-no e = sym odd-some ∙ ap not (eq-eqb (bitAnd (ofZ w z) 1) 0 e)
-
-  pub odd-rem : not (eqb (ofZ w (remZ z (pos 2))) 0) ≡ odd z
-  unfolding odd
-  odd-rem = ap not (zero-flag w (rem-fits 2 f) ∙ ap (λ (k : ℕ). eqb k 0) (rem-abs z 2)) ∙ bit-flag (natAbs z % 2) (omega arith)
 
 -- ---- bit k of an unsigned number: `n & (1 << k)`
 

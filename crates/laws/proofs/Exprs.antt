@@ -1,18 +1,17 @@
 -- Straight-line signed code by reflection, at a width w. `Exp` is an expression over numbered inputs. `eval` is its number, `stored` the bits of the
 -- local that the machine sets to it, `term` what the machine reads of that local, `raw` the result of its last operation before it is stored, `bound`
 -- a numeral that |eval| keeps to, and `ok` computes that no step leaves the width. One proof: where `ok`, the machine's term is the number.
-use mathlib.Core.Path.{_≡_, refl, sym, ap, ap₂, _∙_}
+use mathlib.Core.Path.{_≡_, refl, ap, ap₂, _∙_}
 use mathlib.Core.Bool.{Bool, _&&_}
 use mathlib.Core.List.{List, [], _∷_}
 use Prim.Native.Nat.{ℕ, zero, suc, _+_, _*_, _-_, _/_, _%_, _^_, _≤_, zero-le}
 use native.Mathlib.Omega.{arith}
 use lib.Dec.{T, ltb}
 use lib.IntN.{ℤ, pos, negℤ, natAbs, _+ℤ_, _-ℤ_, _*ℤ_}
-use lib.Signed.{shrZ, ltZ, leZ}
+use lib.Signed.{shrZ, ltZ}
 use mir.Facts.{and-yes}
 use mir.Syntax.{Width}
 use mir.Val.{SFits, bits, hbits, toZ, ofZ}
-use Rattle.laws.proofs.Ints.{same-bits}
 use Rattle.laws.proofs.Nums.{Num, num, Held, read, fits, minus, shift-right, shift-left, _⊞_, _⊟_, _⊠_}
 
 infixl 6 _⊹_ _∸_
@@ -167,9 +166,3 @@ module _ {w : Width} (ρ : List (Input w)) where
   -- a test of two locals is the test of their numbers
   pub test : (d e : Exp) → T (ok d) → T (ok e) → ltZ (term d) (term e) ≡ ltZ (eval d) (eval e)
   test d e t u = ap₂ ltZ (value d t) (value e u)
-
-  pub test-le : (d e : Exp) → T (ok d) → T (ok e) → leZ (term d) (term e) ≡ leZ (eval d) (eval e)
-  test-le d e t u = ap₂ leZ (value d t) (value e u)
-
-  pub test-eq : (d e : Exp) → T (ok d) → T (ok e) → stored d ≡ stored e → eval d ≡ eval e
-  test-eq d e t u p = same-bits w (eval-fits d t) (eval-fits e u) (sym (stored-is d t) ∙ p ∙ stored-is e u)

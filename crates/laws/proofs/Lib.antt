@@ -1,4 +1,5 @@
 pub mod Bytes
+pub mod Each
 pub mod Exprs
 pub mod Ints
 pub mod Lists

@@ -1,3 +1,5 @@
+pub mod Each
 pub mod Signed
+pub mod Sizes
 pub mod Stores
 pub mod Turns

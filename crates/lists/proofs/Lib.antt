@@ -1,5 +1,4 @@
 pub mod Blocks
-pub mod Each
 pub mod Parts
 pub mod Signs
 pub mod Tallies

@@ -8,7 +8,7 @@ use lib.ListN.{getD, replicate}
 use mir.Syntax.{w32}
 use mir.Val.{ofZ, toZ}
 use Rattle.laws.specs.Stores.{storeRow}
-use Rattle.lists.specs.Each.{allBelow}
+use Rattle.laws.specs.Each.{allBelow}
 use Rattle.lists.specs.Numbers.{numberAt}
 
 unfoldable pub blank : List ℤ

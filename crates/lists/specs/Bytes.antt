@@ -4,7 +4,7 @@ use mathlib.Core.Bool.{Bool, _&&_}
 use mathlib.Core.List.{List}
 use lib.Dec.{eqb}
 use lib.ListN.{length, getD, take, drop}
-use Rattle.lists.specs.Each.{allBelow}
+use Rattle.laws.specs.Each.{allBelow}
 
 -- n bytes from i on, or as many as there are
 unfoldable pub part : List ℕ → ℕ → ℕ → List ℕ

@@ -4,7 +4,7 @@ use mathlib.Core.Bool.{Bool}
 use mathlib.Core.List.{List}
 use lib.Dec.{eqb}
 use lib.ListN.{length, getD}
-use Rattle.lists.specs.Each.{allBelow}
+use Rattle.laws.specs.Each.{allBelow}
 
 -- the number at the byte i: 32 bits, highest byte first, where a byte past the end counts as 0
 unfoldable pub numberAt : List ℕ → ℕ → ℕ

@@ -1,15 +1,15 @@
 -- What a possible state of a picture keeps to: the tests of specs/Possible.antt as facts, both ways. Assumes nothing.
-use mathlib.Core.Path.{_≡_, refl, subst}
-use mathlib.Core.Bool.{Bool, true, not, and-eq-true-iff}
+use mathlib.Core.Path.{_≡_}
+use mathlib.Core.Bool.{true, not, and-eq-true-iff}
 use mathlib.Core.List.{List}
-use Prim.Native.Nat.{ℕ, zero, suc, _+_, _≤_, _<_}
-use native.Mathlib.Decide.{decLt}
+use Prim.Native.Nat.{ℕ, _+_, _≤_, _<_}
 use native.Mathlib.Omega.{arith}
 use borrow.Author.Tests.{leb-true, eqb-false, le-leb, ne-eqb, not-true}
 use lib.Dec.{eqb}
 use lib.IntN.{ℤ, pos, negℤ}
 use lib.ListN.{getD}
 use lib.Signed.{leZ}
+use Rattle.laws.proofs.Each.{all-at, all-by}
 use Rattle.laws.proofs.Ints.{Dif, v, lit, neg, le-yes, yes-le, le-by, lt-by, le-of, lt-of}
 use Rattle.bits.proofs.Rules.{and-yes}
 use Rattle.codes.specs.Matrices.{Bounded}
@@ -19,23 +19,9 @@ use Rattle.picture.specs.declared.state.Motion.{Motion}
 use Rattle.picture.specs.declared.state.Stores.{Stores}
 use Rattle.picture.specs.declared.state.Slice.{Slice}
 use Rattle.picture.specs.declared.state.Picture.{Picture}
-use Rattle.picture.specs.Possible.{between, every, possibleStores, possibleMotion, possibleBlock, possibleSlice, possiblePicture}
+use Rattle.picture.specs.Possible.{between, possibleStores, possibleMotion, possibleBlock, possibleSlice, possiblePicture}
 
 -- ---- tests of the numbers below n
-
-every-of : (n : ℕ) (f : ℕ → Bool) → every n f ≡ true → (k : ℕ) → k < n → f k ≡ true
-unfolding every
-every-of zero f e k h = let z : ⊥ = omega arith in absurd z
-every-of (suc n) f e k h = go (decLt k n) (λ l. every-of n f (and-eq-true-iff (every n f) (f n) .0 e .0) k l)
-  where
-    go : Dec (k < n) → (k < n → f k ≡ true) → f k ≡ true
-    go (yes l) r = r l
-    go (no l) r = let i : n ≡ k = omega arith in subst (λ (j : ℕ). f j ≡ true) i (and-eq-true-iff (every n f) (f n) .0 e .1)
-
-every-by : (n : ℕ) (f : ℕ → Bool) → ((k : ℕ) → k < n → f k ≡ true) → every n f ≡ true
-unfolding every
-every-by zero f h = refl
-every-by (suc n) f h = and-yes _ _ (every-by n f (λ k l. h k (omega arith))) (h n (omega arith))
 
 -- ---- ranges
 
@@ -102,10 +88,10 @@ pub motion-by : {m : Motion} → PossibleMotion m → possibleMotion m ≡ true
 motion-by k = and-yes _ _ (and-yes _ _ (le-leb _ _ (k .size)) (range-by (k .h))) (range-by (k .v))
 
 block-of : (c : List ℤ) → possibleBlock c ≡ true → Bounded c
-block-of c e = record { each = λ k l. leb-true _ _ (every-of 64 _ e k l) }
+block-of c e = record { each = λ k l. leb-true _ _ (all-at _ 64 e k l) }
 
 block-by : {c : List ℤ} → Bounded c → possibleBlock c ≡ true
-block-by b = every-by 64 _ (λ k l. le-leb _ _ (b .each k l))
+block-by b = all-by _ 64 (λ k l. le-leb _ _ (b .each k l))
 
 pub record PossibleSlice (s : Slice) : Type 0 where
   pub scale : s .«quantizer_scale» ≤ 31
@@ -127,13 +113,13 @@ slice-of s e =
       address = h₁ .1;
       forward = motion-of (s .«motion_forward») (h₂ .1);
       backward = motion-of (s .«motion_backward») (h₃ .1);
-      predictors = every-of 3 _ (h₄ .1);
+      predictors = all-at _ 3 (h₄ .1);
       block = block-of (s .«block_data») (h₅ .1);
     }
 
 pub slice-by : {s : Slice} → PossibleSlice s → possibleSlice s ≡ true
 slice-by k =
-    and-yes _ _ (and-yes _ _ (and-yes _ _ (and-yes _ _ (and-yes _ _ (le-leb _ _ (k .scale)) (k .address)) (motion-by (k .forward))) (motion-by (k .backward))) (every-by 3 _ (k .predictors))) (block-by (k .block))
+    and-yes _ _ (and-yes _ _ (and-yes _ _ (and-yes _ _ (and-yes _ _ (le-leb _ _ (k .scale)) (k .address)) (motion-by (k .forward))) (motion-by (k .backward))) (all-by _ 3 (k .predictors))) (block-by (k .block))
 
 pub record PossiblePicture (p : Picture) : Type 0 where
   pub type : p .«picture_type» ≤ 7

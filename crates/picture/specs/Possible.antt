@@ -1,11 +1,12 @@
 -- RULES Q2: is a picture's state possible?
-use mathlib.Core.Bool.{Bool, true, not, _&&_}
+use mathlib.Core.Bool.{Bool, not, _&&_}
 use mathlib.Core.List.{List}
-use Prim.Native.Nat.{ℕ, zero, suc, _*_}
+use Prim.Native.Nat.{_*_}
 use lib.Dec.{eqb, leb}
 use lib.IntN.{ℤ, pos, negℤ, natAbs}
 use lib.ListN.{getD}
 use lib.Signed.{leZ}
+use Rattle.laws.specs.Each.{allBelow}
 use Rattle.codes.specs.Matrices.{premultiplierMatrix}
 use Rattle.coefficients.specs.Dcs.{dcInside}
 use Rattle.picture.specs.declared.state.Motion.{Motion}
@@ -15,11 +16,6 @@ use Rattle.picture.specs.declared.state.Picture.{Picture}
 
 abbrev pub between : ℤ → ℤ → ℤ → Bool
 between low high x = leZ low x && leZ x high
-
--- f of 0, 1 .. n - 1
-unfoldable pub every : ℕ → (ℕ → Bool) → Bool
-every zero f = true
-every (suc n) f = every n f && f n
 
 -- a permutation of 0, 1, 2
 abbrev pub possibleStores : Stores → Bool
@@ -32,14 +28,14 @@ possibleMotion m = leb (m .«r_size») 6 && between (negℤ (pos 1024)) (pos 102
 
 -- left-over coefficients: at most 2048 × premultiplier at their place, in size
 abbrev pub possibleBlock : List ℤ → Bool
-possibleBlock c = every 64 (λ k. leb (natAbs (getD c k (pos 0))) (2048 * natAbs (getD premultiplierMatrix k (pos 0))))
+possibleBlock c = allBelow 64 (λ k. leb (natAbs (getD c k (pos 0))) (2048 * natAbs (getD premultiplierMatrix k (pos 0))))
 
 -- scale, address, vectors, DC predictors, left-over coefficients
 abbrev pub possibleSlice : Slice → Bool
 possibleSlice s =
     leb (s .«quantizer_scale») 31 && between (negℤ (pos 1)) (pos 402700000) (s .«macroblock_address») &&
     possibleMotion (s .«motion_forward») && possibleMotion (s .«motion_backward») &&
-    every 3 (λ k. dcInside (getD (s .«dc_predictor») k (pos 0))) && possibleBlock (s .«block_data»)
+    allBelow 3 (λ k. dcInside (getD (s .«dc_predictor») k (pos 0))) && possibleBlock (s .«block_data»)
 
 -- type, start code, stores
 abbrev pub possiblePicture : Picture → Bool

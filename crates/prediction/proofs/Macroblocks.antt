@@ -15,7 +15,7 @@ use Rattle.prediction.specs.declared.planes.Plane.{Plane}
 use Rattle.prediction.specs.declared.planes.Plane.the-variants.{Y, Cr, Cb}
 use Rattle.prediction.specs.declared.predict.Predicted.{Predicted}
 use Rattle.prediction.specs.declared.predict.Predicted.the-variants.{Done, Refused}
-use Rattle.prediction.specs.Planes.{Inside, macroblocks, blockSize, planeLength, planeStart, After, inPlane, next, ofStores, predictedPlanes}
+use Rattle.prediction.specs.Planes.{Inside, macroblocks, blockSize, planeStart, After, inPlane, next, ofStores, predictedPlanes}
 use Rattle.prediction.specs.Predict.{Placed, blockOf, bytes, chroma}
 use Rattle.prediction.specs.Writers.{lumaPlace, chromaPlace}
 use Rattle.prediction.proofs.Places.{at-place, block-in}
@@ -45,11 +45,6 @@ module _ {m : Macroblock} (i : Inside m) where
 
   pub chroma-in : chromaPlace (m .across * 8) (m .row) (m .column) + 7 * (m .across * 8) + 8 ≤ 64 * macroblocks m
   chroma-in = omega (arith, block-in (placed Cr))
-
-pub bytes-are : (m : Macroblock) (q : Plane) → bytes (blockOf m (blockSize q)) ≡ planeLength q (macroblocks m)
-bytes-are m Y = omega arith
-bytes-are m Cr = omega arith
-bytes-are m Cb = omega arith
 
 pub plane-in : (m : Macroblock) (q : Plane) (k : ℕ) → k < 3 → planeStart k q (macroblocks m) + bytes (blockOf m (blockSize q)) ≤ 1152 * macroblocks m
 plane-in m Y k h = omega (arith, store-most k (macroblocks m) h)

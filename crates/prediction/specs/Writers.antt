@@ -1,14 +1,10 @@
 -- RULES 6.12, 6.13: the results of a block written at its place.
 use mathlib.Core.List.{List}
-use Prim.Native.Nat.{ℕ, _+_, _*_, _/_, _%_, _≤_, _<_}
-use lib.IntN.{ℤ, pos, natAbs, _+ℤ_}
+use Prim.Native.Nat.{ℕ, _+_, _*_, _/_, _%_}
+use lib.IntN.{ℤ, pos, _+ℤ_}
 use lib.ListN.{getD}
 use Rattle.laws.specs.Signed.{clamp255}
 use Rattle.laws.specs.Stores.{storeRows}
-
--- 64 results to each of which a byte can be added in 32 bits, as the transform gives them
-pub record Narrow (s : List ℤ) : Type 0 where
-  pub entry : (k : ℕ) → k < 64 → natAbs (getD s k (pos 0)) ≤ 131072
 
 -- one byte everywhere
 unfoldable pub setConst : List ℕ → ℕ → ℕ → ℕ → List ℕ

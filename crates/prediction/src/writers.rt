@@ -9,7 +9,8 @@ ghost use lib.ListN.{length, getD};
 ghost use Rattle.laws.specs.Signed.{clamp255};
 ghost use Rattle.laws.specs.Stores.{storeRow};
 ghost use Rattle.prediction.specs.Planes.{Inside, macroblocks};
-ghost use Rattle.prediction.specs.Writers.{Narrow, lumaPlace, chromaPlace, setConst, overwrite, addConst, addBlock};
+ghost use Rattle.laws.specs.Sizes.{Narrow};
+ghost use Rattle.prediction.specs.Writers.{lumaPlace, chromaPlace, setConst, overwrite, addConst, addBlock};
 
 // A result as a byte.
 fn clamped(s: &[i32; 64], k: usize) -> u8

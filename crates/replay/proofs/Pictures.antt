@@ -11,7 +11,7 @@ use lib.ListN.{length}
 use Rattle.argb.specs.Scaled.{picture, Whole, scaled}
 use Rattle.lists.specs.Bytes.{part}
 use Rattle.lists.specs.Numbers.{numberAt, holds}
-use Rattle.lists.proofs.Each.{both}
+use Rattle.laws.proofs.Tests.{both}
 use Rattle.lists.proofs.Parts.{part-long}
 use Rattle.replay.specs.ScaledList.{blank, possible, scaledAgrees}
 

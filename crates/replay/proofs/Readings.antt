@@ -10,7 +10,7 @@ use lib.ListN.{length}
 use Rattle.bits.specs.Programs.{Prog}
 use Rattle.bits.specs.Runs.{Runs}
 use Rattle.lists.specs.Numbers.{numberAt}
-use Rattle.lists.proofs.Each.{both}
+use Rattle.laws.proofs.Tests.{both}
 use Rattle.lists.proofs.Parts.{part-most}
 use Rattle.replay.specs.Readings.{possible, streamOf, sameEnd, runAgrees}
 

@@ -14,7 +14,8 @@ use Rattle.laws.proofs.Tables.{every}
 use Rattle.transform.specs.declared.butterfly.Eight.{Eight}
 use Rattle.transform.specs.Butterfly.{nth, over256, butterfly}
 use Rattle.transform.specs.Idct.{at, lane, columns, rows, idct}
-use Rattle.transform.specs.Bounds.{AtMost, Middle, Narrow, inputSize, outputSize}
+use Rattle.laws.specs.Sizes.{AtMost, Narrow}
+use Rattle.transform.specs.Bounds.{Middle, inputSize, outputSize}
 use Rattle.transform.proofs.Eights.{nth-eight}
 use Rattle.transform.proofs.Blocks.{block-at}
 use Rattle.transform.proofs.Steps.{outs, good, outs-within}

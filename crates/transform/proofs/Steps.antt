@@ -13,7 +13,7 @@ use Rattle.laws.proofs.Exprs.{Exp, var, cst, _⊹_, _∸_, _×̇_, neg, shr, In
 use Rattle.laws.proofs.Tables.{every, at}
 use Rattle.transform.specs.declared.butterfly.Eight.{Eight}
 use Rattle.transform.specs.Butterfly.{nth, butterfly}
-use Rattle.transform.specs.Bounds.{AtMost}
+use Rattle.laws.specs.Sizes.{AtMost}
 use Rattle.transform.proofs.Eights.{nth-eight}
 
 -- a sum before it is shifted, and the rounding

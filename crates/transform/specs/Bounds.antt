@@ -1,13 +1,10 @@
 -- RULES 4.4: the sizes at which no step of the transform leaves 32 bits.
-use Prim.Native.Nat.{ℕ, _%_, _≤_, _<_}
+use Prim.Native.Nat.{ℕ, _%_}
 use mathlib.Core.List.{List, [], _∷_}
-use lib.IntN.{ℤ, natAbs}
+use lib.IntN.{ℤ}
 use lib.ListN.{getD}
+use Rattle.laws.specs.Sizes.{AtMost}
 use Rattle.transform.specs.Idct.{at}
-
--- the absolute value of each f k, k below n, is at most size k
-pub record AtMost (n : ℕ) (size : ℕ → ℕ) (f : ℕ → ℤ) : Type 0 where
-  pub entry : (k : ℕ) → k < n → natAbs (f k) ≤ size k
 
 -- the eight inputs of the step. Columns of coefficients keep to these sizes, and so do the rows between the passes
 abbrev pub inputSize : ℕ → ℕ
@@ -20,7 +17,3 @@ outputSize k = 33500000
 -- a block between the passes
 abbrev pub Middle : List ℤ → Type 0
 Middle l = AtMost 64 (λ k. inputSize (k % 8)) (at l)
-
--- the results: a byte can be added to each in 32 bits
-abbrev pub Narrow : List ℤ → Type 0
-Narrow l = AtMost 64 (λ k. 131072) (at l)

@@ -1,7 +1,8 @@
 // The eight-point step, which the Rust's idct has in line, once for columns and once for rows.
 ghost use mathlib.Core.Path.{_≡_};
 ghost use Rattle.transform.specs.Butterfly.{nth, eight, over256, butterfly};
-ghost use Rattle.transform.specs.Bounds.{AtMost, inputSize, outputSize};
+ghost use Rattle.laws.specs.Sizes.{AtMost};
+ghost use Rattle.transform.specs.Bounds.{inputSize, outputSize};
 
 // A column or a row.
 pub struct Eight {

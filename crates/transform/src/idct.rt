@@ -10,7 +10,8 @@ ghost use Rattle.laws.specs.Stores.{storeRows};
 ghost use Rattle.codes.specs.Matrices.{Bounded};
 ghost use Rattle.transform.specs.Butterfly.{nth};
 ghost use Rattle.transform.specs.Idct.{lane, columns, rows, idct, dcOnly};
-ghost use Rattle.transform.specs.Bounds.{Middle, Narrow};
+ghost use Rattle.laws.specs.Sizes.{Narrow};
+ghost use Rattle.transform.specs.Bounds.{Middle};
 
 // The eight numbers from start on, step apart: a column or a row.
 fn lane(block: &[i32; 64], start: usize, step: usize) -> Eight

@@ -1,7 +1,6 @@
 -- The thirteen worked cases (RULES W). Assumes nothing.
 use mathlib.Core.Path.{_≡_, refl}
-use mathlib.Core.List.{List, map}
-use lib.IntN.{ℤ}
+use mathlib.Core.List.{map}
 use lib.ListN.{length}
 use Rattle.laws.specs.Signed.{half0, odd, clamp255}
 use Rattle.motion.specs.Displacement.{displace, corrected}

@@ -11,7 +11,7 @@ use lib.IntN.{ℤ}
 use lib.ListN.{length, set}
 use mir.Syntax.{w32}
 use Rattle.laws.proofs.Exprs.{Exp, var, cst, _∸_, Input, natural, eval-fits, need, value}
-use Rattle.prediction.specs.Writers.{Narrow}
+use Rattle.laws.specs.Sizes.{Narrow}
 use Rattle.bench.specs.Planes.{repeated, writeBlock, resultsAt, writeNumber, writePlane}
 use Rattle.bench.proofs.Results.{results-narrow}
 use Rattle.bench.proofs.Rooms.{Room, room-yes, repeated-on, count-most, inside}

@@ -6,7 +6,7 @@ use borrow.Author.Needs.{sfits-of}
 use mir.Syntax.{w32}
 use mir.Facts.{toZ-ofZ}
 use Rattle.coefficients.proofs.Bounds.{premultiplier-small, premultiplier-read}
-use Rattle.lists.proofs.Each.{Passed, passed-none, passed-one, passed-fails, passed-all}
+use Rattle.laws.proofs.Each.{Passed, passed-none, passed-one, passed-fails, passed-all}
 use Rattle.block_lists.specs.Bounded.{withinAt, bounded}
 use Rattle.block_lists.proofs.bounded.bounded.Statement.{statement}
 use Rattle.block_lists.proofs.bounded.bounded.Tie as tie

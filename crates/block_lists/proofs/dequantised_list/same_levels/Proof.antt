@@ -2,7 +2,7 @@ use mathlib.Core.Path.{ap, sym, _∙_}
 use mathlib.Core.Bool.{not, Bool·not-not}
 use Prim.Native.Nat.{_-_}
 use native.Mathlib.Omega.{arith}
-use Rattle.lists.proofs.Each.{Passed, passed-none, passed-one, passed-fails, passed-all}
+use Rattle.laws.proofs.Each.{Passed, passed-none, passed-one, passed-fails, passed-all}
 use Rattle.block_lists.specs.DequantisedList.{sameLevel, sameLevels}
 use Rattle.block_lists.proofs.dequantised_list.same_levels.Statement.{statement}
 use Rattle.block_lists.proofs.dequantised_list.same_levels.Tie as tie

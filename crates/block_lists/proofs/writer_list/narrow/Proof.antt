@@ -3,7 +3,7 @@ use native.Mathlib.Omega.{arith}
 use borrow.Author.Needs.{sfits-of}
 use mir.Syntax.{w32}
 use mir.Facts.{toZ-ofZ}
-use Rattle.lists.proofs.Each.{Passed, passed-none, passed-one, passed-fails, passed-all}
+use Rattle.laws.proofs.Each.{Passed, passed-none, passed-one, passed-fails, passed-all}
 use Rattle.block_lists.specs.WriterList.{narrowAt, narrow}
 use Rattle.block_lists.proofs.Writers.{tested}
 use Rattle.block_lists.proofs.writer_list.narrow.Statement.{statement}

@@ -1,6 +1,5 @@
 use mathlib.Core.Path.{ap}
 use mathlib.Core.List.{List, [], _∷_}
-use Prim.Native.Nat.{_*_}
 use native.Mathlib.Nat.{mul-le-mul-right}
 use native.Mathlib.Omega.{arith}
 use lib.IntN.{ℤ, natAbs, _*ℤ_}

@@ -7,7 +7,7 @@ use mir.Syntax.{w32}
 use mir.Facts.{toZ-ofZ}
 use lib.Dec.{eqb}
 use Rattle.lists.specs.Blocks.{sameAt, holdsBlock}
-use Rattle.lists.proofs.Each.{Passed, passed-none, passed-one, passed-fails, passed-all}
+use Rattle.laws.proofs.Each.{Passed, passed-none, passed-one, passed-fails, passed-all}
 use Rattle.lists.proofs.block.holds_block.Statement.{statement}
 use Rattle.lists.proofs.block.holds_block.Tie as tie
 

@@ -3,7 +3,7 @@ use native.Mathlib.Omega.{arith}
 use borrow.Author.Tests.{eq-eqb, ne-eqb}
 use lib.ListN.{length}
 use Rattle.lists.specs.Numbers.{sameNumber, holds}
-use Rattle.lists.proofs.Each.{Passed, passed-none, passed-one, passed-fails, passed-all}
+use Rattle.laws.proofs.Each.{Passed, passed-none, passed-one, passed-fails, passed-all}
 use Rattle.lists.proofs.numbers.holds.Statement.{statement}
 use Rattle.lists.proofs.numbers.holds.Tie as tie
 

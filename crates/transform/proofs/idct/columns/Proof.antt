@@ -2,7 +2,8 @@ use mathlib.Core.Path.{ap, _∙_}
 use Prim.Native.Nat.{_-_}
 use native.Mathlib.Omega.{arith}
 use Rattle.transform.specs.Butterfly.{nth, butterfly}
-use Rattle.transform.specs.Bounds.{AtMost, inputSize}
+use Rattle.laws.specs.Sizes.{AtMost}
+use Rattle.transform.specs.Bounds.{inputSize}
 use Rattle.transform.proofs.Passes.{After, start-pass, kept, turn-pass, by-columns, end-columns}
 use Rattle.transform.proofs.Sizes.{column-within}
 use Rattle.transform.proofs.idct.columns.Statement.{statement}

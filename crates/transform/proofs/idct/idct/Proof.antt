@@ -2,7 +2,8 @@ use mathlib.Core.Path.{_≡_, sym, ap, _∙_, subst}
 use borrow.Author.Needs.{needs}
 use lib.ListN.{length}
 use Rattle.transform.specs.Idct.{rows, idct}
-use Rattle.transform.specs.Bounds.{Middle, Narrow}
+use Rattle.laws.specs.Sizes.{Narrow}
+use Rattle.transform.specs.Bounds.{Middle}
 use Rattle.transform.proofs.Blocks.{columns-length}
 use Rattle.transform.proofs.Sizes.{middle, idct-narrow}
 use Rattle.transform.proofs.idct.idct.Statement.{statement}

@@ -3,7 +3,8 @@ use Prim.Native.Nat.{_-_}
 use native.Mathlib.Omega.{arith}
 use Rattle.transform.specs.declared.butterfly.Eight.{Eight}
 use Rattle.transform.specs.Butterfly.{eight, nth, over256, butterfly}
-use Rattle.transform.specs.Bounds.{AtMost, inputSize, outputSize}
+use Rattle.laws.specs.Sizes.{AtMost}
+use Rattle.transform.specs.Bounds.{inputSize, outputSize}
 use Rattle.transform.proofs.Passes.{After, start-pass, kept, turn-pass, by-rows, row-step, end-rows}
 use Rattle.transform.proofs.Sizes.{row-within, outputs-within}
 use Rattle.transform.proofs.idct.rows.Statement.{statement}

@@ -1,14 +1,11 @@
 -- Tests at all places below some number, one after the other.
 use mathlib.Core.Path.{_≡_, refl, sym, _∙_}
-use mathlib.Core.Bool.{Bool, true, false, false≢true, _&&_, and-false, and-eq-true-iff}
+use mathlib.Core.Bool.{Bool, true, false, false≢true, _&&_, and-false}
 use Prim.Native.Nat.{ℕ, zero, suc, _+_, _≤_, _<_}
 use native.Mathlib.Decide.{decLt}
 use native.Mathlib.Numerals.{add-one}
 use native.Mathlib.Omega.{arith}
-use Rattle.lists.specs.Each.{allBelow}
-
-pub both : (t u : Bool) → (t && u) ≡ true → (t ≡ true) × (u ≡ true)
-both t u = and-eq-true-iff t u .0
+use Rattle.laws.specs.Each.{allBelow}
 
 one-fails : (f : ℕ → Bool) (n i : ℕ) → i < n → f i ≡ false → allBelow n f ≡ false
 unfolding allBelow
@@ -25,6 +22,11 @@ all-at f n h k q = go (f k) refl
     go : (b : Bool) → f k ≡ b → f k ≡ true
     go true e = e
     go false e = absurd (false≢true (sym (one-fails f n k q e) ∙ h))
+
+pub all-by : (f : ℕ → Bool) (n : ℕ) → ((k : ℕ) → k < n → f k ≡ true) → allBelow n f ≡ true
+unfolding allBelow
+all-by f zero h = refl
+all-by f (suc n) h = rw (all-by f n (λ k l. h k (omega arith)), h n (omega arith))
 
 -- a loop over n places that has passed the first i of them
 pub record Passed (f : ℕ → Bool) (n i : ℕ) : Type 0 where
