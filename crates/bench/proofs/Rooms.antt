@@ -8,9 +8,8 @@ use native.Mathlib.Numerals.{add-one}
 use native.Mathlib.Omega.{arith}
 use lib.Dec.{T, leb, leb→le}
 use mir.Facts.{and-yes}
-use Rattle.prediction.specs.Planes.{Inside}
 use Rattle.prediction.specs.declared.planes.Plane.the-variants.{Y, Cr}
-use Rattle.prediction.specs.Predict.{Placed, blockOf, bytes}
+use Rattle.prediction.specs.Predict.{Inside, Placed, blockOf, bytes}
 use Rattle.prediction.proofs.Macroblocks.{placed}
 use Rattle.bench.specs.Planes.{room, repeated, macroblock, sizeOf}
 

@@ -29,7 +29,8 @@ use Rattle.lists.specs.Bytes.{part, sameBytes}
 use Rattle.lists.specs.Numbers.{numberAt}
 use Rattle.laws.proofs.Tests.{both}
 use Rattle.prediction.specs.declared.place.Macroblock.{Macroblock}
-use Rattle.prediction.specs.Planes.{Inside, macroblocks}
+use Rattle.prediction.specs.Planes.{macroblocks}
+use Rattle.prediction.specs.Predict.{Inside}
 use Rattle.block_lists.specs.BlockList.{possible, placeOf, widthOf, matrixAt, written, endsAs, blockAgrees}
 use Rattle.block_lists.specs.Bounded.{bounded}
 use Rattle.block_lists.specs.MacroblockList.{macroblockAt}

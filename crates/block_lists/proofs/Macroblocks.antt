@@ -16,8 +16,8 @@ use Rattle.laws.proofs.Tests.{both}
 use Rattle.prediction.specs.declared.place.Macroblock.{Macroblock}
 use Rattle.prediction.specs.declared.planes.Plane.{Plane}
 use Rattle.prediction.specs.declared.planes.Plane.the-variants.{Y, Cr, Cb}
-use Rattle.prediction.specs.Planes.{Inside, macroblocks, blockSize, planeStart}
-use Rattle.prediction.specs.Predict.{blockOf, address}
+use Rattle.prediction.specs.Planes.{macroblocks, blockSize, planeStart}
+use Rattle.prediction.specs.Predict.{Inside, blockOf, address}
 use Rattle.prediction.proofs.Macroblocks.{count-most, placed, plane-in}
 use Rattle.prediction.proofs.Places.{block-in}
 use Rattle.block_lists.proofs.Sizes.{size-most}

@@ -44,7 +44,8 @@ ghost use Rattle.codes.specs.Matrices.{Bounded};
 ghost use Rattle.coefficients.specs.Blocks.{quantiser, block, readOf};
 ghost use Rattle.lists.specs.Bytes.{part};
 ghost use Rattle.picture.specs.Blocks.{results};
-ghost use Rattle.prediction.specs.Planes.{Inside, macroblocks};
+ghost use Rattle.prediction.specs.Planes.{macroblocks};
+ghost use Rattle.prediction.specs.Predict.{Inside};
 ghost use Rattle.block_lists.specs.BlockList.{possible, placeOf, widthOf, matrixAt, written, endsAs, blockAgrees};
 
 // Whether a picture of at most five macroblocks by two has the block, and it can have these (RULES 3.8, Q8).

@@ -18,7 +18,7 @@ ghost use mathlib.Core.Path.{_≡_};
 ghost use mathlib.Core.Bool.{true};
 ghost use Prim.Native.Nat.{_<_};
 ghost use lib.Dec.{eqb};
-ghost use Rattle.prediction.specs.Planes.{Inside};
+ghost use Rattle.prediction.specs.Predict.{Inside};
 ghost use Rattle.block_lists.specs.MacroblockList.{possible, refusals, macroblockAt, laidIn, withMacroblock, endsAs, macroblockAgrees};
 ghost use Rattle.block_lists.specs.Planes.{noisy};
 

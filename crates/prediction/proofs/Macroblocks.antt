@@ -15,8 +15,8 @@ use Rattle.prediction.specs.declared.planes.Plane.{Plane}
 use Rattle.prediction.specs.declared.planes.Plane.the-variants.{Y, Cr, Cb}
 use Rattle.prediction.specs.declared.predict.Predicted.{Predicted}
 use Rattle.prediction.specs.declared.predict.Predicted.the-variants.{Done, Refused}
-use Rattle.prediction.specs.Planes.{Inside, macroblocks, blockSize, planeStart, After, inPlane, next, ofStores, predictedPlanes}
-use Rattle.prediction.specs.Predict.{Placed, blockOf, bytes, chroma}
+use Rattle.prediction.specs.Planes.{macroblocks, blockSize, planeStart, After, inPlane, next, ofStores, predictedPlanes}
+use Rattle.prediction.specs.Predict.{Inside, Placed, blockOf, bytes, chroma}
 use Rattle.prediction.specs.Writers.{lumaPlace, chromaPlace}
 use Rattle.prediction.proofs.Places.{at-place, block-in}
 
@@ -29,9 +29,9 @@ module _ {m : Macroblock} (i : Inside m) where
   count-most = mul-le-mul (i .across) (i .down)
 
   pub placed : (q : Plane) → Placed (blockOf m (blockSize q))
-  placed Y = record { size = inr refl; across = i .across; down = i .down; row = i .row; column = i .column }
-  placed Cr = record { size = inl refl; across = i .across; down = i .down; row = i .row; column = i .column }
-  placed Cb = record { size = inl refl; across = i .across; down = i .down; row = i .row; column = i .column }
+  placed Y = record { size = inr refl; inside = i }
+  placed Cr = record { size = inl refl; inside = i }
+  placed Cb = record { size = inl refl; inside = i }
 
   -- the four blocks of Y, and the one of Cr and Cb, lie in their planes
   pub luma-in : (block : ℕ) → lumaPlace (m .across * 16) (m .row) (m .column) block + 7 * (m .across * 16) + 8 ≤ 256 * macroblocks m

@@ -34,19 +34,19 @@ module _ {p : Place} (k : Placed p) where
   size-eights = ⊎-elim (λ e. omega arith) (λ e. omega arith) (k .size)
 
   pub width-most : width p ≤ 4096
-  width-most = mul-le-mul (k .across) size-to
+  width-most = mul-le-mul (k .inside .across) size-to
 
   pub height-most : height p ≤ 4096
-  height-most = mul-le-mul (k .down) size-to
+  height-most = mul-le-mul (k .inside .down) size-to
 
   pub bytes-most : bytes p ≤ 16777216
   bytes-most = mul-le-mul width-most height-most
 
   pub row-in : p .row * p .size + p .size ≤ height p
-  row-in = omega (arith, mul-le-mul-right (p .size) (k .row))
+  row-in = omega (arith, mul-le-mul-right (p .size) (k .inside .row))
 
   pub column-in : p .column * p .size + p .size ≤ width p
-  column-in = omega (arith, mul-le-mul-right (p .size) (k .column))
+  column-in = omega (arith, mul-le-mul-right (p .size) (k .inside .column))
 
   pub block-in : address p + (p .size - 1) * width p + p .size ≤ bytes p
   block-in = at-place (p .row * p .size) (p .column * p .size) (p .size) (width p) (height p) (omega (arith, size-from)) row-in column-in

@@ -1,7 +1,7 @@
 -- RULES 6.10, 6.11: the three stores, the planes of each, and the prediction of a macroblock's planes.
 use mathlib.Core.Bool.{Bool}
 use mathlib.Core.List.{List}
-use Prim.Native.Nat.{ℕ, _+_, _*_, _≤_, _<_}
+use Prim.Native.Nat.{ℕ, _+_, _*_}
 use borrow.Rule.Slice.PartMut.{midOf, putMid}
 use lib.IntN.{ℤ}
 use Rattle.prediction.specs.declared.place.Macroblock.{Macroblock}
@@ -13,13 +13,6 @@ use Rattle.prediction.specs.declared.planes.Plane.the-variants.{Y, Cr, C
 use Rattle.prediction.specs.declared.predict.Predicted.{Predicted}
 use Rattle.prediction.specs.declared.predict.Predicted.the-variants.{Done, Refused}
 use Rattle.prediction.specs.Predict.{blockOf, bytes, way, predicted, chroma}
-
--- what the picture layer's macroblocks keep to
-pub record Inside (m : Macroblock) : Type 0 where
-  pub across : m .across ≤ 256
-  pub down : m .down ≤ 256
-  pub row : m .row < m .down
-  pub column : m .column < m .across
 
 -- macroblocks of the picture
 abbrev pub macroblocks : Macroblock → ℕ

@@ -20,13 +20,21 @@ use Rattle.prediction.specs.Samples.{sample, laid}
 abbrev pub blockOf : Macroblock → ℕ → Place
 blockOf m size = record { size = size; across = m .across; down = m .down; row = m .row; column = m .column }
 
--- what the picture layer's places keep to: blocks of 8 or 16 samples, at most 256 of them each way
+-- and the macroblock of a block
+abbrev pub macroblockOf : Place → Macroblock
+macroblockOf p = record { across = p .across; down = p .down; row = p .row; column = p .column }
+
+-- what the picture layer's macroblocks keep to: at most 256 of them each way
+pub record Inside (m : Macroblock) : Type 0 where
+  pub across : m .across ≤ 256
+  pub down : m .down ≤ 256
+  pub row : m .row < m .down
+  pub column : m .column < m .across
+
+-- and the places of their blocks, of 8 or 16 samples
 pub record Placed (p : Place) : Type 0 where
   pub size : (p .size ≡ 8) ⊎ (p .size ≡ 16)
-  pub across : p .across ≤ 256
-  pub down : p .down ≤ 256
-  pub row : p .row < p .down
-  pub column : p .column < p .across
+  pub inside : Inside (macroblockOf p)
 
 -- the plane's width and height in samples
 abbrev pub width : Place → ℕ

@@ -14,8 +14,8 @@ ghost use Prim.Native.Nat.{_+_, _*_, _≤_, _<_};
 ghost use borrow.Rule.Slice.PartMut.{midOf, putMid};
 ghost use lib.IntN.{natAbs};
 ghost use lib.ListN.{length};
-ghost use Rattle.prediction.specs.Planes.{Inside, macroblocks, inPlane, ofStores, predictedPlanes};
-ghost use Rattle.prediction.specs.Predict.{Placed, bytes, maxAddress, reach, predicted};
+ghost use Rattle.prediction.specs.Planes.{macroblocks, inPlane, ofStores, predictedPlanes};
+ghost use Rattle.prediction.specs.Predict.{Inside, Placed, bytes, maxAddress, reach, predicted};
 
 // RULES Q9: refused is number 9.
 pub enum Predicted {

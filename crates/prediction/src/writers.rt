@@ -8,7 +8,8 @@ ghost use lib.IntN.{pos, natAbs, _+ℤ_};
 ghost use lib.ListN.{length, getD};
 ghost use Rattle.laws.specs.Signed.{clamp255};
 ghost use Rattle.laws.specs.Stores.{storeRow};
-ghost use Rattle.prediction.specs.Planes.{Inside, macroblocks};
+ghost use Rattle.prediction.specs.Planes.{macroblocks};
+ghost use Rattle.prediction.specs.Predict.{Inside};
 ghost use Rattle.laws.specs.Sizes.{Narrow};
 ghost use Rattle.prediction.specs.Writers.{lumaPlace, chromaPlace, setConst, overwrite, addConst, addBlock};
 
