@@ -1,4 +1,4 @@
--- RULES C.4: a stream of two macroblocks, an I and a P picture: the definitions give the bytes that the Rust gives.
+-- RULES C.4: two streams of an I, a P and a B picture: the definitions give the bytes that the Rust gives.
 use mathlib.Core.Path.{_≡_, refl}
 use mathlib.Core.List.{List, [], _∷_, _++_}
 use Prim.Native.Nat.{ℕ}
@@ -10,7 +10,7 @@ use Rattle.laws.specs.Stores.{storeRow, storeRows}
 use Rattle.laws.specs.Turns.{turns}
 use Rattle.bits.specs.Bits.{bitAt, bitsAt, got, next, codePrefix, codeFrom, found}
 use Rattle.bits.specs.Programs.{run, bind, loop, findTurn, findStartCode}
-use Rattle.codes.specs.Tables.{macroblockAddressIncrementIndex, macroblockAddressIncrementValue, macroblockTypeIntraIndex, macroblockTypeIntraValue, macroblockTypePredictiveIndex, macroblockTypePredictiveValue, motionIndex, motionValue, dctSizeLuminanceIndex, dctSizeLuminanceValue, dctSizeChrominanceIndex, dctSizeChrominanceValue, dctCoeffIndex, dctCoeffValue}
+use Rattle.codes.specs.Tables.{macroblockAddressIncrementIndex, macroblockAddressIncrementValue, macroblockTypeIntraIndex, macroblockTypeIntraValue, macroblockTypePredictiveIndex, macroblockTypePredictiveValue, macroblockTypeBIndex, macroblockTypeBValue, motionIndex, motionValue, dctSizeLuminanceIndex, dctSizeLuminanceValue, dctSizeChrominanceIndex, dctSizeChrominanceValue, dctCoeffIndex, dctCoeffValue}
 use Rattle.codes.specs.Walk.{walkTurn, walk, vlc}
 use Rattle.codes.specs.Codes as Codes
 use Rattle.codes.specs.Matrices.{downFrom, diagonals, zigZag, intraQuantMatrix, nonIntraQuantMatrix, premultiplierMatrix}
@@ -29,10 +29,10 @@ use Rattle.prediction.specs.Planes.{follow, next as following, predictedPlanes}
 use Rattle.prediction.specs.Writers.{setConst, overwrite}
 use Rattle.picture.specs.Ways.{also, leave, onward, plain}
 use Rattle.picture.specs.Increments.{incrementTurn, increment}
-use Rattle.picture.specs.Predictions.{unlessRefused, predictFrom, predict}
+use Rattle.picture.specs.Predictions.{unlessRefused, predictFrom, predictBoth, predict, predictSkipped}
 use Rattle.picture.specs.Heads.{macroblockType, scale, vector, forward, backward, vectors, head, pattern}
 use Rattle.picture.specs.Blocks.{placeOf, results, written, blockEnd, oneBlock, lastBlocks, blocks}
-use Rattle.picture.specs.Macroblocks.{advance, predictUnlessIntra, body, firstOf, laterOf, macroblock}
+use Rattle.picture.specs.Macroblocks.{skipReset, advance, predictUnlessIntra, body, firstOf, laterOf, macroblock}
 use Rattle.picture.specs.Slices.{extraTurn, extra, pastMacroblock, sliceTurn, slice}
 use Rattle.picture.specs.Pictures as P
 use Rattle.decoder.specs.Record.{Left, fresh, cleared}
@@ -59,12 +59,16 @@ intraBytes = 0x00 ∷ 0x00 ∷ 0x01 ∷ 0x00 ∷ 0x00 ∷ 0x08 ∷ 0xff ∷ 0xf8
 abbrev predictiveBytes : List ℕ
 predictiveBytes = 0x00 ∷ 0x00 ∷ 0x01 ∷ 0x00 ∷ 0x00 ∷ 0x17 ∷ 0xff ∷ 0xf8 ∷ 0x80 ∷ 0x00 ∷ 0x00 ∷ 0x01 ∷ 0x01 ∷ 0x0a ∷ 0x79 ∷ 0x70 ∷ []
 
--- a picture that is found behind the two, and one behind it
+-- a B picture with one slice: the first macroblock by the vectors (1, 0) forward and (0, 0) backward, the second by (-1, 0) backward
+abbrev bothWaysBytes : List ℕ
+bothWaysBytes = 0x00 ∷ 0x00 ∷ 0x01 ∷ 0x00 ∷ 0x00 ∷ 0x1f ∷ 0xff ∷ 0xf8 ∷ 0x88 ∷ 0x00 ∷ 0x00 ∷ 0x01 ∷ 0x01 ∷ 0x0b ∷ 0x2f ∷ 0x4e ∷ []
+
+-- a picture that is found behind the three, and one behind it
 abbrev laterBytes : List ℕ
 laterBytes = 0x00 ∷ 0x00 ∷ 0x01 ∷ 0x00 ∷ 0x00 ∷ 0x08 ∷ 0xff ∷ 0xff ∷ []
 
 abbrev stream : List ℕ
-stream = headerBytes ++ (replicate 104 0xff ++ (intraBytes ++ (predictiveBytes ++ (laterBytes ++ laterBytes))))
+stream = headerBytes ++ (replicate 104 0xff ++ (intraBytes ++ (predictiveBytes ++ (bothWaysBytes ++ (laterBytes ++ laterBytes)))))
 
 abbrev first : Left Opening
 first = opening stream (replicate 2304 7)
@@ -75,17 +79,45 @@ second = handOut (first .decoder) stream (first .store)
 abbrev third : Left Outcome
 third = handOut (second .decoder) stream (second .store)
 
--- what the two hand-outs give
-pub record TwoPictures : Type 0 where
+-- 48 × 16 samples: three macroblocks
+abbrev wideBytes : List ℕ
+wideBytes = 0x00 ∷ 0x00 ∷ 0x01 ∷ 0xb3 ∷ 0x03 ∷ 0x00 ∷ 0x10 ∷ 0x13 ∷ 0x00 ∷ 0x00 ∷ 0x00 ∷ 0x00 ∷ []
+
+-- an I picture: DC 133, 128 and 138
+abbrev threeBytes : List ℕ
+threeBytes = 0x00 ∷ 0x00 ∷ 0x01 ∷ 0x00 ∷ 0x00 ∷ 0x08 ∷ 0xff ∷ 0xf8 ∷ 0x00 ∷ 0x00 ∷ 0x01 ∷ 0x01 ∷ 0x0b ∷ 0xb6 ∷ 0x94 ∷ 0xa4 ∷ 0x45 ∷ 0xd5 ∷ 0x4a ∷ 0x52 ∷ 0x22 ∷ 0xf5 ∷ 0x52 ∷ 0x94 ∷ 0x88 ∷ 0x80 ∷ []
+
+-- a P picture: the first macroblock by (1, 0), the second skipped, the third by (-1, 0)
+abbrev skippingBytes : List ℕ
+skippingBytes = 0x00 ∷ 0x00 ∷ 0x01 ∷ 0x00 ∷ 0x00 ∷ 0x17 ∷ 0xff ∷ 0xf8 ∷ 0x80 ∷ 0x00 ∷ 0x00 ∷ 0x01 ∷ 0x01 ∷ 0x0a ∷ 0x55 ∷ 0x97 ∷ []
+
+-- a B picture: the first macroblock by (1, 0) forward, the second skipped, the third by (-1, 0) backward
+abbrev skippingBothBytes : List ℕ
+skippingBothBytes = 0x00 ∷ 0x00 ∷ 0x01 ∷ 0x00 ∷ 0x00 ∷ 0x1f ∷ 0xff ∷ 0xf8 ∷ 0x88 ∷ 0x00 ∷ 0x00 ∷ 0x01 ∷ 0x01 ∷ 0x0a ∷ 0x4a ∷ 0xd3 ∷ 0x80 ∷ []
+
+abbrev skipping : List ℕ
+skipping = wideBytes ++ (replicate 104 0xff ++ (threeBytes ++ (skippingBytes ++ (skippingBothBytes ++ (laterBytes ++ laterBytes)))))
+
+abbrev skips : Left Outcome
+skips = let x = opening skipping (replicate 3456 7) in let y = handOut (x .decoder) skipping (x .store) in handOut (y .decoder) skipping (y .store)
+
+-- what the hand-outs give
+pub record Pictures : Type 0 where
   -- the I picture, out of store 0
   pub hands : outcomeSays (second .answer) ≡ picture 0 (ofInt binary64 (pos 0))
   -- the first row of its plane Y
   pub intra-row : take 32 (second .store) ≡ replicate 16 133 ++ replicate 16 128
   -- and of that of the P picture in store 1, where one sample is the average of 133 and 128
   pub predictive-row : take 32 (drop 768 (second .store)) ≡ replicate 16 133 ++ (131 ∷ replicate 15 128)
-  -- the P picture, out of store 1, a 25th of a second later (RULES 8.9)
-  pub hands-next : outcomeSays (third .answer) ≡ picture 1 (div binary64 (ofInt binary64 (pos 1)) (ofInt binary64 (pos 25)))
+  -- the B picture, out of store 2, a 25th of a second later (RULES 8.9)
+  pub hands-next : outcomeSays (third .answer) ≡ picture 2 (div binary64 (ofInt binary64 (pos 1)) (ofInt binary64 (pos 25)))
+  -- its first row, where 132 is the average of 131, by which the I picture predicts, and of 133, by which the P picture does
+  pub both-ways-row : take 32 (drop 1536 (third .store)) ≡ replicate 15 133 ++ (132 ∷ 132 ∷ 130 ∷ replicate 14 128)
+  -- RULES 7.19: a skip in a P picture sets the vector to 0
+  pub skipped-row : take 48 (drop 1152 (skips .store)) ≡ replicate 15 133 ++ (131 ∷ replicate 16 128) ++ (133 ∷ replicate 15 138)
+  -- and one in a B picture does not: the last of its samples is the average of 128 and 138
+  pub skipped-both-row : take 48 (drop 2304 (skips .store)) ≡ replicate 15 133 ++ (131 ∷ replicate 15 128) ++ (133 ∷ 131 ∷ 136 ∷ replicate 14 138)
 
-pub two-pictures : TwoPictures
-unfolding clamp255 half0 odd storeRow storeRows turns bitAt bitsAt got next codePrefix codeFrom found run bind loop findTurn findStartCode macroblockAddressIncrementIndex macroblockAddressIncrementValue macroblockTypeIntraIndex macroblockTypeIntraValue macroblockTypePredictiveIndex macroblockTypePredictiveValue motionIndex motionValue dctSizeLuminanceIndex dctSizeLuminanceValue dctSizeChrominanceIndex dctSizeChrominanceValue dctCoeffIndex dctCoeffValue walkTurn walk vlc Codes.macroblockAddressIncrement Codes.macroblockTypeIntra Codes.macroblockTypePredictive Codes.motion Codes.dctSizeLuminance Codes.dctSizeChrominance Codes.dctCoeff downFrom diagonals zigZag intraQuantMatrix nonIntraQuantMatrix premultiplierMatrix displacement motionVector corrected Dcs.dcSize Dcs.added Dcs.dc Coefficients.runLevel Coefficients.coefficient dequantised Block.coefficientTurn Block.coefficients Block.block Block.intraBlock Block.leftOver butterfly columns rows idct dcOnly sample way predicted setConst overwrite also leave onward plain incrementTurn increment follow following predictedPlanes unlessRefused predictFrom predict macroblockType scale vector forward backward vectors head pattern placeOf results written blockEnd oneBlock lastBlocks blocks advance predictUnlessIntra body firstOf laterOf macroblock extraTurn extra pastMacroblock sliceTurn slice P.direction P.forwardHeader P.pictureHeader P.pastSlice P.slicesTurn P.slices P.coded P.picture fresh cleared allBelow possible matrix size rest findSequence accepted askSize askHeader askStore opened opening nextPicture isFollowed timeOf counted handed shown pastPicture decoded searched pictureTurn pictures ended askFirst begun goOn handOut ofInt pixelAspectRatio pictureRate div
-two-pictures = record { hands = refl; intra-row = refl; predictive-row = refl; hands-next = refl }
+pub shown-pictures : Pictures
+unfolding clamp255 half0 odd storeRow storeRows turns bitAt bitsAt got next codePrefix codeFrom found run bind loop findTurn findStartCode macroblockAddressIncrementIndex macroblockAddressIncrementValue macroblockTypeIntraIndex macroblockTypeIntraValue macroblockTypePredictiveIndex macroblockTypePredictiveValue macroblockTypeBIndex macroblockTypeBValue motionIndex motionValue dctSizeLuminanceIndex dctSizeLuminanceValue dctSizeChrominanceIndex dctSizeChrominanceValue dctCoeffIndex dctCoeffValue walkTurn walk vlc Codes.macroblockAddressIncrement Codes.macroblockTypeIntra Codes.macroblockTypePredictive Codes.macroblockTypeB Codes.motion Codes.dctSizeLuminance Codes.dctSizeChrominance Codes.dctCoeff downFrom diagonals zigZag intraQuantMatrix nonIntraQuantMatrix premultiplierMatrix displacement motionVector corrected Dcs.dcSize Dcs.added Dcs.dc Coefficients.runLevel Coefficients.coefficient dequantised Block.coefficientTurn Block.coefficients Block.block Block.intraBlock Block.leftOver butterfly columns rows idct dcOnly sample way predicted setConst overwrite also leave onward plain incrementTurn increment follow following predictedPlanes unlessRefused predictFrom predictBoth predictSkipped predict macroblockType scale vector forward backward vectors head pattern placeOf results written blockEnd oneBlock lastBlocks blocks skipReset advance predictUnlessIntra body firstOf laterOf macroblock extraTurn extra pastMacroblock sliceTurn slice P.direction P.backwardHeader P.forwardHeader P.pictureHeader P.pastSlice P.slicesTurn P.slices P.coded P.picture fresh cleared allBelow possible matrix size rest findSequence accepted askSize askHeader askStore opened opening nextPicture isFollowed timeOf counted handed shown pastPicture decoded searched pictureTurn pictures ended askFirst begun goOn handOut ofInt pixelAspectRatio pictureRate div
+shown-pictures = record { hands = refl; intra-row = refl; predictive-row = refl; hands-next = refl; both-ways-row = refl; skipped-row = refl; skipped-both-row = refl }
