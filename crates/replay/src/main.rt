@@ -13,9 +13,10 @@ mod worked;
 use cases::Kind;
 use libc::STDOUT_FILENO;
 use lists::tally::Tally;
+use worked::Pixels;
 use worked::Values;
 
-// The line of the worked case.
+// The lines of the worked cases.
 fn print_values(values: Values) {
     io::write_all(STDOUT_FILENO, b"reader A5: ");
     io::print_decimal(STDOUT_FILENO, values.first as u64);
@@ -23,6 +24,14 @@ fn print_values(values: Values) {
     io::print_decimal(STDOUT_FILENO, values.second as u64);
     io::write_all(STDOUT_FILENO, b" ");
     io::print_decimal(STDOUT_FILENO, values.third as u64);
+    io::write_all(STDOUT_FILENO, b"\n");
+}
+
+fn print_pixels(pixels: Pixels) {
+    io::write_all(STDOUT_FILENO, b"ARGB 235 and 236: ");
+    io::print_hex(STDOUT_FILENO, pixels.near_white as u64, 8);
+    io::write_all(STDOUT_FILENO, b" ");
+    io::print_hex(STDOUT_FILENO, pixels.white as u64, 8);
     io::write_all(STDOUT_FILENO, b"\n");
 }
 
@@ -43,6 +52,7 @@ fn print(name: &[u8], tally: Tally) {
 
 fn main() {
     print_values(worked::reader());
+    print_pixels(worked::whites());
     print(b"reader", reader_list::replay());
     print(b"codes", cases::replay(Kind::Codes, b"codes.bin"));
     print(b"vectors", cases::replay(Kind::Vectors, b"vectors.bin"));

@@ -1,4 +1,5 @@
 // Cases worked by hand.
+use argb::pixel::pixel;
 use bits::reader::Reader;
 ghost use mathlib.Core.Path.{_≡_};
 
@@ -24,4 +25,18 @@ pub fn reader() -> Values
         second: b,
         third: c,
     }
+}
+
+pub struct Pixels {
+    pub near_white: u32,
+    pub white: u32,
+}
+
+// RULES W.13, W.14: Y 235 and 236 without colour give FFFEFEFE and FFFFFFFF.
+pub fn whites() -> Pixels
+    ensures { λ r. ⌜ (r .«near_white» ≡ 4294901502) × (r .white ≡ 4294967295) ⌝ }
+{
+    let near_white = pixel(235, 128, 128);
+    let white = pixel(236, 128, 128);
+    Pixels { near_white, white }
 }
