@@ -9,3 +9,4 @@ pub mod Readings
 pub mod Replays
 pub mod Scores
 pub mod Steps
+pub mod WorkedCases
