@@ -8,16 +8,20 @@ use Rattle.decoder.specs.declared.answers.Outcome.the-variants as H
 use Rattle.decoder.specs.declared.answers.Converted.{Converted}
 use Rattle.decoder.specs.declared.answers.Converted.the-variants as C
 
+-- RULES C.3: what an answer says
 pub data Said : Type 0 where
   success : Said  -- a result that has no values
   picture : ℕ → Float → Said  -- the number of the store, and the time shown
   number : ℕ → Said  -- the number of the question answered "no"
 
+-- RULES O.2: of opening
 abbrev pub openingSays : Opening → Said
 openingSays x = elim x [ O.Ready ↦ success | O.Refused n ↦ number n ]
 
+-- RULES Q, 8.9: of a hand-out
 abbrev pub outcomeSays : Outcome → Said
 outcomeSays x = elim x [ H.Picture store time ↦ picture store time | H.Refused n ↦ number n ]
 
+-- RULES Q: of the conversion
 abbrev pub convertedSays : Converted → Said
 convertedSays x = elim x [ C.Written ↦ success | C.Refused n ↦ number n ]

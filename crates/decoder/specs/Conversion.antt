@@ -16,6 +16,7 @@ use Rattle.decoder.specs.declared.answers.Converted.the-variants.{Writte
 use Rattle.decoder.specs.Record.{storeBytes}
 use Rattle.decoder.specs.Possible.{possible}
 
+-- RULES C.1: what the conversion gives: its answer and the whole area
 pub record Area : Type 0 where
   pub answer : Converted
   pub area : List ℕ

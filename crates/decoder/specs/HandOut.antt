@@ -31,6 +31,7 @@ askFirst s d l = askStore d l (if d .sequence .«has_sequence_header» then pass
 unfoldable pub begun : Decoder → Decoder → List ℕ → Going
 begun d x l = if d .sequence .«has_sequence_header» then going x l else going x (cleared (storeBytes x) l)
 
+-- RULES Q, part 8: a "no" ends the call and leaves the store; else the pictures follow
 unfoldable pub goOn : List ℕ → Decoder → List ℕ → Asked → Left Outcome
 goOn s d l (refused n x) = left (Refused n) x l
 goOn s d l (passed x) = ended d (pictures s (begun d x l))

@@ -32,6 +32,7 @@ linesFrom (suc fuel) s n d l =
       | H.Refused answer ↦ line n 0 0 answer ∷ []
     ]
 
+-- RULES L.3: a number from opening is the only line
 unfoldable pub linesOf : List ℕ → Left Opening → List Line
 linesOf s x = elim (x .answer) [ O.Ready ↦ linesFrom many s 0 (x .decoder) (x .store) | O.Refused answer ↦ line 0 0 0 answer ∷ [] ]
 

@@ -12,9 +12,11 @@ use Rattle.decoder.specs.Record.{place}
 abbrev pub across : ℕ → ℕ
 across width = (width + 15) / 16
 
+-- RULES O.4: the macroblock sizes of a picture
 abbrev pub sizesOf : ℕ → ℕ → Sizes
 sizesOf width height = record { «mb_width» = across width; «mb_height» = across height; «mb_size» = across width * across height }
 
+-- RULES Q2: are they the same?
 abbrev pub sameSizes : Sizes → Sizes → Bool
 sameSizes x z = eqb (x .«mb_width») (z .«mb_width») && eqb (x .«mb_height») (z .«mb_height») && eqb (x .«mb_size») (z .«mb_size»)
 

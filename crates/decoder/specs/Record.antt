@@ -24,6 +24,7 @@ startCode d = d .picture .«start_code»
 abbrev pub firstStores : Stores
 firstStores = record { cur = 0; fwd = 1; bwd = 2 }
 
+-- RULES O.1: the parts of the fresh record
 abbrev pub freshMotion : Motion
 freshMotion = record { «full_px» = false; «is_set» = false; «r_size» = 0; h = pos 0; v = pos 0 }
 
@@ -51,6 +52,7 @@ freshSequence = record {
   matrices = record { «intra_quant_matrix» = replicate 64 0; «non_intra_quant_matrix» = replicate 64 0 };
 }
 
+-- RULES O.1: 0.0
 abbrev pub noTime : Float
 noTime = ofInt binary64 (pos 0)
 
@@ -66,6 +68,7 @@ fresh = record {
   stop = 0;
 }
 
+-- the record with one thing changed: its place, its picture, its sequence
 abbrev pub placeAs : ℕ → Decoder → Decoder
 placeAs a d = record {
   reader = record { at = record { 0 = a } };
@@ -111,6 +114,7 @@ clockAs c n d = record {
   stop = d .stop;
 }
 
+-- RULES 8.5, 8.8: held or not
 abbrev pub heldAs : Bool → Decoder → Decoder
 heldAs b d = record {
   reader = d .reader;
@@ -122,6 +126,7 @@ heldAs b d = record {
   stop = d .stop;
 }
 
+-- RULES Q8, Q9: the stop mark
 abbrev pub stopAs : ℕ → Decoder → Decoder
 stopAs n d = record {
   reader = d .reader;

@@ -8,6 +8,7 @@ use Rattle.decoder.specs.Opening.{opening}
 use Rattle.decoder.specs.Turns.{Going, going}
 use Rattle.decoder.specs.HandOut.{handOut}
 
+-- RULES R: one call, and what it leaves to the next
 abbrev pub call : List ℕ → Going → Left Outcome
 call s x = handOut (x .decoder) s (x .store)
 
@@ -27,6 +28,7 @@ before s x (suc n) = behind (call s (before s x n))
 unfoldable pub answer : List ℕ → Going → ℕ → Outcome
 answer s x n = call s (before s x n) .answer
 
+-- RULES R.1: is it a picture?
 abbrev pub pictureIn : Outcome → ℕ
 pictureIn (Picture store time) = 1
 pictureIn (Refused number) = 0

@@ -23,6 +23,7 @@ matrix default = do
   loaded ← bits 1
   if eqb loaded 0 then done default else lastEntries 64 (replicate 64 0)
 
+-- RULES O.3: 12 bits of width, 12 bits of height
 pub record Size : Type 0 where
   pub width : ℕ
   pub height : ℕ

@@ -96,5 +96,6 @@ searched s d l =
     if eqZ (startCode d) (negsuc 0) then stop (flushed s d l)
     else (if isFollowed s (place d) then decoded s d l else stop (gave (Refused 7) d l))
 
+-- RULES 8.2 to 8.8: a turn
 unfoldable pub pictureTurn : List ℕ → Going → Turn Going Ended
 pictureTurn s x = searched s (nextPicture s (x .decoder)) (x .store)

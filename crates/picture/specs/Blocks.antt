@@ -29,6 +29,7 @@ planeOf number = if ltb number 4 then Y else (if eqb number 4 then Cb else Cr)
 abbrev pub predictorOf : ℕ → ℕ
 predictorOf number = number - 3
 
+-- RULES part 6: the width of that plane in samples
 abbrev pub widthOf : Sizes → ℕ → ℕ
 widthOf z number = z .«mb_width» * blockSize (planeOf number)
 
@@ -85,5 +86,6 @@ lastBlocks g intra pattern (suc k) w = do
   x ← if flag pattern (2 ^ k) then oneBlock g intra (5 - k) w else give w
   lastBlocks g intra pattern k x
 
+-- RULES 7.16 (11172-2, 2.4.2.7): the blocks that the pattern names, 0 to 5 in this order
 unfoldable pub blocks : Given → Bool → ℕ → World → Prog (Way World)
 blocks g intra pattern w = lastBlocks g intra pattern 6 w

@@ -14,6 +14,7 @@ use Rattle.picture.specs.State.{zeroed, isSetAs, vectorAs, scaleAs, moti
 abbrev pub flag : ℕ → ℕ → Bool
 flag t n = eqb (t / n % 2) 1
 
+-- RULES 2.12: the flag "intra"
 abbrev pub isIntra : ℕ → Bool
 isIntra t = flag t 1
 
@@ -46,6 +47,7 @@ forward type m = if m .«is_set» then vector m else (if eqb type 2 then done (z
 unfoldable pub backward : Motion → Prog Motion
 backward m = if m .«is_set» then vector m else done m
 
+-- RULES 7.15: the forward vector first
 unfoldable pub vectors : ℕ → Slice → Prog Slice
 vectors type s = do
   f ← forward type (s .«motion_forward»)

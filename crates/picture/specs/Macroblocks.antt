@@ -61,6 +61,7 @@ laterOf g n w =
       x ← step (advance g n w)
       body g x)
 
+-- RULES 7.7 to 7.11: the increment, and the macroblock to which it leads; `first` says that it is the first of its slice
 unfoldable pub macroblock : Given → Bool → World → Prog (Way World)
 macroblock g first w = do
   n ← plain increment

@@ -44,6 +44,7 @@ direction m = do
   let x = fullPxAs (not (eqb full 0)) m
   if eqb f 0 then done (record { motion = x; decoded = false }) else done (record { motion = rSizeAs (f - 1) x; decoded = true })
 
+-- a picture with another forward motion, and with another backward motion
 abbrev pub forwardAs : Motion → Picture → Picture
 forwardAs m p = sliceAs (motionsAs m (p .slice .«motion_backward») (p .slice)) p
 
@@ -73,6 +74,7 @@ pictureHeader p = do
   if eqb type 0 || ltb 3 type then done (headed x false)
       else (if eqb type 1 then done (headed x true) else forwardHeader x)
 
+-- what the slices of the picture p are given
 abbrev pub given : Sizes → Matrices → Picture → Given
 given z m p = record { type = p .«picture_type»; sizes = z; stores = p .stores; matrices = m }
 
@@ -110,6 +112,7 @@ slicesTurn g x = do
     pastSlice g p w)
       else (if isExtra c && not (x .begun) then done (again (slicesOf false (frame p l))) else done (stop (on (frame p l))))
 
+-- RULES 7.3, 7.4: the slices of a picture, none of them read so far
 unfoldable pub slices : Given → Frame → Prog (Way Frame)
 slices g f = loop many (slicesTurn g) (on f) (slicesOf false f)
 

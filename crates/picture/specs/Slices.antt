@@ -20,6 +20,7 @@ extraTurn x = do
     skips 8
     done (again tt))
 
+-- RULES 7.5 (11172-2, 2.4.2.6, extra_information_slice): until the bit is 0
 unfoldable pub extra : Prog (Unit {0})
 extra = loop many extraTurn tt tt
 
@@ -43,6 +44,7 @@ pastMacroblock g (on w) =
       more ← nonZero 23
       if more then done (again (slicing false w)) else done (stop (on w)))
 
+-- RULES 7.6: one macroblock, and whether another follows
 unfoldable pub sliceTurn : Given → Slicing → Prog (Turn Slicing (Way World))
 sliceTurn g x = do
   w ← macroblock g (x .first) (x .world)
@@ -59,6 +61,7 @@ sliceStart g number q s = record {
   «block_data» = s .«block_data»;
 }
 
+-- RULES 7.5, 7.6: slice n, from behind its start code on
 unfoldable pub slice : Given → ℕ → World → Prog (Way World)
 slice g number w = do
   q ← bits 5

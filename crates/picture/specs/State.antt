@@ -30,6 +30,7 @@ world s l = record { slice = s; store = l }
 abbrev pub zeroed : Motion → Motion
 zeroed m = record { «full_px» = m .«full_px»; «is_set» = m .«is_set»; «r_size» = m .«r_size»; h = pos 0; v = pos 0 }
 
+-- a motion with one thing changed: RULES 7.13, 7.1 (flag and r), 5.7
 abbrev pub isSetAs : Bool → Motion → Motion
 isSetAs b m = record { «full_px» = m .«full_px»; «is_set» = b; «r_size» = m .«r_size»; h = m .h; v = m .v }
 
@@ -42,6 +43,7 @@ rSizeAs r m = record { «full_px» = m .«full_px»; «is_set» = m .«is_set»;
 abbrev pub vectorAs : ℤ → ℤ → Motion → Motion
 vectorAs h v m = record { «full_px» = m .«full_px»; «is_set» = m .«is_set»; «r_size» = m .«r_size»; h = h; v = v }
 
+-- a slice with one thing changed: RULES 7.5 and 7.13, 7.8 to 7.11, 7.13 to 7.15, part 3
 abbrev pub scaleAs : ℕ → Slice → Slice
 scaleAs q s = record {
   «quantizer_scale» = q;
@@ -87,6 +89,7 @@ blockAs d c s = record {
 abbrev pub dcReset : Slice → Slice
 dcReset s = blockAs (replicate 3 (pos 128)) (s .«block_data») s
 
+-- a picture with one thing changed: RULES 7.3, 7.1, 7.2, 7.5
 abbrev pub startCodeAs : ℤ → Picture → Picture
 startCodeAs c p = record { «picture_type» = p .«picture_type»; «start_code» = c; stores = p .stores; slice = p .slice }
 

@@ -13,6 +13,7 @@ unfoldable pub also : {A B : Type 0} → Way A → (A → Way B) → Way B
 also (on x) f = f x
 also (out n l) f = out n l
 
+-- a program that follows where the way goes on
 unfoldable pub leave : {A B : Type 0} → (A → Prog (Way B)) → Way A → Prog (Way B)
 leave f (on x) = f x
 leave f (out n l) = done (out n l)
@@ -38,5 +39,6 @@ plain p = bind p (λ v. done (on v))
 abbrev pub step : {A : Type 0} → Way A → Prog (Way A)
 step w = done w
 
+-- and one that only goes on
 abbrev pub give : {A : Type 0} → A → Prog (Way A)
 give x = done (on x)
