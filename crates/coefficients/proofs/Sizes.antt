@@ -1,6 +1,6 @@
 -- Sizes of DC differentials, and the range of DC values. Assumes nothing.
 use mathlib.Core.Path.{_≡_, refl}
-use mathlib.Core.Bool.{true, and-eq-true-iff}
+use mathlib.Core.Bool.{Bool, true, false, and-eq-true-iff}
 use mathlib.Core.List.{List}
 use Prim.Native.Nat.{ℕ, _≤_}
 use native.Mathlib.Omega.{arith}
@@ -8,24 +8,28 @@ use lib.Dec.{T}
 use lib.IntN.{ℤ, pos, negsuc, negℤ, natAbs}
 use lib.Signed.{nonNeg, leZ}
 use Rattle.laws.proofs.Ints.{v, lit, neg, le-yes, abs-by}
+use Rattle.laws.proofs.Tables.{every}
 use Rattle.bits.specs.Runs.{Runs}
 use Rattle.codes.specs.Codes.{dctSizeLuminance, dctSizeChrominance}
 use Rattle.codes.specs.Tables.{dctSizeLuminanceIndex, dctSizeLuminanceValue, dctSizeChrominanceIndex, dctSizeChrominanceValue}
+use Rattle.codes.specs.Walk.{vlc}
 use Rattle.codes.proofs.Vlc.{vlc-passes}
-use Rattle.coefficients.specs.Dcs.{dcInside}
+use Rattle.coefficients.specs.Dcs.{dcInside, dcSizeCode}
 
--- both tables have values from 0 on
 natural : (z : ℤ) → T (nonNeg z) → z ≡ pos (natAbs z)
 natural (pos n) t = refl
 natural (negsuc n) t = absurd t
 
-pub luminance-size : {s : List ℕ} {a e : ℕ} {v : ℤ} → Runs dctSizeLuminance s a v e → v ≡ pos (natAbs v)
-unfolding dctSizeLuminance dctSizeLuminanceValue
-luminance-size {v = v} r = natural v (vlc-passes dctSizeLuminanceIndex dctSizeLuminanceValue (pos 0) r nonNeg tt tt)
+-- a code of a table whose values are from 0 on
+from-0 : (index value : List ℤ) {s : List ℕ} {a e : ℕ} {v : ℤ} → T (every (λ k. nonNeg) 0 value)
+    → Runs (vlc index value (pos 0)) s a v e → v ≡ pos (natAbs v)
+from-0 index value {v = v} t r = natural v (vlc-passes index value (pos 0) r nonNeg tt t)
 
-pub chrominance-size : {s : List ℕ} {a e : ℕ} {v : ℤ} → Runs dctSizeChrominance s a v e → v ≡ pos (natAbs v)
-unfolding dctSizeChrominance dctSizeChrominanceValue
-chrominance-size {v = v} r = natural v (vlc-passes dctSizeChrominanceIndex dctSizeChrominanceValue (pos 0) r nonNeg tt tt)
+-- the tables of sizes are such
+pub size-natural : (luminance : Bool) {s : List ℕ} {a e : ℕ} {v : ℤ} → Runs (dcSizeCode luminance) s a v e → v ≡ pos (natAbs v)
+unfolding dctSizeLuminance dctSizeChrominance dctSizeLuminanceValue dctSizeChrominanceValue
+size-natural true r = from-0 dctSizeLuminanceIndex dctSizeLuminanceValue tt r
+size-natural false r = from-0 dctSizeChrominanceIndex dctSizeChrominanceValue tt r
 
 -- a DC value that question 8 admits
 pub inside-small : (x : ℤ) → dcInside x ≡ true → natAbs x ≤ 256

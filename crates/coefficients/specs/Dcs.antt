@@ -7,10 +7,13 @@ use lib.Signed.{leZ}
 use Rattle.bits.specs.Programs.{Prog, done, bits, _>>=_, _>>_, if_then_else_}
 use Rattle.codes.specs.Codes.{dctSizeLuminance, dctSizeChrominance}
 
--- RULES 3.1: the size of the differential, by the table for blocks of Y or the one for Cb and Cr
+-- RULES 3.1: the code of the differential's size, of the table for blocks of Y or of the one for Cb and Cr
+abbrev pub dcSizeCode : Bool → Prog ℤ
+dcSizeCode luminance = if luminance then dctSizeLuminance else dctSizeChrominance
+
 unfoldable pub dcSize : Bool → Prog ℕ
 dcSize luminance = do
-  size ← if luminance then dctSizeLuminance else dctSizeChrominance
+  size ← dcSizeCode luminance
   done (natAbs size)
 
 -- RULES 3.2: what a differential of s bits adds: itself where its top bit is 1, else differential + 1 - 2 ^ s

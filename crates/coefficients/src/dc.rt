@@ -27,16 +27,11 @@ fn read_dc_size(s: &[u8], reader: Reader, luminance: bool) -> DcSize
     ensures { λ r. ⌜ Runs (dcSize luminance) (now (s .entry)) (reader .at .0) (r .size) (r .reader .at .0) ⌝ }
     ensures { λ r. ⌜ (r .size ≤ 8) × (r .reader .at .0 ≤ 134217728) ⌝ }
 {
-    if luminance {
-        let code = read_dct_size_luminance(s, reader);
-        let after = code.reader;
-        let size = code.value as usize;
-        return DcSize {
-            reader: after,
-            size,
-        };
-    }
-    let code = read_dct_size_chrominance(s, reader);
+    let code = if luminance {
+        read_dct_size_luminance(s, reader)
+    } else {
+        read_dct_size_chrominance(s, reader)
+    };
     let after = code.reader;
     let size = code.value as usize;
     DcSize {
