@@ -10,20 +10,6 @@ use Rattle.motion.specs.Congruence.{Congruent}
 use Rattle.motion.specs.Displacement.{InRange, corrected}
 use Rattle.motion.proofs.Congruence.{congruent-refl}
 
--- by the two tests
-module _ (f : ℕ) (z : ℤ) where
-  pub corrected-over : ltZ (pos (16 * f) -ℤ pos 1) z ≡ true → corrected f z ≡ z -ℤ pos (32 * f)
-  unfolding corrected
-  corrected-over e = rw e
-
-  pub corrected-under : ltZ (pos (16 * f) -ℤ pos 1) z ≡ false → ltZ z (negℤ (pos (16 * f))) ≡ true → corrected f z ≡ z +ℤ pos (32 * f)
-  unfolding corrected
-  corrected-under e k = rw (e, k)
-
-  pub corrected-none : ltZ (pos (16 * f) -ℤ pos 1) z ≡ false → ltZ z (negℤ (pos (16 * f))) ≡ false → corrected f z ≡ z
-  unfolding corrected
-  corrected-none e k = rw (e, k)
-
 -- what holds in each case holds of the correction: the sum is above the range, below it, or inside
 pub corrected-by : (f : ℕ) (z : ℤ) (P : ℤ → Type 0) → (16 * f + dn z ≤ up z → P (z -ℤ pos (32 * f))) → (up z + 16 * f < dn z → P (z +ℤ pos (32 * f)))
     → ((up z < 16 * f + dn z) × (dn z ≤ up z + 16 * f) → P z) → P (corrected f z)

@@ -3,14 +3,14 @@ use mathlib.Core.Path.{_≡_, refl, sym, ap, _∙_}
 use mathlib.Core.Bool.{Bool, true, false, cond, not, _&&_, _||_, false≢true}
 use mathlib.Core.List.{List}
 use Prim.Native.Nat.{ℕ, zero, suc, _+_, _*_, _^_, _≤_, _<_}
-use native.Mathlib.Nat.{mul-le-mul-right, zero-mul, pow-suc}
+use native.Mathlib.Nat.{zero-mul, pow-suc}
 use native.Mathlib.Omega.{arith}
 use lib.Dec.{eqb, eqb·suc-zero}
 use lib.IntN.{ℤ, pos, negsuc, negℤ, _+ℤ_, _-ℤ_, _*ℤ_}
 use lib.Pow.{pow-pos}
 use lib.Signed.{leZ}
 use borrow.Author.Tests.{eqb-true, ne-eqb}
-use Rattle.laws.proofs.Ints.{Dif, up, dn, v, lit, neg, as-dif, _⊕_, _⊖_, _⊗_, eq-by, eq-of, le-of, lt-of, yes-lt, no-lt, yes-le, no-le, one-side}
+use Rattle.laws.proofs.Ints.{Dif, up, dn, v, lit, neg, as-dif, _⊕_, _⊖_, _⊗_, eq-by, eq-of, le-of, lt-of, yes-lt, no-lt, yes-le, no-le}
 use Rattle.bits.specs.Bits.{got}
 use Rattle.bits.specs.Programs.{Prog, Out, done, run, bind, bits, eqZ}
 use Rattle.bits.proofs.Codes.{eqZ-no}
@@ -23,55 +23,36 @@ use Rattle.motion.proofs.Correction.{corrected-by}
 use Rattle.motion.proofs.Displacement.{displace-up, displace-down, displace-none, displace-one}
 use Rattle.motion.proofs.OneStep.{residual-below}
 
--- right_little and right_big, for a displacement above 0 and for one below 0
-abbrev above : ℕ → ℤ → Right
-above f d = record { little = d; big = d -ℤ pos (32 * f) }
+-- right_little and right_big where the code m says the displacement d: right_big is 32 f further to the other side
+abbrev sides : ℕ → ℤ → ℤ → Right
+sides f (pos n) d = record { little = d; big = d -ℤ pos (32 * f) }
+sides f (negsuc n) d = record { little = d; big = d +ℤ pos (32 * f) }
 
-abbrev under : ℕ → ℤ → Right
-under f d = record { little = d; big = d +ℤ pos (32 * f) }
+-- the complement is f - 1 - R, also where f is 1
+complement-dif : (f : ℕ) (m : ℤ) (R : ℕ) → R < f → (m ≡ pos 0 → ⊥) → Dif (complement f m R) f (R + 1)
+unfolding complement
+complement-dif f m R below g = go (eqb f 1) refl
+  where
+    go : (t : Bool) → eqb f 1 ≡ t → Dif (cond (t || eqZ m (pos 0)) (pos 0) (pos f -ℤ pos 1 -ℤ pos R)) f (R + 1)
+    go true e = as-dif f (R + 1) (lit 0) (omega (arith, eqb-true f 1 e))
+    go false e = rw (eqZ-no m (pos 0) g) (as-dif f (R + 1) (lit f ⊖ lit 1 ⊖ lit R) (omega arith))
 
-module _ (f : ℕ) (m : ℤ) (R : ℕ) (below : R < f) where
-  -- the complement is f - 1 - R, also where f is 1
-  complement-dif : (m ≡ pos 0 → ⊥) → Dif (complement f m R) f (R + 1)
-  unfolding complement
-  complement-dif g = go (eqb f 1) refl
-    where
-      go : (t : Bool) → eqb f 1 ≡ t → Dif (cond (t || eqZ m (pos 0)) (pos 0) (pos f -ℤ pos 1 -ℤ pos R)) f (R + 1)
-      go true e = as-dif f (R + 1) (lit 0) (omega (arith, eqb-true f 1 e))
-      go false e = rw (eqZ-no m (pos 0) g) (as-dif f (R + 1) (lit f ⊖ lit 1 ⊖ lit R) (omega arith))
+-- a difference of two numbers that are not equal is not 0
+not-0 : {x : ℤ} {p n : ℕ} → Dif x p n → (p ≡ n → ⊥) → eqZ x (pos 0) ≡ false
+not-0 {x} w g = eqZ-no x (pos 0) (λ e. g (omega (arith, eq-of w (lit 0) e)))
 
-  -- right_little is the displacement, and right_big is 32 f further to the other side
-  module _ (h : 0 < up m) where
-    little-up : m *ℤ pos f -ℤ complement f m R ≡ displace f m R
-    little-up =
-        let z : dn m ≡ 0 = omega (arith, one-side m) in
-        eq-by (v m ⊗ lit f ⊖ complement-dif (λ e. omega (arith, ap up e))) (displace-up f m R h) (omega (arith, ap (λ (n : ℕ). n * f) z))
-
-    right-up : right f (m *ℤ pos f) (complement f m R) ≡ above f (displace f m R)
-    unfolding right
-    right-up =
-        let z : dn m ≡ 0 = omega (arith, one-side m) in
-        let p : 1 * f ≤ up m * f = mul-le-mul-right f h in
-        let w = v m ⊗ lit f in
-        let q = ap (λ (n : ℕ). n * f) z in
-        rw (eqZ-no (m *ℤ pos f) (pos 0) (λ e. omega (arith, eq-of w (lit 0) e)), yes-lt (lit 0) w (omega arith))
-        (ap (above f) little-up)
-
-  module _ (h : 0 < dn m) where
-    little-down : m *ℤ pos f +ℤ complement f m R ≡ displace f m R
-    little-down =
-        let z : up m ≡ 0 = omega (arith, one-side m) in
-        eq-by (v m ⊗ lit f ⊕ complement-dif (λ e. omega (arith, ap dn e))) (displace-down f m R h) (omega (arith, ap (λ (n : ℕ). n * f) z))
-
-    right-down : right f (m *ℤ pos f) (complement f m R) ≡ under f (displace f m R)
-    unfolding right
-    right-down =
-        let z : up m ≡ 0 = omega (arith, one-side m) in
-        let p : 1 * f ≤ dn m * f = mul-le-mul-right f h in
-        let w = v m ⊗ lit f in
-        let q = ap (λ (n : ℕ). n * f) z in
-        rw (eqZ-no (m *ℤ pos f) (pos 0) (λ e. omega (arith, eq-of w (lit 0) e)), no-lt (lit 0) w (omega arith))
-        (ap (under f) little-down)
+-- for a code of either sign, right_little is the displacement
+right-is : (f : ℕ) (m : ℤ) (R : ℕ) → R < f → (m ≡ pos 0 → ⊥) → right f (m *ℤ pos f) (complement f m R) ≡ sides f m (displace f m R)
+unfolding right displace
+right-is f (pos zero) R b g = absurd (g refl)
+right-is f (pos (suc k)) R b g =
+    let w = v (pos (suc k)) ⊗ lit f in
+    rw (not-0 w (λ e. omega arith), yes-lt (lit 0) w (omega arith))
+    (ap (sides f (pos 1)) (eq-by (w ⊖ complement-dif f (pos (suc k)) R b g) (lit (k * f + R + 1)) (omega arith)))
+right-is f (negsuc k) R b g =
+    let w = v (negsuc k) ⊗ lit f in
+    rw (not-0 w (λ e. omega arith), no-lt (lit 0) w (omega arith))
+    (ap (sides f (negsuc 0)) (eq-by (w ⊕ complement-dif f (negsuc k) R b g) (neg (lit (k * f + R + 1))) (omega arith)))
 
 -- the choice between the two is the correction, where right_big is right for the side on which the sum leaves the range
 recon-is : (f : ℕ) (prev d : ℤ) (x : Right) → x .little ≡ d → (16 * f + dn (prev +ℤ d) ≤ up (prev +ℤ d) → x .big ≡ d -ℤ pos (32 * f))
@@ -101,13 +82,15 @@ standard f prev (pos (suc k)) R i b =
     let d = displace f m R in
     let lo = le-of (neg (lit (16 * f))) (v prev) (i .low) in
     let e = (v prev ⊕ displace-up f m R (omega arith)) .dif in
-    ap (recon f prev) (right-up f m R b (omega arith)) ∙ recon-is f prev d (above f d) refl (λ h. refl) (λ h. let z : ⊥ = omega arith in absurd z)
+    ap (recon f prev) (right-is f m R b (λ e. omega (arith, ap up e)))
+    ∙ recon-is f prev d (sides f m d) refl (λ h. refl) (λ h. let z : ⊥ = omega arith in absurd z)
 standard f prev (negsuc k) R i b =
     let m = negsuc k in
     let d = displace f m R in
     let hi = lt-of (v prev) (lit (16 * f)) (i .high) in
     let e = (v prev ⊕ displace-down f m R (omega arith)) .dif in
-    ap (recon f prev) (right-down f m R b (omega arith)) ∙ recon-is f prev d (under f d) refl (λ h. let z : ⊥ = omega arith in absurd z) (λ h. refl)
+    ap (recon f prev) (right-is f m R b (λ e. omega (arith, ap dn e)))
+    ∙ recon-is f prev d (sides f m d) refl (λ h. let z : ⊥ = omega arith in absurd z) (λ h. refl)
 
 -- ---- the whole step: what it reads, the component that it gives, and the place where it ends
 

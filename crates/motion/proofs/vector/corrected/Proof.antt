@@ -1,14 +1,16 @@
 -- Each operation by reflection, each return by the case of the correction that its tests say.
-use mathlib.Core.Path.{sym, _∙_}
+use mathlib.Core.Path.{_≡_}
+use mathlib.Core.Bool.{cond}
 use mathlib.Core.List.{List, [], _∷_}
 use Prim.Native.Nat.{ℕ, _*_, _^_, _%_, _≤_}
 use native.Mathlib.Omega.{arith}
 use lib.IntN.{pos}
 use lib.Pow.{pow-mono}
+use lib.Signed.{ltZ}
 use mir.Syntax.{w32}
 use borrow.Author.Needs.{needs}
-use Rattle.laws.proofs.Exprs.{Exp, var, cst, _⊹_, _∸_, neg, Input, local, signed, need, value, test}
-use Rattle.motion.proofs.Correction.{corrected-over, corrected-under, corrected-none}
+use Rattle.laws.proofs.Exprs.{Exp, var, cst, _⊹_, _∸_, neg, Input, local, signed, term, need, value, test}
+use Rattle.motion.specs.Displacement.{corrected}
 use Rattle.motion.proofs.vector.corrected.Statement.{statement}
 use Rattle.motion.proofs.vector.corrected.Tie as tie
 
@@ -41,23 +43,21 @@ module _ (s : tie.Start) where
       ∷ local w32 (1 * f % 4294967296 * 32 % 4294967296) (pos (32 * f)) 2048 (record { is = omega (arith, scaled); bound = omega (arith, scaled) })
       ∷ []
 
+  -- the correction, by the locals that the tests read and the values that they choose among
+  by-tests : corrected f (s .args .motion)
+      ≡ cond (ltZ (term ρ top) (term ρ motion)) (term ρ less) (cond (ltZ (term ρ motion) (term ρ bottom)) (term ρ more) (term ρ motion))
+  unfolding corrected
+  by-tests = rw (test ρ top motion tt tt, test ρ motion bottom tt tt, value ρ less tt, value ρ more tt, value ρ motion tt)
+
 -- the results first, the one without a correction before the others: a wrong test or correction is refused at the result that it makes wrong
 returns-3 : tie.Need-returns-3
-returns-3 c =
-    let s = c .before .before in
-    value (ρ s) motion tt
-    ∙ sym (corrected-none (f s) (s .args .motion) (sym (test (ρ s) top motion tt tt) ∙ c .before .if1 .left) (sym (test (ρ s) motion bottom tt tt) ∙ c .if2 .left))
+returns-3 c = rw (by-tests (c .before .before), c .before .if1 .left, c .if2 .left)
 
 returns : tie.Need-returns
-returns c =
-    let s = c .before in
-    value (ρ s) less tt ∙ sym (corrected-over (f s) (s .args .motion) (sym (test (ρ s) top motion tt tt) ∙ c .if1 .taken))
+returns c = rw (by-tests (c .before), c .if1 .taken)
 
 returns-2 : tie.Need-returns-2
-returns-2 c =
-    let s = c .before .before in
-    value (ρ s) more tt
-    ∙ sym (corrected-under (f s) (s .args .motion) (sym (test (ρ s) top motion tt tt) ∙ c .before .if1 .left) (sym (test (ρ s) motion bottom tt tt) ∙ c .if2 .taken))
+returns-2 c = rw (by-tests (c .before .before), c .before .if1 .left, c .if2 .taken)
 
 cast-fscale : tie.Need-cast-fscale
 cast-fscale c = search needs
