@@ -21,6 +21,14 @@ use worked::Pixels;
 use worked::Values;
 use worked::Vectors;
 
+fn print_count(n: u32) {
+    io::print_decimal(STDOUT_FILENO, n as u64);
+}
+
+fn print_pixel(pixel: u32) {
+    io::print_hex(STDOUT_FILENO, pixel as u64, 8);
+}
+
 fn print_signed(z: i32) {
     let n = held(z) as u64;
     io::write_all(STDOUT_FILENO, b" ");
@@ -72,19 +80,19 @@ fn print_levels(levels: Levels) {
 
 fn print_values(values: Values) {
     io::write_all(STDOUT_FILENO, b"reader A5: ");
-    io::print_decimal(STDOUT_FILENO, values.first as u64);
+    print_count(values.first);
     io::write_all(STDOUT_FILENO, b" ");
-    io::print_decimal(STDOUT_FILENO, values.second as u64);
+    print_count(values.second);
     io::write_all(STDOUT_FILENO, b" ");
-    io::print_decimal(STDOUT_FILENO, values.third as u64);
+    print_count(values.third);
     io::write_all(STDOUT_FILENO, b"\n");
 }
 
 fn print_pixels(pixels: Pixels) {
     io::write_all(STDOUT_FILENO, b"ARGB 235 and 236: ");
-    io::print_hex(STDOUT_FILENO, pixels.near_white as u64, 8);
+    print_pixel(pixels.near_white);
     io::write_all(STDOUT_FILENO, b" ");
-    io::print_hex(STDOUT_FILENO, pixels.white as u64, 8);
+    print_pixel(pixels.white);
     io::write_all(STDOUT_FILENO, b"\n");
 }
 
@@ -92,13 +100,13 @@ fn print_pixels(pixels: Pixels) {
 fn print(name: &[u8], tally: Tally) {
     io::write_all(STDOUT_FILENO, name);
     io::write_all(STDOUT_FILENO, b" ");
-    io::print_decimal(STDOUT_FILENO, tally.agreed as u64);
+    print_count(tally.agreed);
     io::write_all(STDOUT_FILENO, b" of ");
-    io::print_decimal(STDOUT_FILENO, tally.cases as u64);
+    print_count(tally.cases);
     io::write_all(STDOUT_FILENO, b" agree");
     if tally.first != 0 {
         io::write_all(STDOUT_FILENO, b", the first that does not is ");
-        io::print_decimal(STDOUT_FILENO, tally.first as u64);
+        print_count(tally.first);
     }
     io::write_all(STDOUT_FILENO, b"\n");
 }
