@@ -2,16 +2,21 @@
 use mathlib.Core.Path.{_≡_, sym, ap, _∙_, subst}
 use mathlib.Core.Bool.{Bool, true, false, _&&_}
 use mathlib.Core.List.{List}
-use Prim.Native.Nat.{ℕ, _+_, _*_, _≤_, _<_}
-use native.Mathlib.Nat.{div-lt-iff-lt-mul, mod-lt, mul-le-mul}
+use Prim.Native.Nat.{ℕ, _+_, _*_, _≤_}
+use native.Mathlib.Nat.{mul-le-mul}
 use native.Mathlib.Numerals.{add-one}
 use native.Mathlib.Omega.{arith}
 use lib.Dec.{T, leb, leb→le}
-use mir.Facts.{and-yes}
+use lib.IntN.{ℤ, natAbs}
+use mir.Facts.{and-yes, toZ-ofZ}
+use mir.Syntax.{w32}
+use Rattle.laws.proofs.Ints.{reread, v, abs-of, fits-by}
+use Rattle.prediction.specs.declared.place.Macroblock.{Macroblock}
 use Rattle.prediction.specs.declared.planes.Plane.the-variants.{Y, Cr}
+use Rattle.prediction.specs.Planes.{macroblocks}
 use Rattle.prediction.specs.Predict.{Inside, Placed, blockOf, bytes}
 use Rattle.prediction.proofs.Macroblocks.{placed}
-use Rattle.bench.specs.Planes.{room, repeated, macroblock, sizeOf}
+use Rattle.bench.specs.Planes.{room, repeated, sizeOf}
 
 pub record Room (across down unit size : ℕ) : Type 0 where
   pub some : 1 ≤ across
@@ -35,7 +40,8 @@ no-first b e h = sym (ap (λ (x : Bool). x && b) (sym e ∙ h))
 pub by-second : {a b q r x : Bool} → q ≡ a → q ≡ true → r ≡ b → r ≡ x → x ≡ (a && b)
 by-second {b = b} e h f k = sym (ap (λ (x : Bool). x && b) (sym e ∙ h) ∙ sym f ∙ k)
 
-pub repeated-on : (f : ℕ → List ℕ → List ℕ) (l : List ℕ) (t : ℕ) {before after : List ℕ} → before ≡ repeated f l t → after ≡ f t before → after ≡ repeated f l (t + 1)
+pub repeated-on : (f : ℕ → List ℕ → List ℕ) (l : List ℕ) (t : ℕ) {before after : List ℕ}
+    → before ≡ repeated f l t → after ≡ f t before → after ≡ repeated f l (t + 1)
 unfolding repeated
 repeated-on f l t e h = h ∙ ap (f t) e ∙ ap (repeated f l) (sym (add-one t))
 
@@ -43,28 +49,23 @@ module _ {across down unit size : ℕ} (r : Room across down unit size) where
   pub count-most : across * down ≤ 65536
   count-most = mul-le-mul (r .wide) (r .high)
 
-  pub inside : (n : ℕ) → n < across * down → Inside (macroblock across down n)
-  inside n h =
-      record {
-        across = r .wide;
-        down = r .high;
-        row = div-lt-iff-lt-mul {k = across} {x = n} {y = down} (r .some) .1 (omega arith);
-        column = mod-lt n (r .some);
-      }
+pub placed-by : (luma : Bool) {m : Macroblock} → Inside m → Placed (blockOf m (sizeOf luma))
+placed-by true i = placed i Y
+placed-by false i = placed i Cr
 
-pub placed-by : (luma : Bool) (across down n : ℕ) → Inside (macroblock across down n) → Placed (blockOf (macroblock across down n) (sizeOf luma))
-placed-by true across down n i = placed i Y
-placed-by false across down n i = placed i Cr
-
-pub plane-bytes : (luma : Bool) (across down n : ℕ) → across * down * (sizeOf luma * sizeOf luma) ≡ bytes (blockOf (macroblock across down n) (sizeOf luma))
-plane-bytes true across down n = omega arith
-plane-bytes false across down n = omega arith
+pub plane-bytes : (luma : Bool) (m : Macroblock) → macroblocks m * (sizeOf luma * sizeOf luma) ≡ bytes (blockOf m (sizeOf luma))
+plane-bytes true m = omega arith
+plane-bytes false m = omega arith
 
 pub square-most : (luma : Bool) → sizeOf luma * sizeOf luma ≤ 256
 square-most true = omega arith
 square-most false = omega arith
 
-pub two-planes : (luma : Bool) (across down n size : ℕ) → across * down * (2 * (sizeOf luma * sizeOf luma)) ≤ size
-    → across * down * (sizeOf luma * sizeOf luma) + bytes (blockOf (macroblock across down n) (sizeOf luma)) ≤ size
-two-planes true across down n size h = omega arith
-two-planes false across down n size h = omega arith
+pub two-planes : (luma : Bool) (m : Macroblock) (size : ℕ) → macroblocks m * (2 * (sizeOf luma * sizeOf luma)) ≤ size
+    → macroblocks m * (sizeOf luma * sizeOf luma) + bytes (blockOf m (sizeOf luma)) ≤ size
+two-planes true m size h = omega arith
+two-planes false m size h = omega arith
+
+-- a component is read as it was written
+pub small-read : (z : ℤ) → natAbs z ≤ 2048 → reread w32 z ≡ z
+small-read z h = let b = abs-of (v z) h in toZ-ofZ (fits-by (v z) (omega arith) (omega arith))

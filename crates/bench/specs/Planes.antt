@@ -5,9 +5,8 @@ use mathlib.Core.List.{List}
 use lib.Dec.{leb}
 use lib.IntN.{ℤ, pos, _-ℤ_}
 use lib.ListN.{length, getD, set, replicate}
-use Rattle.prediction.specs.declared.place.Macroblock.{Macroblock}
 use Rattle.prediction.specs.Planes.{inPlane, predictedPlanes}
-use Rattle.prediction.specs.Predict.{blockOf, bytes}
+use Rattle.prediction.specs.Predict.{macroblockAt, blockOf, bytes}
 use Rattle.prediction.specs.Writers.{setConst, overwrite, addConst, addBlock, chromaPlace}
 
 -- n turns, of which turn t makes f t of what there is
@@ -19,10 +18,6 @@ repeated f l (suc t) = f t (repeated f l t)
 -- three stores?
 unfoldable pub room : ℕ → ℕ → ℕ → ℕ → Bool
 room across down unit size = leb 1 across && leb across 256 && leb down 256 && leb unit 1152 && leb (across * down * unit) size
-
--- number n of the macroblocks, counted by rows
-abbrev pub macroblock : ℕ → ℕ → ℕ → Macroblock
-macroblock across down n = record { across = across; down = down; row = n / across; column = n % across }
 
 -- a component of a vector: byte k less 128
 abbrev pub component : List ℕ → ℕ → ℤ
@@ -39,7 +34,7 @@ roomForPlanes luma across down store vectors = room across down (2 * (sizeOf lum
 -- block n of the second of two planes predicted from the first, by the vector of bytes 2 * n and 2 * n + 1
 unfoldable pub predictBlock : Bool → ℕ → ℕ → List ℕ → Bool → ℕ → List ℕ → List ℕ
 predictBlock luma across down vectors interpolate n store =
-    let p = blockOf (macroblock across down n) (sizeOf luma) in
+    let p = blockOf (macroblockAt across down n) (sizeOf luma) in
     inPlane p 0 (bytes p) (component vectors (2 * n)) (component vectors (2 * n + 1)) interpolate store .store
 
 -- every block of the second plane
@@ -53,7 +48,7 @@ roomForStores across down store vectors = room across down 1152 (length store) &
 -- macroblock n of store 1 predicted from store 0, in the same way
 unfoldable pub predictMacroblock : ℕ → ℕ → List ℕ → Bool → ℕ → List ℕ → List ℕ
 predictMacroblock across down vectors interpolate n store =
-    predictedPlanes (macroblock across down n) 0 1 (component vectors (2 * n)) (component vectors (2 * n + 1)) interpolate store .store
+    predictedPlanes (macroblockAt across down n) 0 1 (component vectors (2 * n)) (component vectors (2 * n + 1)) interpolate store .store
 
 -- every macroblock of store 1
 unfoldable pub predictStore : ℕ → ℕ → List ℕ → Bool → List ℕ → List ℕ

@@ -1,22 +1,41 @@
 // Predictions of every block of a plane, and of every macroblock of a picture.
 use crate::room::room;
-use prediction::place::Macroblock;
+use prediction::place::macroblock_at;
 use prediction::predict::predict_macroblock_planes;
 use prediction::predict::predict_plane;
 ghost use mathlib.Core.Path.{_≡_};
 ghost use mathlib.Core.Bool.{cond};
-ghost use Prim.Native.Nat.{_≤_, _<_};
+ghost use Prim.Native.Nat.{_+_, _*_, _≤_, _<_};
 ghost use lib.IntN.{natAbs};
 ghost use lib.ListN.{length};
 ghost use Rattle.bench.specs.Planes.{component, sizeOf, roomForPlanes, predictPlane, roomForStores, predictStore};
 
-// A component of a vector, in half samples.
+// A vector, in half samples.
+struct Vector {
+    h: i32,
+    v: i32,
+}
+
+// A component of a vector.
 fn component(vectors: &[u8], k: usize) -> i32
     requires { ⌜ k < length (now vectors) ⌝ }
     ensures is { λ r. ⌜ r ≡ component (now (vectors .entry)) k ⌝ }
     ensures small { λ r. ⌜ natAbs r ≤ 2048 ⌝ }
 {
     vectors[k] as i32 - 128
+}
+
+// The vector of block n.
+fn vector_of(vectors: &[u8], n: usize) -> Vector
+    requires { ⌜ 2 * n + 1 < length (now vectors) ⌝ }
+    ensures h { λ r. ⌜ r .h ≡ component (now (vectors .entry)) (2 * n) ⌝ }
+    ensures v { λ r. ⌜ r .v ≡ component (now (vectors .entry)) (2 * n + 1) ⌝ }
+    ensures small { λ r. ⌜ (natAbs (r .h) ≤ 2048) × (natAbs (r .v) ≤ 2048) ⌝ }
+{
+    Vector {
+        h: component(vectors, 2 * n),
+        v: component(vectors, 2 * n + 1),
+    }
 }
 
 fn size_of(luma: bool) -> usize
@@ -52,15 +71,17 @@ pub extern "C" fn bench_predict_plane(
     let bytes = blocks * (size * size);
     let mut n: usize = 0;
     while n < blocks {
-        let m = Macroblock {
-            across,
-            down,
-            row: n / across,
-            column: n % across,
-        };
-        let h = component(vectors, 2 * n);
-        let v = component(vectors, 2 * n + 1);
-        predict_plane(store, 0, bytes, m.block(size), h, v, interpolate);
+        let m = macroblock_at(across, down, n);
+        let vector = vector_of(vectors, n);
+        predict_plane(
+            store,
+            0,
+            bytes,
+            m.block(size),
+            vector.h,
+            vector.v,
+            interpolate,
+        );
         n += 1;
     }
     true
@@ -87,15 +108,9 @@ pub extern "C" fn bench_predict_store(
     let blocks = across * down;
     let mut n: usize = 0;
     while n < blocks {
-        let m = Macroblock {
-            across,
-            down,
-            row: n / across,
-            column: n % across,
-        };
-        let h = component(vectors, 2 * n);
-        let v = component(vectors, 2 * n + 1);
-        predict_macroblock_planes(store, m, 0, 1, h, v, interpolate);
+        let m = macroblock_at(across, down, n);
+        let vector = vector_of(vectors, n);
+        predict_macroblock_planes(store, m, 0, 1, vector.h, vector.v, interpolate);
         n += 1;
     }
     true

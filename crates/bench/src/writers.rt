@@ -1,6 +1,6 @@
 // The four writers of blocks, each over a whole plane.
 use crate::room::room;
-use prediction::place::Macroblock;
+use prediction::place::macroblock_at;
 use prediction::writers::block_set_add;
 use prediction::writers::block_set_add_const;
 use prediction::writers::block_set_const;
@@ -63,12 +63,7 @@ pub extern "C" fn bench_write(
     let mut results = [0i32; 64];
     let mut n: usize = 0;
     while n < blocks {
-        let m = Macroblock {
-            across,
-            down,
-            row: n / across,
-            column: n % across,
-        };
+        let m = macroblock_at(across, down, n);
         write_block(
             plane,
             chroma_place(m),

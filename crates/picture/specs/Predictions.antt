@@ -1,27 +1,16 @@
 -- RULES 7.17, 7.18, 6.10: the prediction of a macroblock, and of those that are skipped. Nothing is read.
 use mathlib.Core.Bool.{Bool, true, false, _&&_}
 use mathlib.Core.List.{List}
-use Prim.Native.Nat.{ℕ, zero, suc, _+_, _/_, _%_}
+use Prim.Native.Nat.{ℕ, zero, suc, _+_}
 use lib.Dec.{eqb}
 use Rattle.bits.specs.Programs.{if_then_else_}
-use Rattle.prediction.specs.declared.place.Macroblock.{Macroblock}
 use Rattle.prediction.specs.declared.predict.Predicted.the-variants.{Done, Refused}
-use Rattle.prediction.specs.Predict.{inHalves}
+use Rattle.prediction.specs.Predict.{macroblockAt, inHalves}
 use Rattle.prediction.specs.Planes.{After, predictedPlanes}
 use Rattle.picture.specs.declared.state.Motion.{Motion}
-use Rattle.picture.specs.declared.state.Sizes.{Sizes}
 use Rattle.picture.specs.declared.state.Slice.{Slice}
 use Rattle.picture.specs.State.{Given}
 use Rattle.picture.specs.Ways.{Way, on, out, also}
-
--- the macroblock with this address
-abbrev pub macroblockAt : Sizes → ℕ → Macroblock
-macroblockAt z address = record {
-  across = z .«mb_width»;
-  down = z .«mb_height»;
-  row = address / z .«mb_width»;
-  column = address % z .«mb_width»;
-}
 
 -- RULES Q9: a prediction that is refused leaves with 9
 unfoldable pub unlessRefused : After → Way (List ℕ)
@@ -32,7 +21,7 @@ unfoldable pub predictFrom : Given → ℕ → ℕ → Motion → Bool → List 
 predictFrom g address k m interpolate l =
     let h = inHalves (m .«full_px») (m .h) in
     let v = inHalves (m .«full_px») (m .v) in
-    unlessRefused (predictedPlanes (macroblockAt (g .sizes) address) k (g .stores .cur) h v interpolate l)
+    unlessRefused (predictedPlanes (macroblockAt (g .sizes .«mb_width») (g .sizes .«mb_height») address) k (g .stores .cur) h v interpolate l)
 
 -- RULES 7.17: both directions of a B picture, where the forward flag is set
 unfoldable pub predictBoth : Given → ℕ → Slice → List ℕ → Way (List ℕ)

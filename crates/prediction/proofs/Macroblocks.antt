@@ -3,8 +3,8 @@ use mathlib.Core.Path.{_≡_, refl, ap, _∙_}
 use mathlib.Core.Bool.{Bool}
 use mathlib.Core.List.{List}
 use mathlib.Core.Logic.{inl, inr}
-use Prim.Native.Nat.{ℕ, suc, _+_, _*_, _/_, _%_, _≤_, _<_}
-use native.Mathlib.Nat.{mul-le-mul, mul-le-mul-right}
+use Prim.Native.Nat.{ℕ, zero, suc, _+_, _*_, _/_, _%_, _≤_, _<_}
+use native.Mathlib.Nat.{div-lt-iff-lt-mul, mod-lt, mul-le-mul, mul-le-mul-right}
 use native.Mathlib.Omega.{arith}
 use lib.IntN.{ℤ, pos, negsuc, natAbs}
 use Rattle.laws.specs.Signed.{half0}
@@ -16,9 +16,25 @@ use Rattle.prediction.specs.declared.planes.Plane.the-variants.{Y, Cr, C
 use Rattle.prediction.specs.declared.predict.Predicted.{Predicted}
 use Rattle.prediction.specs.declared.predict.Predicted.the-variants.{Done, Refused}
 use Rattle.prediction.specs.Planes.{macroblocks, blockSize, planeStart, After, inPlane, next, ofStores, predictedPlanes}
-use Rattle.prediction.specs.Predict.{Inside, Placed, blockOf, bytes, chroma}
+use Rattle.prediction.specs.Predict.{Inside, Placed, macroblockAt, blockOf, bytes, chroma}
 use Rattle.prediction.specs.Writers.{lumaPlace, chromaPlace}
 use Rattle.prediction.proofs.Places.{at-place, block-in}
+
+-- a picture with an address has a macroblock across
+pub across-some : (across down address : ℕ) → address < across * down → 1 ≤ across
+across-some zero down address h = omega arith
+across-some (suc n) down address h = omega arith
+
+-- the macroblock with an address lies in the picture
+pub inside-at : (across down address : ℕ) → across ≤ 256 → down ≤ 256 → address < across * down → Inside (macroblockAt across down address)
+inside-at across down address wide high h =
+    let some = across-some across down address h in
+    record {
+      across = wide;
+      down = high;
+      row = div-lt-iff-lt-mul {k = across} {x = address} {y = down} some .1 (omega arith);
+      column = mod-lt address some;
+    }
 
 -- the start of a store
 pub store-most : (k n : ℕ) → k < 3 → k * (384 * n) ≤ 768 * n

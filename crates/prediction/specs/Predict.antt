@@ -3,7 +3,7 @@ use mathlib.Core.Path.{_≡_}
 use mathlib.Core.Bool.{Bool, cond, _||_}
 use mathlib.Core.List.{List}
 use mathlib.Core.Logic.{_⊎_}
-use Prim.Native.Nat.{ℕ, _+_, _-_, _*_, _≤_, _<_}
+use Prim.Native.Nat.{ℕ, _+_, _-_, _*_, _/_, _%_, _≤_, _<_}
 use lib.Dec.{ltb}
 use lib.IntN.{ℤ, pos, natAbs, _+ℤ_, _*ℤ_}
 use lib.ListN.{getD, replicate}
@@ -15,6 +15,10 @@ use Rattle.prediction.specs.declared.place.Place.{Place}
 use Rattle.prediction.specs.declared.place.Way.{Way}
 use Rattle.prediction.specs.declared.place.Way.the-variants.{Alone, Past, Copied}
 use Rattle.prediction.specs.Samples.{sample, laid}
+
+-- RULES S.7, 7.5: the macroblock with this address in a picture of so many across and down; addresses go by rows
+abbrev pub macroblockAt : ℕ → ℕ → ℕ → Macroblock
+macroblockAt across down address = record { across = across; down = down; row = address / across; column = address % across }
 
 -- the block of a macroblock in a plane of this block size
 abbrev pub blockOf : Macroblock → ℕ → Place

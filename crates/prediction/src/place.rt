@@ -1,9 +1,9 @@
 // Places in a plane: of a block, and of the block that a vector leads to (RULES 6.3 to 6.6, 6.9).
 ghost use mathlib.Core.Path.{_≡_};
-ghost use Prim.Native.Nat.{_+_, _≤_};
+ghost use Prim.Native.Nat.{_+_, _*_, _≤_, _<_};
 ghost use lib.IntN.{natAbs};
 ghost use Rattle.laws.specs.Signed.{odd};
-ghost use Rattle.prediction.specs.Predict.{Placed, blockOf, width, bytes, address, start, maxAddress, reach, way};
+ghost use Rattle.prediction.specs.Predict.{Inside, Placed, macroblockAt, blockOf, width, bytes, address, start, maxAddress, reach, way};
 
 // A block of a plane: the block's size in samples, how many blocks the plane has across and down, and the block's row and column among them.
 pub struct Place {
@@ -35,6 +35,22 @@ pub fn is_odd(n: i32) -> bool
     ensures { λ r. ⌜ r ≡ odd n ⌝ }
 {
     (n & 1) == 1
+}
+
+// The macroblock with this address; addresses go by rows.
+pub fn macroblock_at(across: usize, down: usize, address: usize) -> Macroblock
+    requires { ⌜ across ≤ 256 ⌝ }
+    requires { ⌜ down ≤ 256 ⌝ }
+    requires { ⌜ address < across * down ⌝ }
+    ensures is { λ r. ⌜ r ≡ macroblockAt across down address ⌝ }
+    ensures inside { λ r. ⌜ Inside r ⌝ }
+{
+    Macroblock {
+        across,
+        down,
+        row: address / across,
+        column: address % across,
+    }
 }
 
 impl Macroblock {

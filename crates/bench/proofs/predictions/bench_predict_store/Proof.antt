@@ -1,18 +1,13 @@
 -- `predictions::bench_predict_store` meets its contract: each turn predicts a macroblock.
-use mathlib.Core.Path.{_≡_, refl, sym, ap, ap₂, _∙_}
+use mathlib.Core.Path.{_≡_, refl, sym, ap, _∙_}
 use Prim.Native.Nat.{_+_, _*_, _-_, _≤_, _<_}
 use native.Mathlib.Omega.{arith}
-use borrow.Author.Needs.{needs, sfits-of}
+use borrow.Author.Needs.{needs}
 use borrow.Author.Tests.{not-true, not-false}
 use denote.Ref.{now}
-use lib.IntN.{ℤ}
 use lib.ListN.{length}
-use mir.Facts.{toZ-ofZ}
-use mir.Syntax.{w32}
-use Rattle.laws.proofs.Ints.{reread}
-use Rattle.prediction.specs.Planes.{predictedPlanes}
-use Rattle.bench.specs.Planes.{repeated, macroblock, component, predictMacroblock, predictStore}
-use Rattle.bench.proofs.Rooms.{Room, room-yes, no-first, by-second, repeated-on, count-most, inside}
+use Rattle.bench.specs.Planes.{repeated, predictMacroblock, predictStore}
+use Rattle.bench.proofs.Rooms.{Room, room-yes, no-first, by-second, repeated-on, count-most, small-read}
 use Rattle.bench.proofs.predictions.bench_predict_store.Statement.{statement}
 use Rattle.bench.proofs.predictions.bench_predict_store.Tie as tie
 
@@ -23,24 +18,13 @@ Inv-loop store₀ across down vectors interpolate blocks n₀ store n =
 abbrev μ-loop : tie.MeasureT-loop
 μ-loop store₀ across down vectors interpolate blocks n₀ store n = across * down - n
 
-stores : (c : tie.Else1 Inv-loop μ-loop) → let a = c .before .before .before .before .args in Room (a .across) (a .down) 1152 (length (now (a .store)))
+stores : (c : tie.Else1 Inv-loop μ-loop) → let a = c .before .before .before .before .args in
+    Room (a .across) (a .down) 1152 (length (now (a .store)))
 stores c = room-yes _ _ _ _ (sym (c .before .room .ensures) ∙ not-false _ (c .if1 .left))
 
-vectors : (c : tie.Else2 Inv-loop μ-loop) → let a = c .before .before .before .before .before .before .args in Room (a .across) (a .down) 2 (length (now (a .vectors)))
+vectors : (c : tie.Else2 Inv-loop μ-loop) → let a = c .before .before .before .before .before .before .args in
+    Room (a .across) (a .down) 2 (length (now (a .vectors)))
 vectors c = room-yes _ _ _ _ (sym (c .before .room2 .ensures) ∙ not-false _ (c .if2 .left))
-
--- the components of macroblock n are there
-second : (c : tie.In-loop Inv-loop μ-loop) → 2 * c .before .loop .n + 1 < length (now (c .before .before .before .before .before .before .before .before .args .vectors))
-second c = omega (arith, c .loop-test .taken, vectors (c .before .before) .enough)
-
-few : (c : tie.In-loop Inv-loop μ-loop) → c .before .loop .n < 65536
-few c = omega (arith, c .loop-test .taken, count-most (vectors (c .before .before)))
-
-h-is : (c : tie.After-component Inv-loop μ-loop) → reread w32 (c .component .result) ≡ component (now (c .before .before .before .before .before .before .before .before .before .args .vectors)) (2 * c .before .before .loop .n)
-h-is c = toZ-ofZ (sfits-of (c .component .ok)) ∙ c .component .ensures .0
-
-v-is : (c : tie.After-component2 Inv-loop μ-loop) → reread w32 (c .component2 .result) ≡ component (now (c .before .before .before .before .before .before .before .before .before .before .args .vectors)) (2 * c .before .before .before .loop .n + 1)
-v-is c = toZ-ofZ (sfits-of (c .component2 .ok)) ∙ c .component2 .ensures .0
 
 room-requires : tie.Need-room-requires Inv-loop μ-loop
 room-requires c κs = search needs
@@ -52,7 +36,9 @@ room-requires-2 : tie.Need-room-requires-2 Inv-loop μ-loop
 room-requires-2 c κs = search needs
 
 returns-2 : tie.Need-returns-2 Inv-loop μ-loop
-returns-2 c = (by-second (c .before .before .before .room .ensures) (not-false _ (c .before .before .if1 .left)) (c .before .room2 .ensures) (not-true _ (c .if2 .taken)), refl)
+returns-2 c =
+    let f = c .before .before in
+    (by-second (f .before .room .ensures) (not-false _ (f .if1 .left)) (c .before .room2 .ensures) (not-true _ (c .if2 .taken)), refl)
 
 mul-blocks : tie.Need-mul-blocks Inv-loop μ-loop
 mul-blocks c = omega (arith, count-most (vectors c))
@@ -61,56 +47,50 @@ loop-holds : tie.Need-loop-holds Inv-loop μ-loop
 unfolding repeated
 loop-holds c = (omega arith, refl, refl)
 
-div-component : tie.Need-div-component Inv-loop μ-loop
-div-component c = omega (arith, vectors (c .before .before) .some)
+macroblock-at-requires : tie.Need-macroblock-at-requires Inv-loop μ-loop
+macroblock-at-requires c κs = let r = vectors (c .before .before) in (r .wide, (r .high, c .loop-test .taken))
 
-rem-component : tie.Need-rem-component Inv-loop μ-loop
-rem-component c = omega (arith, vectors (c .before .before) .some)
-
-mul-component : tie.Need-mul-component Inv-loop μ-loop
-mul-component c = omega (arith, few c)
-
-component-requires : tie.Need-component-requires Inv-loop μ-loop
-component-requires c κs = omega (arith, second c)
-
-mul-component-2 : tie.Need-mul-component-2 Inv-loop μ-loop
-mul-component-2 c = omega (arith, few (c .before))
-
-add-component : tie.Need-add-component Inv-loop μ-loop
-add-component c = omega (arith, few (c .before))
-
-component-requires-2 : tie.Need-component-requires-2 Inv-loop μ-loop
-component-requires-2 c κs = second (c .before)
+vector-of-requires : tie.Need-vector-of-requires Inv-loop μ-loop
+vector-of-requires c κs = omega (arith, c .before .loop-test .taken, vectors (c .before .before .before) .enough)
 
 predict-macroblock-planes-requires : tie.Need-predict-macroblock-planes-requires Inv-loop μ-loop
 predict-macroblock-planes-requires c κs =
-    let t = c .before .before .before in
-    let l = t .before in (
-      inside (vectors (l .before)) (l .loop .n) (t .loop-test .taken),
+    let x = c .before .before .before in
+    let m = x .before .macroblock-at .ensures in
+    let l = x .before .before .before in
+    let w = x .vector-of .result in
+    let small = x .vector-of .ensures .1 .1 in (
+      m .1,
       (
         (omega arith, omega arith),
         (
-          (rw (toZ-ofZ (sfits-of (c .before .before .component .ok))) (c .before .before .component .ensures .1), rw (toZ-ofZ (sfits-of (c .before .component2 .ok))) (c .before .component2 .ensures .1)),
-          omega (arith, stores (l .before .before .before) .enough, l .loop .inv .1),
+          (rw (small-read (w .h) (small .0)) (small .0), rw (small-read (w .v) (small .1)) (small .1)),
+          rw (m .0) (omega (arith, stores (l .before .before .before) .enough, l .loop .inv .1)),
         ),
       ),
     )
 
 add-n : tie.Need-add-n Inv-loop μ-loop
-add-n c = omega (arith, few (c .before .before .before .before .before .before))
+add-n c =
+    let t = c .before .before .before .before .before .before .before .before in
+    omega (arith, t .loop-test .taken, count-most (vectors (t .before .before)))
 
 loop-less : tie.Need-loop-less Inv-loop μ-loop
-loop-less c = omega (arith, c .before .before .before .before .before .before .loop-test .taken)
+loop-less c = omega (arith, c .before .before .before .before .before .before .before .before .loop-test .taken)
 
 loop-again : tie.Need-loop-again Inv-loop μ-loop
 unfolding predictMacroblock
 loop-again c =
-    let l = c .before .before .before .before .before .before .before in
+    let x = c .before .before .before .before .before .before in
+    let w = x .vector-of .result in
+    let e = x .vector-of .ensures in
+    let l = x .before .before .before in
     let a = l .before .before .before .before .before .before .before .args in (
-      omega (arith, c .before .before .before .before .before .before .loop-test .taken),
+      omega (arith, x .before .before .loop-test .taken),
       omega (arith, c .before .before .predict-macroblock-planes .kept .0, l .loop .inv .1),
       repeated-on (predictMacroblock (a .across) (a .down) (now (a .vectors)) (a .interpolate)) (now (a .store)) (l .loop .n) (l .loop .inv .2)
-          (c .before .before .predict-macroblock-planes .ensures .1 ∙ ap₂ (λ (h v : ℤ). predictedPlanes (macroblock (a .across) (a .down) (l .loop .n)) 0 1 h v (a .interpolate) (l .loop .store) .store) (h-is (c .before .before .before .before .before)) (v-is (c .before .before .before .before))),
+          (c .before .before .predict-macroblock-planes .ensures .1
+          ∙ rw (x .before .macroblock-at .ensures .0, small-read (w .h) (e .1 .1 .0), small-read (w .v) (e .1 .1 .1), e .0, e .1 .0)),
     )
 
 same-length : tie.Need-same-length Inv-loop μ-loop
@@ -120,9 +100,10 @@ returns-3 : tie.Need-returns-3 Inv-loop μ-loop
 unfolding predictStore
 returns-3 c =
     let l = c .before in
+    let f = l .before .before .before in
     let a = l .before .before .before .before .before .before .before .args in
     let e : l .loop .n ≡ a .across * a .down = omega (arith, l .loop .inv .0, c .loop-test .left) in (
-      by-second (l .before .before .before .before .room .ensures) (not-false _ (l .before .before .before .if1 .left)) (l .before .before .room2 .ensures) (not-false _ (l .before .if2 .left)),
+      by-second (f .before .room .ensures) (not-false _ (f .if1 .left)) (l .before .before .room2 .ensures) (not-false _ (l .before .if2 .left)),
       l .loop .inv .2 ∙ ap (repeated (predictMacroblock (a .across) (a .down) (now (a .vectors)) (a .interpolate)) (now (a .store))) e,
     )
 
@@ -138,13 +119,8 @@ bench-predict-store-spec =
     returns-2
     mul-blocks
     loop-holds
-    div-component
-    rem-component
-    mul-component
-    component-requires
-    mul-component-2
-    add-component
-    component-requires-2
+    macroblock-at-requires
+    vector-of-requires
     predict-macroblock-planes-requires
     add-n
     loop-less

@@ -14,13 +14,14 @@ use Rattle.laws.proofs.Exprs.{Exp, var, cst, _∸_, Input, natural, eval-fits, 
 use Rattle.laws.specs.Sizes.{Narrow}
 use Rattle.bench.specs.Planes.{repeated, writeBlock, resultsAt, writeNumber, writePlane}
 use Rattle.bench.proofs.Results.{results-narrow}
-use Rattle.bench.proofs.Rooms.{Room, room-yes, repeated-on, count-most, inside}
+use Rattle.bench.proofs.Rooms.{Room, room-yes, repeated-on, count-most}
 use Rattle.bench.proofs.writers.bench_write.Statement.{statement}
 use Rattle.bench.proofs.writers.bench_write.Tie as tie
 
 abbrev Inv-loop : tie.InvT-loop
 Inv-loop plane₀ across down intra lone value blocks results₀ n₀ plane results n =
-    (n ≤ across * down) × (length plane ≡ length plane₀) × (plane ≡ repeated (writeNumber across intra lone value) plane₀ n) × (results ≡ resultsAt n)
+    (n ≤ across * down) × (length plane ≡ length plane₀)
+    × (plane ≡ repeated (writeNumber across intra lone value) plane₀ n) × (results ≡ resultsAt n)
 
 abbrev μ-loop : tie.MeasureT-loop
 μ-loop plane₀ across down intra lone value blocks results₀ n₀ plane results n = across * down - n
@@ -48,31 +49,29 @@ loop-holds : tie.Need-loop-holds Inv-loop μ-loop
 unfolding repeated resultsAt
 loop-holds c = (omega arith, refl, refl, refl)
 
-div-write-block : tie.Need-div-write-block Inv-loop μ-loop
-div-write-block c = omega (arith, whole (c .before .before) .some)
-
-rem-write-block : tie.Need-rem-write-block Inv-loop μ-loop
-rem-write-block c = omega (arith, whole (c .before .before) .some)
+macroblock-at-requires : tie.Need-macroblock-at-requires Inv-loop μ-loop
+macroblock-at-requires c κs = let r = whole (c .before .before) in (r .wide, (r .high, c .loop-test .taken))
 
 chroma-place-requires : tie.Need-chroma-place-requires Inv-loop μ-loop
-chroma-place-requires c κs = let l = c .before .before in inside (whole (l .before)) (l .loop .n) (c .before .loop-test .taken)
+chroma-place-requires c κs = c .before .macroblock-at .ensures .1
 
 mul-write-block : tie.Need-mul-write-block Inv-loop μ-loop
-mul-write-block c = omega (arith, whole (c .before .before .before .before) .wide)
+mul-write-block c = omega (arith, whole (c .before .before .before .before .before) .wide)
 
 write-block-requires : tie.Need-write-block-requires Inv-loop μ-loop
 write-block-requires c κs =
-    let l = c .before .before .before .before in
-    let w = whole (l .before) in (
+    let l = c .before .before .before .before .before in
+    let w = whole (l .before) in
+    let p = rw (c .before .before .before .macroblock-at .ensures .0) at (c .before .chroma-place .ensures .1) in (
       omega (arith, w .some),
-      (omega (arith, c .before .chroma-place .ensures .1, w .enough, l .loop .inv .1), subst Narrow (sym (l .loop .inv .3)) (results-narrow (l .loop .n))),
+      (omega (arith, p, w .enough, l .loop .inv .1), subst Narrow (sym (l .loop .inv .3)) (results-narrow (l .loop .n))),
     )
 
 cast-results : tie.Need-cast-results Inv-loop μ-loop
-cast-results c = eval-fits (ins (c .before .before .before .before .before .before)) (var 0) tt
+cast-results c = eval-fits (ins (c .before .before .before .before .before .before .before)) (var 0) tt
 
 sub-results : tie.Need-sub-results Inv-loop μ-loop
-sub-results c = need (ins (c .before .before .before .before .before .before)) number tt
+sub-results c = need (ins (c .before .before .before .before .before .before .before)) number tt
 
 mul-results : tie.Need-mul-results Inv-loop μ-loop
 mul-results c = omega arith
@@ -81,22 +80,28 @@ array-set-from-results : tie.Need-array-set-from-results Inv-loop μ-loop
 array-set-from-results c = omega arith
 
 add-n : tie.Need-add-n Inv-loop μ-loop
-add-n c = omega (arith, c .before .before .before .before .before .before .loop-test .taken, count-most (whole (c .before .before .before .before .before .before .before .before)))
+add-n c =
+    let t = c .before .before .before .before .before .before .before in
+    omega (arith, t .loop-test .taken, count-most (whole (t .before .before)))
 
 loop-less : tie.Need-loop-less Inv-loop μ-loop
-loop-less c = omega (arith, c .before .before .before .before .before .before .loop-test .taken)
+loop-less c = omega (arith, c .before .before .before .before .before .before .before .loop-test .taken)
 
 loop-again : tie.Need-loop-again Inv-loop μ-loop
 unfolding writeNumber resultsAt
 loop-again c =
-    let l = c .before .before .before .before .before .before .before in
+    let p = c .before .before .before .before in
+    let t = p .before .before .before in
+    let l = t .before in
     let n = l .loop .n in
     let a = l .before .before .before .before .args in (
-      omega (arith, c .before .before .before .before .before .before .loop-test .taken),
+      omega (arith, t .loop-test .taken),
       omega (arith, c .before .before .write-block .kept .0, l .loop .inv .1),
       repeated-on (writeNumber (a .across) (a .intra) (a .lone) (a .value)) (now (a .plane)) n (l .loop .inv .2)
-          (c .before .before .write-block .ensures ∙ ap₂ (λ (s : List ℤ) (di : ℕ). writeBlock (a .intra) (a .lone) (a .value) s (l .loop .plane) di (a .across * 8)) (l .loop .inv .3) (c .before .before .before .before .chroma-place .ensures .0)),
-      ap₂ (λ (s : List ℤ) (z : ℤ). set s (n % 64) z) (l .loop .inv .3) (value (ins (c .before .before .before .before .before .before)) number tt) ∙ ap resultsAt (sym (add-one n)),
+          (c .before .before .write-block .ensures
+          ∙ ap₂ (λ (s : List ℤ) (di : ℕ). writeBlock (a .intra) (a .lone) (a .value) s (l .loop .plane) di (a .across * 8)) (l .loop .inv .3)
+          (p .chroma-place .ensures .0 ∙ rw (p .before .before .macroblock-at .ensures .0))),
+      ap₂ (λ (s : List ℤ) (z : ℤ). set s (n % 64) z) (l .loop .inv .3) (value (ins t) number tt) ∙ ap resultsAt (sym (add-one n)),
     )
 
 same-length : tie.Need-same-length Inv-loop μ-loop
@@ -122,8 +127,7 @@ bench-write-spec =
     returns
     mul-blocks
     loop-holds
-    div-write-block
-    rem-write-block
+    macroblock-at-requires
     chroma-place-requires
     mul-write-block
     write-block-requires
