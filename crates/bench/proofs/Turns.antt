@@ -1,10 +1,10 @@
--- The turns of the loops that add up what they read.
+-- The turns of the loops that read while bits are there.
 use mathlib.Core.Path.{_≡_, sym, ap, _∙_}
 use mathlib.Core.Bool.{Bool, true, false}
 use mathlib.Core.List.{List}
-use Prim.Native.Nat.{ℕ, _+_, _-_, _*_, _≤_, _<_}
+use Prim.Native.Nat.{ℕ, _+_, _-_, _*_, _%_, _≤_, _<_}
 use native.Mathlib.Omega.{arith}
-use borrow.Author.Tests.{leb-true}
+use borrow.Author.Tests.{lt-ltb, le-ltb, leb-true}
 use lib.ListN.{length}
 use Rattle.bits.specs.Bits.{has, got, next}
 use Rattle.bits.specs.Programs.{Prog, look, bits, run, Out, many}
@@ -14,38 +14,68 @@ use Rattle.codes.specs.Codes.{dctCoeff}
 use Rattle.codes.specs.Tables.{dctCoeffIndex, dctCoeffValue}
 use Rattle.codes.proofs.Good.{good-dct-coeff}
 use Rattle.codes.proofs.Vlc.{vlc-takes}
-use Rattle.bench.specs.Loops.{addTurn, addUp}
+use Rattle.bench.specs.Loops.{ofStream, whileTurn, whileThere, added, sumOf}
 
-r-look : {A : Type 0} {s : List ℕ} {a n : ℕ} {k : Bool → ℕ → Prog A} {v : A} {e : ℕ} → Runs (k (has s a n) (got s a n)) s a v e → Runs (look n k) s a v e
+-- a stream that is too long, and one that is not
+pub too-long : {A : Type 0} (d : A) (p : Prog A) (s : List ℕ) → 16777216 < length s → d ≡ ofStream d p s
+unfolding ofStream
+too-long d p s h = simp (lt-ltb _ _ h)
+
+pub whole-stream : {A : Type 0} (d : A) (p : Prog A) (s : List ℕ) {v : A} {e : ℕ}
+    → length s ≤ 16777216 → Runs p s 0 v e → v ≡ ofStream d p s
+unfolding ofStream
+whole-stream d p s h r = simp (le-ltb _ _ h) (sym (ap (λ (o : Out _). o .value) (r .is)))
+
+r-look : {A : Type 0} {s : List ℕ} {a n : ℕ} {k : Bool → ℕ → Prog A} {v : A} {e : ℕ}
+    → Runs (k (has s a n) (got s a n)) s a v e → Runs (look n k) s a v e
 unfolding run
 r-look r = record { is = r .is }
 
--- the loop in the middle: at the place a, with the sum so far
-pub record Summing (n : ℕ) (p : Prog ℕ) (s : List ℕ) (a sum : ℕ) : Type 0 where
+-- the loop in the middle: at the place a, with the state x
+pub record Going {S : Type 0} (n : ℕ) (p : S → Prog S) (x₀ : S) (s : List ℕ) (a : ℕ) (x : S) : Type 0 where
   pub most : a ≤ 134217728
+  pub loops : Loops many (whileTurn n p) x₀ x₀ s 0 x a (134217728 - a)
+
+module _ {S : Type 0} (n : ℕ) (p : S → Prog S) (x₀ : S) (s : List ℕ) where
+  pub going-start : (a : ℕ) → a ≡ 0 → Going n p x₀ s a x₀
+  going-start a h = rw h (record { most = omega arith; loops = loop-start (omega arith) })
+
+  -- a turn: n bits are there, and p takes one of them or more, so that less is left
+  pub going-on : {a e : ℕ} {x y : S} → length s ≤ 16777216 → has s a n ≡ true → Runs (p x) s a y e → a < e → Going n p x₀ s a x
+      → (134217728 - e < 134217728 - a) × Going n p x₀ s e y
+  unfolding whileTurn
+  going-on {a} {e} short there given on l =
+      let most = r-most given (l .most) short in
+      let less : 134217728 - e < 134217728 - a = omega arith in
+      (less, record { most = most; loops = loop-on (l .loops) (r-look (r-yes _ there (r-call _ given r-done))) less })
+
+  pub going-end : {a : ℕ} {x : S} (d : S) → length s ≤ 16777216 → has s a n ≡ false → Going n p x₀ s a x
+      → x ≡ ofStream d (whileThere n p x₀) s
+  unfolding whileTurn whileThere
+  going-end d short h l = whole-stream d _ s short (loop-end (l .loops) (r-look (r-no _ h r-done)))
+
+-- such a loop that adds up, with the sum so far
+pub record Summing (n : ℕ) (p : Prog ℕ) (s : List ℕ) (a sum : ℕ) : Type 0 where
   pub small : sum ≤ a * 4294967296
-  pub loops : Loops many (addTurn n p) 0 0 s 0 sum a (134217728 - a)
+  pub going : Going n (added p) 0 s a sum
 
-pub summing-start : (n : ℕ) (p : Prog ℕ) (s : List ℕ) (a : ℕ) → a ≡ 0 → Summing n p s a 0
-summing-start n p s a h = rw h (record { most = omega arith; small = omega arith; loops = loop-start (omega arith) })
+module _ (n : ℕ) (p : Prog ℕ) (s : List ℕ) where
+  pub summing-long : 16777216 < length s → 0 ≡ sumOf n p s
+  unfolding sumOf
+  summing-long h = ap (λ (x : ℕ). x % 4294967296) (too-long 0 _ s h)
 
--- n bits are there, and p takes one of them or more
-module _ (n : ℕ) (p : Prog ℕ) (s : List ℕ) (a sum v e : ℕ) (short : length s ≤ 16777216) (there : has s a n ≡ true) (given : Runs p s a v e) (on : a < e) where
-  pub summing-less : a ≤ 134217728 → 134217728 - e < 134217728 - a
-  summing-less h = omega (arith, r-most given h short)
+  pub summing-start : (a : ℕ) → a ≡ 0 → Summing n p s a 0
+  summing-start a h = record { small = omega arith; going = going-start n (added p) 0 s a h }
 
-  pub summing-on : v < 4294967296 → Summing n p s a sum → Summing n p s e (sum + v)
-  unfolding addTurn
-  summing-on small l =
-      record {
-        most = r-most given (l .most) short;
-        small = omega (arith, l .small);
-        loops = loop-on (l .loops) (r-look (r-yes _ there (r-call _ given r-done))) (summing-less (l .most));
-      }
+  pub summing-step : {a sum v e : ℕ} → length s ≤ 16777216 → has s a n ≡ true → Runs p s a v e → a < e → v < 4294967296
+      → Summing n p s a sum → (134217728 - e < 134217728 - a) × Summing n p s e (sum + v)
+  summing-step short there given on h l =
+      let g = going-on n (added p) 0 s short there (r-call _ given r-done) on (l .going) in
+      (g .0, record { small = omega (arith, l .small); going = g .1 })
 
-pub summing-end : (n : ℕ) (p : Prog ℕ) (s : List ℕ) (a sum : ℕ) → has s a n ≡ false → Summing n p s a sum → run (addUp n p) s 0 .value ≡ sum
-unfolding addTurn addUp
-summing-end n p s a sum h l = ap (λ (o : Out ℕ). o .value) (loop-end (l .loops) (r-look (r-no _ h r-done)) .is)
+  pub summing-end : {a sum : ℕ} → length s ≤ 16777216 → has s a n ≡ false → Summing n p s a sum → sum % 4294967296 ≡ sumOf n p s
+  unfolding sumOf
+  summing-end short h l = ap (λ (x : ℕ). x % 4294967296) (going-end n (added p) 0 s 0 short h (l .going))
 
 -- bits that are there are taken
 pub bits-on : {s : List ℕ} {a n v e : ℕ} → 0 < n → has s a n ≡ true → Runs (bits n) s a v e → a < e

@@ -9,13 +9,13 @@ pub extern "C" fn bench_read(bytes: &[u8], count: u32) -> u32
     ensures { λ r. ⌜ r ≡ sumOfReads (now (bytes .entry)) count ⌝ }
 {
     let n = count as usize;
-    if 16777216 < bytes.len() {
-        return 0;
-    }
     if n == 0 {
         return 0;
     }
     if 32 < n {
+        return 0;
+    }
+    if 16777216 < bytes.len() {
         return 0;
     }
     let mut reader = Reader::new();

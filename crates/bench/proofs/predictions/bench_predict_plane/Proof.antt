@@ -53,9 +53,6 @@ place-is c =
     let l = c .before .before .before .before .before in
     c .block .ensures ∙ rw (c .before .before .before .macroblock-at .ensures .0, l .before .before .before .before .before .size-of .ensures)
 
-size-of-requires : tie.Need-size-of-requires Inv-loop μ-loop
-size-of-requires c κs = search needs
-
 mul-room : tie.Need-mul-room Inv-loop μ-loop
 mul-room c = omega (arith, square c)
 
@@ -67,9 +64,6 @@ room-requires c κs = omega (arith, square c)
 
 returns : tie.Need-returns Inv-loop μ-loop
 returns c = (no-first _ (planes-are (c .before)) (not-true _ (c .if1 .taken)), refl)
-
-room-requires-2 : tie.Need-room-requires-2 Inv-loop μ-loop
-room-requires-2 c κs = search needs
 
 returns-2 : tie.Need-returns-2 Inv-loop μ-loop
 returns-2 c =
@@ -88,15 +82,6 @@ mul-bytes-2 c = omega (arith, mul-le-mul (count-most (vectors c)) (square (c .be
 loop-holds : tie.Need-loop-holds Inv-loop μ-loop
 unfolding repeated
 loop-holds c = (omega arith, refl, refl)
-
-macroblock-at-requires : tie.Need-macroblock-at-requires Inv-loop μ-loop
-macroblock-at-requires c κs = let r = vectors (c .before .before) in (r .wide, (r .high, c .loop-test .taken))
-
-vector-of-requires : tie.Need-vector-of-requires Inv-loop μ-loop
-vector-of-requires c κs = omega (arith, c .before .loop-test .taken, vectors (c .before .before .before) .enough)
-
-block-requires : tie.Need-block-requires Inv-loop μ-loop
-block-requires c κs = search needs
 
 predict-plane-requires : tie.Need-predict-plane-requires Inv-loop μ-loop
 predict-plane-requires c κs =
@@ -146,9 +131,6 @@ loop-again c =
           (alike (a .interpolate) (l .loop .store) place refl to (small-read (w .h) (e .1 .1 .0) ∙ e .0) (small-read (w .v) (e .1 .1 .1) ∙ e .1 .0))),
     )
 
-same-length : tie.Need-same-length Inv-loop μ-loop
-same-length c = c .before .loop .inv .1
-
 returns-3 : tie.Need-returns-3 Inv-loop μ-loop
 unfolding predictPlane
 returns-3 c =
@@ -166,23 +148,23 @@ bench-predict-plane-spec =
     (tie.spec
     Inv-loop
     μ-loop
-    size-of-requires
+    (λ c κs. search needs)
     mul-room
     mul-room-2
     room-requires
     returns
-    room-requires-2
+    (λ c κs. search needs)
     returns-2
     mul-blocks
     mul-bytes
     mul-bytes-2
     loop-holds
-    macroblock-at-requires
-    vector-of-requires
-    block-requires
+    (λ c κs. let r = vectors (c .before .before) in (r .wide, (r .high, c .loop-test .taken)))
+    (λ c κs. omega (arith, c .before .loop-test .taken, vectors (c .before .before .before) .enough))
+    (λ c κs. search needs)
     predict-plane-requires
     add-n
     loop-less
     loop-again
-    same-length
+    (λ c. c .before .loop .inv .1)
     returns-3)

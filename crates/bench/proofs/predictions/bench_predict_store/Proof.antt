@@ -1,6 +1,6 @@
 -- `predictions::bench_predict_store` meets its contract: each turn predicts a macroblock.
 use mathlib.Core.Path.{_≡_, refl, sym, ap, _∙_}
-use Prim.Native.Nat.{_+_, _*_, _-_, _≤_, _<_}
+use Prim.Native.Nat.{_*_, _-_, _≤_}
 use native.Mathlib.Omega.{arith}
 use borrow.Author.Needs.{needs}
 use borrow.Author.Tests.{not-true, not-false}
@@ -26,14 +26,8 @@ vectors : (c : tie.Else2 Inv-loop μ-loop) → let a = c .before .before .before
     Room (a .across) (a .down) 2 (length (now (a .vectors)))
 vectors c = room-yes _ _ _ _ (sym (c .before .room2 .ensures) ∙ not-false _ (c .if2 .left))
 
-room-requires : tie.Need-room-requires Inv-loop μ-loop
-room-requires c κs = search needs
-
 returns : tie.Need-returns Inv-loop μ-loop
 returns c = (no-first _ (c .before .room .ensures) (not-true _ (c .if1 .taken)), refl)
-
-room-requires-2 : tie.Need-room-requires-2 Inv-loop μ-loop
-room-requires-2 c κs = search needs
 
 returns-2 : tie.Need-returns-2 Inv-loop μ-loop
 returns-2 c =
@@ -46,12 +40,6 @@ mul-blocks c = omega (arith, count-most (vectors c))
 loop-holds : tie.Need-loop-holds Inv-loop μ-loop
 unfolding repeated
 loop-holds c = (omega arith, refl, refl)
-
-macroblock-at-requires : tie.Need-macroblock-at-requires Inv-loop μ-loop
-macroblock-at-requires c κs = let r = vectors (c .before .before) in (r .wide, (r .high, c .loop-test .taken))
-
-vector-of-requires : tie.Need-vector-of-requires Inv-loop μ-loop
-vector-of-requires c κs = omega (arith, c .before .loop-test .taken, vectors (c .before .before .before) .enough)
 
 predict-macroblock-planes-requires : tie.Need-predict-macroblock-planes-requires Inv-loop μ-loop
 predict-macroblock-planes-requires c κs =
@@ -93,9 +81,6 @@ loop-again c =
           ∙ rw (x .before .macroblock-at .ensures .0, small-read (w .h) (e .1 .1 .0), small-read (w .v) (e .1 .1 .1), e .0, e .1 .0)),
     )
 
-same-length : tie.Need-same-length Inv-loop μ-loop
-same-length c = c .before .loop .inv .1
-
 returns-3 : tie.Need-returns-3 Inv-loop μ-loop
 unfolding predictStore
 returns-3 c =
@@ -113,17 +98,17 @@ bench-predict-store-spec =
     (tie.spec
     Inv-loop
     μ-loop
-    room-requires
+    (λ c κs. search needs)
     returns
-    room-requires-2
+    (λ c κs. search needs)
     returns-2
     mul-blocks
     loop-holds
-    macroblock-at-requires
-    vector-of-requires
+    (λ c κs. let r = vectors (c .before .before) in (r .wide, (r .high, c .loop-test .taken)))
+    (λ c κs. omega (arith, c .before .loop-test .taken, vectors (c .before .before .before) .enough))
     predict-macroblock-planes-requires
     add-n
     loop-less
     loop-again
-    same-length
+    (λ c. c .before .loop .inv .1)
     returns-3)

@@ -1,12 +1,12 @@
-use mathlib.Core.Path.{sym, ap, _∙_}
-use Prim.Native.Nat.{ℕ, _-_, _%_}
+use mathlib.Core.Path.{sym, _∙_}
+use Prim.Native.Nat.{_+_, _-_, _<_}
 use native.Mathlib.Omega.{arith}
 use borrow.Author.Needs.{needs}
 use borrow.Author.Tests.{lt-ltb, le-ltb, eq-eqb, ne-eqb}
 use Rattle.bits.specs.Programs.{bits}
 use Rattle.bits.proofs.Rules.{r-reads}
 use Rattle.bench.specs.Loops.{sumOfReads}
-use Rattle.bench.proofs.Turns.{Summing, summing-start, summing-less, summing-on, summing-end, bits-on}
+use Rattle.bench.proofs.Turns.{Summing, summing-long, summing-start, summing-step, summing-end, bits-on}
 use Rattle.bench.proofs.reader.bench_read.Statement.{statement}
 use Rattle.bench.proofs.reader.bench_read.Tie as tie
 
@@ -18,15 +18,17 @@ abbrev μ-loop : tie.MeasureT-loop
 
 returns : tie.Need-returns Inv-loop μ-loop
 unfolding sumOfReads
-returns c = simp (lt-ltb _ _ (c .if1 .taken))
+returns c = simp (eq-eqb _ _ (c .if1 .taken))
 
 returns-2 : tie.Need-returns-2 Inv-loop μ-loop
 unfolding sumOfReads
-returns-2 c = simp (le-ltb _ _ (c .before .if1 .left), eq-eqb _ _ (c .if2 .taken))
+returns-2 c = simp (ne-eqb _ _ (c .before .if1 .left), lt-ltb _ _ (c .if2 .taken))
 
 returns-3 : tie.Need-returns-3 Inv-loop μ-loop
 unfolding sumOfReads
-returns-3 c = simp (le-ltb _ _ (c .before .before .if1 .left), ne-eqb _ _ (c .before .if2 .left), lt-ltb _ _ (c .if3 .taken))
+returns-3 c =
+    simp (ne-eqb _ _ (c .before .before .if1 .left), le-ltb _ _ (c .before .if2 .left))
+    (summing-long (c .before .before .before .before .args .count) _ _ (omega (arith, c .if3 .taken)))
 
 loop-holds : tie.Need-loop-holds Inv-loop μ-loop
 loop-holds c = summing-start _ _ _ _ (c .new .ensures)
@@ -37,31 +39,26 @@ cast-sum c = omega (arith, c .struct-known .given)
 add-sum : tie.Need-add-sum Inv-loop μ-loop
 add-sum c = omega (arith, c .struct-known .given)
 
-loop-less : tie.Need-loop-less Inv-loop μ-loop
-loop-less c =
+step : (c : tie.After-struct-known Inv-loop μ-loop) → let r = c .before .before in let l = r .before .before .before in
+    let s = l .before .before .before .before .before .before in
+    let read = r .read .result in (134217728 - read .reader .at .0 < 134217728 - l .loop .reader .at .0)
+    × Summing (s .args .count) (bits (s .args .count)) (s .args .bytes .now) (read .reader .at .0) (l .loop .sum + read .value)
+step c =
     let r = c .before .before in
     let l = r .before .before .before in
     let s = l .before .before .before .before .before .before in
     let there = sym (r .before .before .has .ensures .0) ∙ r .before .if4 .taken in
     let read = r-reads (s .args .count) (omega arith) (r .read .ensures .0) in
-    summing-less _ _ (s .args .bytes .now) _ (l .loop .sum) _ _ (omega (arith, l .before .before .before .before .if1 .left)) there read (bits-on (omega arith) there read) (l .loop .inv .most)
-
-loop-again : tie.Need-loop-again Inv-loop μ-loop
-loop-again c =
-    let r = c .before .before in
-    let l = r .before .before .before in
-    let s = l .before .before .before .before .before .before in
-    let there = sym (r .before .before .has .ensures .0) ∙ r .before .if4 .taken in
-    let read = r-reads (s .args .count) (omega arith) (r .read .ensures .0) in
-    summing-on _ _ _ _ _ _ _ (omega (arith, l .before .before .before .before .if1 .left)) there read (bits-on (omega arith) there read) (omega (arith, c .struct-known .given)) (l .loop .inv)
+    summing-step (s .args .count) _ _ (omega (arith, l .before .before .if3 .left)) there read (bits-on (omega arith) there read)
+    (omega (arith, c .struct-known .given)) (l .loop .inv)
 
 returns-4 : tie.Need-returns-4 Inv-loop μ-loop
 unfolding sumOfReads
 returns-4 c =
     let l = c .before .before in
-    let s = l .before .before .before .before .before .before in
-    simp (le-ltb _ _ (l .before .before .before .before .if1 .left), ne-eqb _ _ (l .before .before .before .if2 .left), le-ltb _ _ (l .before .before .if3 .left))
-    (ap (λ (x : ℕ). x % 4294967296) (sym (summing-end (s .args .count) _ (s .args .bytes .now) _ _ (sym (c .before .has .ensures .0) ∙ c .if4 .left) (l .loop .inv))))
+    let n = l .before .before .before .before .before .before .args .count in
+    simp (ne-eqb _ _ (l .before .before .before .before .if1 .left), le-ltb _ _ (l .before .before .before .if2 .left))
+    (summing-end n (bits n) _ (omega (arith, l .before .before .if3 .left)) (sym (c .before .has .ensures .0) ∙ c .if4 .left) (l .loop .inv))
 
 pub bench-read-spec : {M : Type 1} → statement M
 bench-read-spec =
@@ -78,7 +75,7 @@ bench-read-spec =
     (λ c κs. search needs)
     cast-sum
     add-sum
-    loop-less
-    loop-again
+    (λ c. step c .0)
+    (λ c. step c .1)
     (λ c. omega arith)
     returns-4)

@@ -1,12 +1,11 @@
 -- The loop of `bench_read` with reads of one bit.
-use mathlib.Core.Path.{sym, ap, _∙_}
-use Prim.Native.Nat.{ℕ, _-_, _%_}
+use mathlib.Core.Path.{sym, _∙_}
+use Prim.Native.Nat.{_+_, _-_, _<_}
 use native.Mathlib.Omega.{arith}
 use borrow.Author.Needs.{needs}
-use borrow.Author.Tests.{lt-ltb, le-ltb}
 use Rattle.bits.specs.Programs.{bits}
 use Rattle.bench.specs.Loops.{sumOfReads}
-use Rattle.bench.proofs.Turns.{Summing, summing-start, summing-less, summing-on, summing-end, bits-on}
+use Rattle.bench.proofs.Turns.{Summing, summing-long, summing-start, summing-step, summing-end, bits-on}
 use Rattle.bench.proofs.reader.bench_read_bit.Statement.{statement}
 use Rattle.bench.proofs.reader.bench_read_bit.Tie as tie
 
@@ -18,32 +17,25 @@ abbrev μ-loop : tie.MeasureT-loop
 
 returns : tie.Need-returns Inv-loop μ-loop
 unfolding sumOfReads
-returns c = simp (lt-ltb _ _ (c .if1 .taken))
+returns c = summing-long 1 (bits 1) _ (omega (arith, c .if1 .taken))
 
 loop-holds : tie.Need-loop-holds Inv-loop μ-loop
 loop-holds c = summing-start _ _ _ _ (c .new .ensures)
 
-loop-less : tie.Need-loop-less Inv-loop μ-loop
-loop-less c =
+step : (c : tie.After-struct-known Inv-loop μ-loop) → let r = c .before .before in let l = r .before .before .before in
+    let bit = r .read-bit .result in (134217728 - bit .reader .at .0 < 134217728 - l .loop .reader .at .0)
+    × Summing 1 (bits 1) (l .before .before .before .before .args .bytes .now) (bit .reader .at .0) (l .loop .sum + bit .value)
+step c =
     let r = c .before .before in
-    let l = r .before .before .before in
     let there = sym (r .before .before .has .ensures .0) ∙ r .before .if2 .taken in
-    summing-less 1 _ (l .before .before .before .before .args .bytes .now) _ (l .loop .sum) _ _ (omega arith) there (r .read-bit .ensures .0) (bits-on (omega arith) there (r .read-bit .ensures .0)) (l .loop .inv .most)
-
-loop-again : tie.Need-loop-again Inv-loop μ-loop
-loop-again c =
-    let r = c .before .before in
-    let l = r .before .before .before in
-    let there = sym (r .before .before .has .ensures .0) ∙ r .before .if2 .taken in
-    summing-on _ _ _ _ _ _ _ (omega arith) there (r .read-bit .ensures .0) (bits-on (omega arith) there (r .read-bit .ensures .0)) (omega arith) (l .loop .inv)
+    let bit = r .read-bit .ensures .0 in
+    summing-step 1 (bits 1) _ (omega arith) there bit (bits-on (omega arith) there bit) (omega arith) (r .before .before .before .loop .inv)
 
 returns-2 : tie.Need-returns-2 Inv-loop μ-loop
 unfolding sumOfReads
 returns-2 c =
     let l = c .before .before in
-    let s = l .before .before .before .before in
-    simp (le-ltb _ _ (l .before .before .if1 .left))
-    (ap (λ (x : ℕ). x % 4294967296) (sym (summing-end 1 _ (s .args .bytes .now) _ _ (sym (c .before .has .ensures .0) ∙ c .if2 .left) (l .loop .inv))))
+    summing-end 1 (bits 1) _ (omega (arith, l .before .before .if1 .left)) (sym (c .before .has .ensures .0) ∙ c .if2 .left) (l .loop .inv)
 
 pub bench-read-bit-spec : {M : Type 1} → statement M
 bench-read-bit-spec =
@@ -58,7 +50,7 @@ bench-read-bit-spec =
     (λ c κs. search needs)
     (λ c. omega arith)
     (λ c. omega arith)
-    loop-less
-    loop-again
+    (λ c. step c .0)
+    (λ c. step c .1)
     (λ c. omega arith)
     returns-2)

@@ -1,17 +1,17 @@
 -- Each start code is four bytes or more further on, so there are few enough to count.
-use mathlib.Core.Path.{sym, ap}
-use Prim.Native.Nat.{ℕ, _+_, _-_, _*_, _≤_}
+use mathlib.Core.Path.{ap}
+use Prim.Native.Nat.{_+_, _-_, _*_, _≤_}
 use native.Mathlib.Omega.{arith}
 use borrow.Author.Needs.{needs}
-use borrow.Author.Tests.{lt-ltb, le-ltb}
 use lib.IntN.{negsuc}
 use mir.Syntax.{w32}
 use mir.Val.{ofZ}
 use Rattle.laws.proofs.Ints.{same-bits}
-use Rattle.bits.specs.Programs.{Out, many}
+use Rattle.bits.specs.Programs.{many}
 use Rattle.bits.proofs.Codes.{eqZ-yes, eqZ-no, code-fits}
 use Rattle.bits.proofs.Rules.{Loops, loop-start, loop-on, loop-end, r-call, r-yes, r-no, r-done, r-start-past}
-use Rattle.bench.specs.Loops.{countTurn, countCodes, startCodes}
+use Rattle.bench.specs.Loops.{countTurn, startCodes}
+use Rattle.bench.proofs.Turns.{too-long, whole-stream}
 use Rattle.bench.proofs.reader.bench_start_codes.Statement.{statement}
 use Rattle.bench.proofs.reader.bench_start_codes.Tie as tie
 
@@ -24,22 +24,23 @@ abbrev μ-loop : tie.MeasureT-loop
 
 returns : tie.Need-returns Inv-loop μ-loop
 unfolding startCodes
-returns c = simp (lt-ltb _ _ (c .if1 .taken))
+returns c = too-long 0 _ _ (omega (arith, c .if1 .taken))
 
 loop-holds : tie.Need-loop-holds Inv-loop μ-loop
 loop-holds c = rw (c .new .ensures) (omega arith, omega arith, loop-start (omega arith))
 
 returns-2 : tie.Need-returns-2 Inv-loop μ-loop
-unfolding startCodes countCodes countTurn
+unfolding startCodes countTurn
 returns-2 c =
     let x = c .before .before .before in
     let k = x .next-start-code .result .code in
     let e = same-bits w32 (code-fits k (x .next-start-code .ensures .1 .1)) (code-fits (negsuc 0) (omega arith)) (c .if2 .taken) in
     let l = loop-end (x .before .loop .inv .2) (r-call _ (x .next-start-code .ensures .0) (r-yes _ (eqZ-yes k (negsuc 0) e) r-done)) in
-    simp (le-ltb _ _ (x .before .before .before .if1 .left)) (sym (ap (λ (o : Out ℕ). o .value) (l .is)))
+    whole-stream 0 _ _ (omega (arith, x .before .before .before .if1 .left)) l
 
 -- the search went on past a code
-past : (c : tie.After-reader Inv-loop μ-loop) → c .before .before .before .before .before .loop .reader .at .0 + 32 ≤ c .before .before .before .before .next-start-code .result .reader .at .0
+past : (c : tie.After-reader Inv-loop μ-loop) → let x = c .before .before .before .before in
+    x .before .loop .reader .at .0 + 32 ≤ x .next-start-code .result .reader .at .0
 past c =
     let x = c .before .before .before .before in
     r-start-past (x .next-start-code .ensures .0) (λ e. c .before .if2 .left (ap (ofZ w32) e))

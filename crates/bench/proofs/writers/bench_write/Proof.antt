@@ -36,9 +36,6 @@ ins c = natural w32 (c .before .loop .n % 512) 511 (omega arith) ∷ []
 abbrev number : Exp
 number = var 0 ∸ cst 128
 
-room-requires : tie.Need-room-requires Inv-loop μ-loop
-room-requires c κs = search needs
-
 returns : tie.Need-returns Inv-loop μ-loop
 returns c = (sym (not-true _ (c .if1 .taken)) ∙ c .before .room .ensures, refl)
 
@@ -104,9 +101,6 @@ loop-again c =
       ap₂ (λ (s : List ℤ) (z : ℤ). set s (n % 64) z) (l .loop .inv .3) (value (ins t) number tt) ∙ ap resultsAt (sym (add-one n)),
     )
 
-same-length : tie.Need-same-length Inv-loop μ-loop
-same-length c = c .before .loop .inv .1
-
 returns-2 : tie.Need-returns-2 Inv-loop μ-loop
 unfolding writePlane
 returns-2 c =
@@ -123,7 +117,7 @@ bench-write-spec =
     (tie.spec
     Inv-loop
     μ-loop
-    room-requires
+    (λ c κs. search needs)
     returns
     mul-blocks
     loop-holds
@@ -138,5 +132,5 @@ bench-write-spec =
     add-n
     loop-less
     loop-again
-    same-length
+    (λ c. c .before .loop .inv .1)
     returns-2)

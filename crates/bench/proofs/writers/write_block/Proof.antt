@@ -18,18 +18,9 @@ ins c = natural w32 (c .args .value) 255 (omega arith) ∷ []
 abbrev less : Exp
 less = var 0 ∸ cst 128
 
-block-set-const-requires : tie.Need-block-set-const-requires
-block-set-const-requires c κs = search needs
-
-same-length : tie.Need-same-length
-same-length c = search needs
-
 returns : tie.Need-returns
 unfolding writeBlock
-returns c = simp (c .before .before .before .before .if2 .taken, c .before .before .before .before .before .if1 .taken) (c .before .before .block-set-const .ensures)
-
-cast-block-set-add-const : tie.Need-cast-block-set-add-const
-cast-block-set-add-const c = search needs
+returns c = let f = c .before .before .before .before in simp (f .if2 .taken, f .before .if1 .taken) (c .before .before .block-set-const .ensures)
 
 sub-block-set-add-const : tie.Need-sub-block-set-add-const
 sub-block-set-add-const c = need (ins (c .before .before .before .before)) less tt
@@ -39,51 +30,37 @@ block-set-add-const-requires c κs =
     let s = c .before .before .before .before in
     (s .pre .0, (s .pre .1 .0, rw (value (ins s) less tt) (omega (arith, within (ins s) less tt))))
 
-same-length-2 : tie.Need-same-length-2
-same-length-2 c = search needs
-
 returns-2 : tie.Need-returns-2
 unfolding writeBlock
 returns-2 c =
-    let s = c .before .before .before .before .before .before .before in
-    simp (c .before .before .before .before .if2 .left, c .before .before .before .before .before .if1 .taken)
+    let f = c .before .before .before .before in
+    let s = f .before .before .before in
+    simp (f .if2 .left, f .before .if1 .taken)
     (c .before .before .block-set-add-const .ensures ∙ ap (addConst (now (s .args .d)) (s .args .di) (s .args .dw)) (value (ins s) less tt))
-
-block-set-overwrite-requires : tie.Need-block-set-overwrite-requires
-block-set-overwrite-requires c κs = search needs
-
-same-length-3 : tie.Need-same-length-3
-same-length-3 c = search needs
 
 returns-3 : tie.Need-returns-3
 unfolding writeBlock
-returns-3 c = simp (c .before .before .before .before .if3 .taken, c .before .before .before .before .before .if1 .left) (c .before .before .block-set-overwrite .ensures)
-
-block-set-add-requires : tie.Need-block-set-add-requires
-block-set-add-requires c κs = search needs
-
-same-length-4 : tie.Need-same-length-4
-same-length-4 c = search needs
+returns-3 c = let f = c .before .before .before .before in simp (f .if3 .taken, f .before .if1 .left) (c .before .before .block-set-overwrite .ensures)
 
 returns-4 : tie.Need-returns-4
 unfolding writeBlock
-returns-4 c = simp (c .before .before .before .before .if3 .left, c .before .before .before .before .before .if1 .left) (c .before .before .block-set-add .ensures)
+returns-4 c = let f = c .before .before .before .before in simp (f .if3 .left, f .before .if1 .left) (c .before .before .block-set-add .ensures)
 
 pub write-block-spec : {M : Type 1} → statement M
 write-block-spec =
     tie.close
     (tie.spec
-    block-set-const-requires
-    same-length
+    (λ c κs. search needs)
+    (λ c. search needs)
     returns
-    cast-block-set-add-const
+    (λ c. search needs)
     sub-block-set-add-const
     block-set-add-const-requires
-    same-length-2
+    (λ c. search needs)
     returns-2
-    block-set-overwrite-requires
-    same-length-3
+    (λ c κs. search needs)
+    (λ c. search needs)
     returns-3
-    block-set-add-requires
-    same-length-4
+    (λ c κs. search needs)
+    (λ c. search needs)
     returns-4)
