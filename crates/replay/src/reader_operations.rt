@@ -1,6 +1,8 @@
 // The operations of the reader, as the list reader.bin names them, and ours for each.
 use bits::bytes::Part;
 use bits::position::BytePosition;
+use bits::reader::Peeked;
+use bits::reader::ReadBits;
 use bits::reader::Reader;
 use bits::start_codes::StartCode;
 use lists::numbers::held;
@@ -97,14 +99,21 @@ fn coded(found: StartCode) -> Outcome
     given(found.reader, held(found.code))
 }
 
-// A yes or a no.
-fn flagged(reader: Reader, b: bool) -> Outcome
-    ensures { λ r. ⌜ r ≡ gives (flag b) (reader .at .0) ⌝ }
+// The bits of a read.
+fn valued(read: ReadBits) -> Outcome
+    ensures { λ r. ⌜ r ≡ gives (read .value) (read .reader .at .0) ⌝ }
 {
-    if b {
-        return given(reader, 1);
+    given(read.reader, read.value)
+}
+
+// A yes or a no.
+fn flagged(ahead: Peeked) -> Outcome
+    ensures { λ r. ⌜ r ≡ gives (flag (ahead .value)) (ahead .reader .at .0) ⌝ }
+{
+    if ahead.value {
+        return given(ahead.reader, 1);
     }
-    given(reader, 0)
+    given(ahead.reader, 0)
 }
 
 // One more than the bytes that a peek gives; 0 where they are absent.
@@ -130,22 +139,10 @@ pub fn operate(s: &[u8], reader: Reader, op: Operation, argument: u32) -> Outcom
     let count = argument as usize;
     match op {
         Operation::New => given(Reader::new(), 0),
-        Operation::Read => {
-            let r = reader.read(s, count);
-            given(r.reader, r.value)
-        }
-        Operation::ReadBit => {
-            let r = reader.read_bit(s);
-            given(r.reader, r.value)
-        }
-        Operation::Has => {
-            let r = reader.has(s, count);
-            flagged(r.reader, r.value)
-        }
-        Operation::HasEnded => {
-            let r = reader.has_ended(s);
-            flagged(r.reader, r.value)
-        }
+        Operation::Read => valued(reader.read(s, count)),
+        Operation::ReadBit => valued(reader.read_bit(s)),
+        Operation::Has => flagged(reader.has(s, count)),
+        Operation::HasEnded => flagged(reader.has_ended(s)),
         Operation::Skip => given(reader.skip(s, count), 0),
         Operation::Align => given(reader.align(), 0),
         Operation::Tell => {
@@ -168,10 +165,7 @@ pub fn operate(s: &[u8], reader: Reader, op: Operation, argument: u32) -> Outcom
         Operation::NextStartCode => coded(reader.next_start_code(s)),
         Operation::FindStartCode => coded(reader.find_start_code(s, signed(argument))),
         Operation::HasStartCode => coded(reader.has_start_code(s, signed(argument))),
-        Operation::PeekNonZero => {
-            let r = reader.peek_non_zero(s, count);
-            flagged(r.reader, r.value)
-        }
+        Operation::PeekNonZero => flagged(reader.peek_non_zero(s, count)),
         Operation::PeekBytes => peeked(s, reader, count),
         Operation::Unknown => refused(reader),
     }

@@ -1,6 +1,6 @@
 -- Each operation by reflection, each return by the case of the correction that its tests say.
-use mathlib.Core.Path.{_≡_}
-use mathlib.Core.Bool.{cond}
+use mathlib.Core.Path.{_≡_, refl, sym, _∙_}
+use mathlib.Core.Bool.{Bool, cond}
 use mathlib.Core.List.{List, [], _∷_}
 use Prim.Native.Nat.{ℕ, _*_, _^_, _%_, _≤_}
 use native.Mathlib.Omega.{arith}
@@ -43,21 +43,24 @@ module _ (s : tie.Start) where
       ∷ local w32 (1 * f % 4294967296 * 32 % 4294967296) (pos (32 * f)) 2048 (record { is = omega (arith, scaled); bound = omega (arith, scaled) })
       ∷ []
 
-  -- the correction, by the locals that the tests read and the values that they choose among
-  by-tests : corrected f (s .args .motion)
-      ≡ cond (ltZ (term ρ top) (term ρ motion)) (term ρ less) (cond (ltZ (term ρ motion) (term ρ bottom)) (term ρ more) (term ρ motion))
+  -- the correction, by what the two tests of the locals give
+  chosen : {t u : Bool} → ltZ (term ρ top) (term ρ motion) ≡ t → ltZ (term ρ motion) (term ρ bottom) ≡ u
+      → cond t (term ρ less) (cond u (term ρ more) (term ρ motion)) ≡ corrected f (s .args .motion)
   unfolding corrected
-  by-tests = rw (test ρ top motion tt tt, test ρ motion bottom tt tt, value ρ less tt, value ρ more tt, value ρ motion tt)
+  chosen e g =
+      let over = sym (test ρ top motion tt tt) ∙ e in
+      let under = sym (test ρ motion bottom tt tt) ∙ g in
+      rw (over, under, value ρ less tt, value ρ more tt, value ρ motion tt)
 
 -- the results first, the one without a correction before the others: a wrong test or correction is refused at the result that it makes wrong
 returns-3 : tie.Need-returns-3
-returns-3 c = rw (by-tests (c .before .before), c .before .if1 .left, c .if2 .left)
+returns-3 c = chosen (c .before .before) (c .before .if1 .left) (c .if2 .left)
 
 returns : tie.Need-returns
-returns c = rw (by-tests (c .before), c .if1 .taken)
+returns c = chosen (c .before) (c .if1 .taken) refl
 
 returns-2 : tie.Need-returns-2
-returns-2 c = rw (by-tests (c .before .before), c .before .if1 .left, c .if2 .taken)
+returns-2 c = chosen (c .before .before) (c .before .if1 .left) (c .if2 .taken)
 
 cast-fscale : tie.Need-cast-fscale
 cast-fscale c = search needs

@@ -31,11 +31,11 @@ returns-3 c = ends (c .given .ensures) (rw (c .before .before .enum-told .given 
 
 returns-4 : tie.Need-returns-4
 unfolding outcome
-returns-4 c = ends (c .given2 .ensures) (rw (c .before .before .enum-told2 .given .1, c .before .read .ensures .0 .is)) (omega arith)
+returns-4 c = ends (c .valued .ensures) (rw (c .before .before .enum-told2 .given .1, c .before .read .ensures .0 .is)) (omega arith)
 
 returns-5 : tie.Need-returns-5
 unfolding outcome
-returns-5 c = ends (c .given3 .ensures) (rw (c .before .before .enum-told3 .given .1, c .before .read-bit .ensures .0 .is)) (omega arith)
+returns-5 c = ends (c .valued2 .ensures) (rw (c .before .before .enum-told3 .given .1, c .before .read-bit .ensures .0 .is)) (omega arith)
 
 returns-6 : tie.Need-returns-6
 unfolding outcome
@@ -47,27 +47,27 @@ returns-7 c = ends (c .flagged2 .ensures) (rw (c .before .before .enum-told5 .gi
 
 returns-8 : tie.Need-returns-8
 unfolding outcome
-returns-8 c = ends (c .given4 .ensures) (rw (c .before .before .enum-told6 .given .1, c .before .skip .ensures .0 .is)) (omega arith)
+returns-8 c = ends (c .given2 .ensures) (rw (c .before .before .enum-told6 .given .1, c .before .skip .ensures .0 .is)) (omega arith)
 
 returns-9 : tie.Need-returns-9
 unfolding outcome
-returns-9 c = ends (c .given5 .ensures) (rw (c .before .before .enum-told7 .given .1, c .before .align .ensures .0)) (omega arith)
+returns-9 c = ends (c .given3 .ensures) (rw (c .before .before .enum-told7 .given .1, c .before .align .ensures .0)) (omega arith)
 
 returns-10 : tie.Need-returns-10
 unfolding outcome
-returns-10 c = ends (c .given6 .ensures) (rw (c .before .before .before .enum-told8 .given .1, c .before .before .tell .ensures .0, c .before .before .tell .ensures .1)) (omega arith)
+returns-10 c = ends (c .given4 .ensures) (rw (c .before .before .before .enum-told8 .given .1, c .before .before .tell .ensures .0, c .before .before .tell .ensures .1)) (omega arith)
 
 returns-11 : tie.Need-returns-11
 unfolding outcome
 returns-11 c =
     let x = c .before .before .before in
-    ends (c .given7 .ensures) (rw (x .enum-told9 .given .1, le-ltb _ _ (c .before .before .if1 .left), c .before .seek .ensures .0)) (omega arith)
+    ends (c .given5 .ensures) (rw (x .enum-told9 .given .1, le-ltb _ _ (c .before .before .if1 .left), c .before .seek .ensures .0)) (omega arith)
 
 returns-12 : tie.Need-returns-12
 unfolding outcome
 returns-12 c =
     let r = c .before .before in
-    ends (c .given8 .ensures) (rw (r .before .before .enum-told10 .given .1, le-ltb _ _ (r .before .if2 .left), r .skip-bytes .ensures .1 .0, r .skip-bytes .ensures .0)) (omega arith)
+    ends (c .given6 .ensures) (rw (r .before .before .enum-told10 .given .1, le-ltb _ _ (r .before .if2 .left), r .skip-bytes .ensures .1 .0, r .skip-bytes .ensures .0)) (omega arith)
 
 returns-13 : tie.Need-returns-13
 unfolding outcome
