@@ -6,6 +6,7 @@ mod codes;
 mod idct;
 mod prediction;
 mod reader;
+mod vectors;
 
 #[allow(dead_code)]
 #[path = "../../docs/src/crates/native32emu-core/src/mpeg/buffer.rs"]
@@ -66,6 +67,7 @@ fn compare<T>(name: &str, calls: usize, ours: impl Fn() -> u32, prepare: impl Fn
 fn main() {
     reader::run();
     codes::run();
+    vectors::run();
     blocks::run();
     idct::run();
     prediction::run();

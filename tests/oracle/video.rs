@@ -29,6 +29,25 @@ pub fn decode_motion_vector(buffer: &mut Buffer, r_size: i32, motion: i32) -> i3
     motion
 }
 
+// The vector steps of a stream, one after the other.
+pub struct VectorReader(Video);
+
+impl VectorReader {
+    pub fn new(stream: &[u8]) -> Self {
+        let mut video = Video::new(Vec::new());
+        video.buffer = Buffer::new(stream.to_vec());
+        VectorReader(video)
+    }
+
+    pub fn has_more(&self) -> bool {
+        self.0.buffer.has(1)
+    }
+
+    pub fn step(&mut self, r_size: i32, motion: i32) -> i32 {
+        self.0.decode_motion_vector(r_size, motion)
+    }
+}
+
 impl Table {
     pub fn index(&self, at: usize) -> i16 {
         match self {

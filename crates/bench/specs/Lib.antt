@@ -3,3 +3,4 @@ pub mod Codes
 pub mod Loops
 pub mod Planes
 pub mod Transform
+pub mod Vectors

@@ -6,4 +6,5 @@ mod idct;
 mod predictions;
 mod reader;
 mod room;
+mod vectors;
 mod writers;
