@@ -18,6 +18,7 @@ use mir.Val.{ofZ, toZ}
 use Rattle.laws.proofs.Ints.{v, abs-of, fits-by}
 use Rattle.bits.specs.Programs.{Prog}
 use Rattle.bits.specs.Runs.{Runs}
+use Rattle.codes.specs.Matrices.{bounded}
 use Rattle.coefficients.specs.declared.block.BlockEnd.{BlockEnd}
 use Rattle.coefficients.specs.declared.block.BlockEnd.the-variants.{Whole, Dropped, Outside}
 use Rattle.coefficients.specs.Blocks.{Filled, Read, quantiser, block, leftOver}
@@ -32,7 +33,6 @@ use Rattle.prediction.specs.declared.place.Macroblock.{Macroblock}
 use Rattle.prediction.specs.Planes.{macroblocks}
 use Rattle.prediction.specs.Predict.{Inside}
 use Rattle.block_lists.specs.BlockList.{possible, placeOf, widthOf, matrixAt, written, endsAs, blockAgrees}
-use Rattle.block_lists.specs.Bounded.{bounded}
 use Rattle.block_lists.specs.MacroblockList.{macroblockAt}
 use Rattle.block_lists.specs.Planes.{noisy, laidOver}
 

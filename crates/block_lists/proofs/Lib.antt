@@ -1,5 +1,4 @@
 pub mod BlockCases
-pub mod InBounds
 pub mod Levels
 pub mod Macroblocks
 pub mod Noise

@@ -9,6 +9,7 @@ use lib.Signed.{leZ}
 use mir.Syntax.{w32}
 use mir.Val.{ofZ, toZ}
 use Rattle.bits.specs.Programs.{Prog, run}
+use Rattle.codes.specs.Matrices.{bounded}
 use Rattle.coefficients.specs.Blocks.{Read, quantiser, block, leftOver}
 use Rattle.coefficients.specs.declared.block.BlockEnd.the-variants.{Whole, Dropped, Outside}
 use Rattle.lists.specs.Blocks.{blockOf, holdsBlock}
@@ -17,7 +18,6 @@ use Rattle.lists.specs.Numbers.{numberAt}
 use Rattle.picture.specs.Blocks.{results}
 use Rattle.prediction.specs.declared.place.Macroblock.{Macroblock}
 use Rattle.prediction.specs.Writers.{lumaPlace, chromaPlace}
-use Rattle.block_lists.specs.Bounded.{bounded}
 use Rattle.block_lists.specs.MacroblockList.{macroblockAt}
 use Rattle.block_lists.specs.Planes.{noisy, laidOver}
 

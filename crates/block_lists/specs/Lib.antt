@@ -1,5 +1,4 @@
 pub mod BlockList
-pub mod Bounded
 pub mod DequantisedList
 pub mod MacroblockList
 pub mod Planes

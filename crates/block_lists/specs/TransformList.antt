@@ -2,10 +2,10 @@
 use Prim.Native.Nat.{ℕ}
 use mathlib.Core.Bool.{Bool, _&&_}
 use mathlib.Core.List.{List}
+use Rattle.codes.specs.Matrices.{bounded}
 use Rattle.transform.specs.Idct.{idct}
 use Rattle.lists.specs.Blocks.{blockOf, holdsBlock}
 use Rattle.lists.specs.Bytes.{part}
-use Rattle.block_lists.specs.Bounded.{bounded}
 
 -- a case c: coefficients within their bounds, and the results
 unfoldable pub transformAgrees : List ℕ → Bool

@@ -3,12 +3,12 @@
 // place in the stream in bits where the block begins; then the matrix, 64 bytes; the 64 coefficients that are left over; the stream, 64 bytes. Then
 // the Rust's place after the block, the plane's predictor, the 64 coefficients that are left over, and the 64 bytes of the block in its plane. All
 // other bytes of the plane stay.
-use crate::bounded::bounded;
 use crate::macroblock_list::macroblock_at;
 use crate::planes::lay_over;
 use crate::planes::plane;
 use bits::position::BitPosition;
 use bits::reader::Reader;
+use codes::matrices::bounded;
 use codes::matrices::premultiplier_matrix;
 use codes::matrices::zig_zag;
 use codes::tables::DCT_COEFF_INDEX;

@@ -1,6 +1,5 @@
 // Cases of the lists on coefficients, blocks and planes: whether ours gives there what the Rust gave.
 pub mod block_list;
-pub mod bounded;
 pub mod dequantised_list;
 pub mod macroblock_list;
 pub mod planes;

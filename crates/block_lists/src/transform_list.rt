@@ -1,5 +1,5 @@
 // The list transforms.bin: blocks through the inverse transform. A case is 128 numbers: 64 coefficients, and the Rust's 64 results.
-use crate::bounded::bounded;
+use codes::matrices::bounded;
 use lists::block::block_of;
 use lists::block::holds_block;
 use lists::bytes::part;

@@ -1,5 +1,6 @@
 pub mod Agreement
 pub mod Begins
+pub mod Bounds
 pub mod Entries
 pub mod Figures
 pub mod Follow

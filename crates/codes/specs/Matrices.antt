@@ -1,10 +1,11 @@
 -- The order of coefficients and the matrices, each as 64 numbers, row by row.
 use Prim.Native.Nat.{ℕ, zero, suc, min, _+_, _-_, _*_, _%_, _≤_, _<_}
-use mathlib.Core.Bool.{cond}
+use mathlib.Core.Bool.{Bool, cond}
 use mathlib.Core.List.{List, [], _∷_, _++_, reverse}
-use lib.Dec.{eqb}
+use lib.Dec.{eqb, leb}
 use lib.IntN.{ℤ, pos, natAbs}
 use lib.ListN.{getD, replicate}
+use Rattle.laws.specs.Each.{allBelow}
 
 -- n places of the diagonal d, on which row + column = d, from the row r down
 unfoldable pub downFrom : ℕ → ℕ → ℕ → List ℕ
@@ -54,3 +55,7 @@ premultiplierMatrix =
 -- RULES 4.4: coefficients as dequantisation gives them: each at most 2048 × the premultiplier at its place, in size
 pub record Bounded (coefficients : List ℤ) : Type 0 where
   pub each : (k : ℕ) → k < 64 → natAbs (getD coefficients k (pos 0)) ≤ 2048 * natAbs (getD premultiplierMatrix k (pos 0))
+
+-- RULES 4.4, Q2: Bounded as a test
+unfoldable pub bounded : List ℤ → Bool
+bounded c = allBelow 64 (λ k. leb (natAbs (getD c k (pos 0))) (2048 * natAbs (getD premultiplierMatrix k (pos 0))))

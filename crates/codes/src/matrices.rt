@@ -1,6 +1,10 @@
 // RULES 2.7: the order of coefficients and the matrices.
 ghost use mathlib.Core.Path.{_≡_};
-ghost use Rattle.codes.specs.Matrices.{zigZag, intraQuantMatrix, nonIntraQuantMatrix, premultiplierMatrix};
+ghost use Prim.Native.Nat.{_*_, _≤_};
+ghost use lib.Dec.{T, leb};
+ghost use lib.IntN.{natAbs};
+ghost use lib.Signed.{nonNeg};
+ghost use Rattle.codes.specs.Matrices.{zigZag, intraQuantMatrix, nonIntraQuantMatrix, premultiplierMatrix, bounded};
 
 pub const ZIG_ZAG: [usize; 64] = [
     0,
@@ -227,4 +231,29 @@ pub fn premultiplier_matrix() -> [i32; 64]
     ensures { λ r. ⌜ r ≡ premultiplierMatrix ⌝ }
 {
     PREMULTIPLIER_MATRIX
+}
+
+// Whether z is at most 2048 × the premultiplier, in size.
+fn within(premultiplier: i32, z: i32) -> bool
+    requires { ⌜ T (nonNeg premultiplier) × (natAbs premultiplier ≤ 62) ⌝ }
+    ensures { λ r. ⌜ r ≡ leb (natAbs z) (2048 * natAbs premultiplier) ⌝ }
+{
+    let most = 2048 * premultiplier;
+    (-most <= z) & (z <= most)
+}
+
+// Whether the transform can take the coefficients (RULES 4.4).
+pub fn bounded(block: &[i32; 64]) -> bool
+    ensures { λ r. ⌜ r ≡ bounded (now (block .entry)) ⌝ }
+{
+    let premultipliers = premultiplier_matrix();
+    let mut i: usize = 0;
+    while i < 64 {
+        let inside = within(premultipliers[i], block[i]);
+        if !inside {
+            return false;
+        }
+        i += 1;
+    }
+    true
 }

@@ -6,7 +6,7 @@ use Prim.Native.Nat.{ℕ}
 use lib.ListN.{replicate}
 use Rattle.laws.specs.Signed.{clamp255}
 use Rattle.laws.specs.Stores.{storeRow}
-use Rattle.codes.specs.Matrices.{premultiplierMatrix}
+use Rattle.codes.specs.Matrices.{premultiplierMatrix, bounded}
 use Rattle.argb.specs.Pixel.{luma, red, green, blue, argb}
 use Rattle.argb.specs.Scaled.{samplePixel, outputPixel, pixelAt, scaled}
 use Rattle.laws.specs.Each.{allBelow}
@@ -25,5 +25,5 @@ abbrev pub stores : List ℕ
 stores = replicate 384 0 ++ (replicate 256 235 ++ (replicate 128 128 ++ replicate 384 0))
 
 pub writes : converted one stores 1 (7 ∷ 7 ∷ []) 1 1 ≡ area Written (0xfffefefe ∷ 7 ∷ [])
-unfolding clamp255 storeRow premultiplierMatrix luma red green blue argb samplePixel outputPixel pixelAt scaled allBelow fresh possible converted
+unfolding clamp255 storeRow premultiplierMatrix bounded luma red green blue argb samplePixel outputPixel pixelAt scaled allBelow fresh possible converted
 writes = refl

@@ -8,7 +8,7 @@ use lib.ListN.{replicate}
 use Rattle.laws.specs.Turns.{turns}
 use Rattle.bits.specs.Bits.{bitAt, bitsAt, got, next, codePrefix, codeFrom, found}
 use Rattle.bits.specs.Programs.{run, bind, loop, findTurn, findStartCode}
-use Rattle.codes.specs.Matrices.{intraQuantMatrix, nonIntraQuantMatrix, premultiplierMatrix}
+use Rattle.codes.specs.Matrices.{intraQuantMatrix, nonIntraQuantMatrix, premultiplierMatrix, bounded}
 use Rattle.picture.specs.Ways.{leave, onward}
 use Rattle.picture.specs.Pictures as P
 use Rattle.decoder.specs.Record.{Left, fresh, cleared}
@@ -56,5 +56,5 @@ pub record Listed : Type 0 where
   pub lines : listing example ≡ line 1 0 1 0 ∷ line 1 0 0 7 ∷ []
 
 pub listed : Listed
-unfolding bitAt bitsAt got next codePrefix codeFrom found run bind loop findTurn findStartCode fresh matrix size rest findSequence accepted askSize askHeader askStore opened opening cleared turns intraQuantMatrix nonIntraQuantMatrix premultiplierMatrix leave onward P.pictureHeader P.coded P.slicesTurn P.slices P.picture allBelow possible nextPicture isFollowed timeOf counted handed shown pastPicture decoded searched pictureTurn pictures ended askFirst begun goOn handOut ofInt linesFrom linesOf listing
+unfolding bitAt bitsAt got next codePrefix codeFrom found run bind loop findTurn findStartCode fresh matrix size rest findSequence accepted askSize askHeader askStore opened opening cleared turns intraQuantMatrix nonIntraQuantMatrix premultiplierMatrix bounded leave onward P.pictureHeader P.coded P.slicesTurn P.slices P.picture allBelow possible nextPicture isFollowed timeOf counted handed shown pastPicture decoded searched pictureTurn pictures ended askFirst begun goOn handOut ofInt linesFrom linesOf listing
 listed = record { opens = refl; clears = refl; hands = refl; ends = refl; lines = refl }

@@ -13,7 +13,7 @@ use Rattle.bits.specs.Programs.{Out, run, bind, eqZ, findStartCode}
 use Rattle.bits.proofs.Bits.{bits-lt}
 use Rattle.bits.proofs.Programs.{run-most}
 use Rattle.laws.proofs.Tests.{by-case}
-use Rattle.codes.specs.Matrices.{premultiplierMatrix}
+use Rattle.codes.specs.Matrices.{premultiplierMatrix, bounded}
 use Rattle.picture.specs.State.{startCodeAs, storesAs}
 use Rattle.picture.specs.Possible.{possiblePicture}
 use Rattle.laws.specs.Each.{allBelow}
@@ -40,7 +40,7 @@ size-small s a = (twelve s a, twelve s (next s a 12))
 
 -- the picture's state of the fresh record, with the start code of the header
 picture-first : possiblePicture (storesAs firstStores (startCodeAs (pos 0xb3) freshPicture)) ≡ true
-unfolding allBelow premultiplierMatrix
+unfolding allBelow premultiplierMatrix bounded
 picture-first = refl
 
 or-split : (a b : Bool) → (a || b) ≡ false → (a ≡ false) × (b ≡ false)

@@ -1,7 +1,7 @@
 -- For RULES R: what the turns of a hand-out keep.
 use mathlib.Core.Path.{_≡_, refl, sym, ap, ap₂, subst, _∙_}
-use mathlib.Core.Bool.{Bool, true, false, cond, not, and-eq-true-iff, _&&_, _||_, true≢false, false≢true}
-use mathlib.Core.List.{List}
+use mathlib.Core.Bool.{Bool, true, false, cond, not, _&&_, _||_, true≢false, false≢true}
+use mathlib.Core.List.{List, [], _∷_}
 use mathlib.Core.Logic.{_⊎_}
 use Prim.Native.Nat.{ℕ, _+_, _*_, _≤_, _<_}
 use native.Mathlib.Omega.{arith}
@@ -14,7 +14,7 @@ use Rattle.laws.specs.Turns.{Turn, again, stop, turns}
 use Rattle.bits.specs.Programs.{Out, run, eqZ, findStartCode}
 use Rattle.bits.proofs.Start.{isCode}
 use Rattle.bits.proofs.Programs.{run-on, run-most}
-use Rattle.laws.proofs.Tests.{by-case}
+use Rattle.laws.proofs.Tests.{by-case, both, each}
 use Rattle.picture.specs.Ways.{Way, on, out}
 use Rattle.picture.specs.declared.state.Sizes.{Sizes}
 use Rattle.picture.specs.declared.state.Picture.{Picture}
@@ -133,15 +133,13 @@ sized : (q : Sequence) → q .«has_sequence_header» ≡ true → possibleSeque
 sized q h p =
     let least = leb 1 (q .width) && leb 1 (q .height) in
     let same = sameSizes (q .sizes) (sizesOf (q .width) (q .height)) in
-    let x = and-eq-true-iff (leb (q .width) 4095 && leb (q .height) 4095) (least && same) .0 (rw h at p) in
-    let y = and-eq-true-iff _ _ .0 (x .0) in
-    let u = and-eq-true-iff _ _ .0 (and-eq-true-iff least same .0 (x .1) .1) in
-    let w = and-eq-true-iff _ _ .0 (u .0) in
-    let width : q .width ≤ 4095 = leb-true _ _ (y .0) in
-    let height : q .height ≤ 4095 = leb-true _ _ (y .1) in
-    let wide : q .sizes .«mb_width» ≡ across (q .width) = eqb-true _ _ (w .0) in
-    let high : q .sizes .«mb_height» ≡ across (q .height) = eqb-true _ _ (w .1) in
-    record { wide = omega arith; high = omega arith; area = eqb-true _ _ (u .1) ∙ sym (ap₂ _*_ wide high) }
+    let x = each (leb (q .width) 4095) (leb (q .height) 4095 ∷ (least && same) ∷ []) (rw h at p) in
+    let w = each _ (_ ∷ _ ∷ []) (both least same (x 2) .1) in
+    let width : q .width ≤ 4095 = leb-true _ _ (x 0) in
+    let height : q .height ≤ 4095 = leb-true _ _ (x 1) in
+    let wide : q .sizes .«mb_width» ≡ across (q .width) = eqb-true _ _ (w 0) in
+    let high : q .sizes .«mb_height» ≡ across (q .height) = eqb-true _ _ (w 1) in
+    record { wide = omega arith; high = omega arith; area = eqb-true _ _ (w 2) ∙ sym (ap₂ _*_ wide high) }
 
 -- ---- a picture
 

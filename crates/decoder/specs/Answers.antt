@@ -22,6 +22,6 @@ openingSays x = elim x [ O.Ready ↦ success | O.Refused n ↦ number n ]
 abbrev pub outcomeSays : Outcome → Said
 outcomeSays x = elim x [ H.Picture store time ↦ picture store time | H.Refused n ↦ number n ]
 
--- RULES Q: of the conversion
+-- RULES Q: of the conversion (C.3 asks for it of each answer that is an enum)
 abbrev pub convertedSays : Converted → Said
 convertedSays x = elim x [ C.Written ↦ success | C.Refused n ↦ number n ]

@@ -2,7 +2,7 @@
 -- on ℤ into one on ℕ, which `omega` proves, and a fact on ℤ into one on ℕ, which `omega` reads. `omega` multiplies products out, so an identity of
 -- sums and products is `eq-by` of the differences of its two sides.
 use mathlib.Core.Path.{_≡_, refl, sym, ap, _∙_, subst}
-use mathlib.Core.Bool.{Bool, true, false, cond}
+use mathlib.Core.Bool.{Bool, true, false, cond, _&&_, and-true}
 use Prim.Native.Nat.{ℕ, zero, suc, _+_, _*_, _-_, _%_, _^_, _≤_, _<_, pred, min}
 use native.Mathlib.Nat as NatL
 use native.Mathlib.Omega.{arith}
@@ -203,6 +203,11 @@ abs-by {z} b x h k = omega (arith, x .dif, natAbs-is z, one-side z)
 
 pub abs-of : {z : ℤ} {p n : ℕ} {b : ℕ} → Dif z p n → natAbs z ≤ b → (p ≤ n + b) × (n ≤ p + b)
 abs-of {z} x h = (omega (arith, x .dif, natAbs-is z), omega (arith, x .dif, natAbs-is z))
+
+-- the two tests of the code that a size is at most b
+pub abs-test : (b : ℕ) (z : ℤ) → (leZ (negℤ (pos b)) z && leZ z (pos b)) ≡ leb (natAbs z) b
+abs-test b (pos a) = rw (yes-le (neg (lit b)) (lit a) (omega arith))
+abs-test b (negsuc a) = and-true _ ∙ le-test (neg (lit b)) (v (negsuc a)) ∙ same-leb (0 + suc a) (0 + b) (suc a) b (omega arith)
 
 -- ---- the width: z fits w bits, is cast to an unsigned number of w bits, is read back from its bits
 

@@ -1,11 +1,12 @@
 -- A rule of a table, proved at each of its entries by one test that is computed over the whole table.
-use mathlib.Core.Path.{_∙_, sym, subst}
-use mathlib.Core.Bool.{Bool, true, _&&_}
+use mathlib.Core.Path.{_≡_, refl, _∙_, sym, subst}
+use mathlib.Core.Bool.{Bool, true, false, _&&_}
 use mathlib.Core.List.{List, [], _∷_}
 use Prim.Native.Nat.{ℕ, zero, suc, _+_, _<_}
 use native.Mathlib.Nat.{add-zero, zero-add, add-suc, suc-add, le-of-suc-le-suc, not-suc-le-zero}
-use lib.Dec.{T}
-use lib.ListN.{length, getD}
+use borrow.Author.Tests.{ltb-true, ltb-false}
+use lib.Dec.{T, ltb}
+use lib.ListN.{length, getD, List·getD-eq-default}
 use mir.Facts.{and-yes}
 
 module _ {A : Type 0} (f : ℕ → A → Bool) where
@@ -23,3 +24,11 @@ module _ {A : Type 0} (f : ℕ → A → Bool) where
 
   pub at : (xs : List A) (d : A) → T (every 0 xs) → (k : ℕ) → k < length xs → T (f k (getD xs k d))
   at xs d t k h = subst (λ (m : ℕ). T (f m (getD xs k d))) (zero-add k) (from xs d 0 t k h)
+
+-- what each entry keeps, and the default too, is so at any place
+pub anywhere : {A : Type 0} (P : A → Bool) (xs : List A) (d : A) → T (every (λ k x. P x) 0 xs) → T (P d) → (k : ℕ) → T (P (getD xs k d))
+anywhere {A} P xs d all none k = go (ltb k (length xs)) refl
+  where
+    go : (b : Bool) → ltb k (length xs) ≡ b → T (P (getD xs k d))
+    go true e = at (λ k x. P x) xs d all k (ltb-true _ _ e)
+    go false e = subst (λ (x : A). T (P x)) (sym (List·getD-eq-default xs d (ltb-false _ _ e))) none

@@ -1,38 +1,36 @@
 -- What a possible state of a picture keeps to: the tests of specs/Possible.antt as facts, both ways. Assumes nothing.
 use mathlib.Core.Path.{_≡_}
-use mathlib.Core.Bool.{true, not, and-eq-true-iff}
-use mathlib.Core.List.{List}
+use mathlib.Core.Bool.{true}
+use mathlib.Core.List.{[], _∷_}
 use Prim.Native.Nat.{ℕ, _+_, _≤_, _<_}
 use native.Mathlib.Omega.{arith}
 use borrow.Author.Tests.{leb-true, eqb-false, le-leb, ne-eqb, not-true}
-use lib.Dec.{eqb}
 use lib.IntN.{ℤ, pos, negℤ}
 use lib.ListN.{getD}
 use lib.Signed.{leZ}
 use Rattle.laws.proofs.Each.{all-at, all-by}
+use Rattle.laws.proofs.Tests.{both, each}
 use Rattle.laws.proofs.Ints.{Dif, v, lit, neg, le-yes, yes-le, le-by, lt-by, le-of, lt-of}
-use Rattle.bits.proofs.Rules.{and-yes}
 use Rattle.codes.specs.Matrices.{Bounded}
+use Rattle.codes.proofs.Bounds.{bounded-of, bounded-by}
 use Rattle.motion.specs.Displacement.{InRange}
 use Rattle.coefficients.specs.Dcs.{dcInside}
 use Rattle.picture.specs.declared.state.Motion.{Motion}
 use Rattle.picture.specs.declared.state.Stores.{Stores}
 use Rattle.picture.specs.declared.state.Slice.{Slice}
 use Rattle.picture.specs.declared.state.Picture.{Picture}
-use Rattle.picture.specs.Possible.{between, possibleStores, possibleMotion, possibleBlock, possibleSlice, possiblePicture}
-
--- ---- tests of the numbers below n
+use Rattle.picture.specs.Possible.{between, possibleStores, possibleMotion, possibleSlice, possiblePicture}
 
 -- ---- ranges
 
 module _ {z : ℤ} {p n : ℕ} (low high : ℕ) (d : Dif z p n) where
   pub between-of : between (negℤ (pos low)) (pos high) z ≡ true → (n ≤ p + low) × (p ≤ n + high)
   between-of e =
-      let b = and-eq-true-iff (leZ (negℤ (pos low)) z) (leZ z (pos high)) .0 e in
+      let b = both (leZ (negℤ (pos low)) z) (leZ z (pos high)) e in
       (omega (arith, le-yes (neg (lit low)) d (b .0)), omega (arith, le-yes d (lit high) (b .1)))
 
   pub between-by : n ≤ p + low → p ≤ n + high → between (negℤ (pos low)) (pos high) z ≡ true
-  between-by h k = and-yes _ _ (yes-le (neg (lit low)) d (omega arith)) (yes-le d (lit high) (omega arith))
+  between-by h k = rw (yes-le (neg (lit low)) d (omega arith), yes-le d (lit high) (omega arith))
 
 range-of : (z : ℤ) → between (negℤ (pos 1024)) (pos 1023) z ≡ true → InRange 64 z
 range-of z e = let b = between-of 1024 1023 (v z) e in record { low = le-by (neg (lit 1024)) (v z) (omega arith); high = lt-by (v z) (lit 1024) (omega arith) }
@@ -51,27 +49,20 @@ pub record PossibleStores (t : Stores) : Type 0 where
   pub fwd-bwd : t .fwd ≡ t .bwd → ⊥
 
 pub stores-of : (t : Stores) → possibleStores t ≡ true → PossibleStores t
-stores-of t e₆ =
-    let h₅ = and-eq-true-iff _ _ .0 e₆ in
-    let h₄ = and-eq-true-iff _ _ .0 (h₅ .0) in
-    let h₃ = and-eq-true-iff _ _ .0 (h₄ .0) in
-    let h₂ = and-eq-true-iff _ _ .0 (h₃ .0) in
-    let h₁ = and-eq-true-iff _ _ .0 (h₂ .0) in
+stores-of t e =
+    let h = each _ (_ ∷ _ ∷ _ ∷ _ ∷ _ ∷ []) e in
     record {
-      cur = leb-true _ _ (h₁ .0);
-      fwd = leb-true _ _ (h₁ .1);
-      bwd = leb-true _ _ (h₂ .1);
-      cur-fwd = eqb-false _ _ (not-true _ (h₃ .1));
-      cur-bwd = eqb-false _ _ (not-true _ (h₄ .1));
-      fwd-bwd = eqb-false _ _ (not-true _ (h₅ .1));
+      cur = leb-true _ _ (h 0);
+      fwd = leb-true _ _ (h 1);
+      bwd = leb-true _ _ (h 2);
+      cur-fwd = eqb-false _ _ (not-true _ (h 3));
+      cur-bwd = eqb-false _ _ (not-true _ (h 4));
+      fwd-bwd = eqb-false _ _ (not-true _ (h 5));
     }
-
-apart : {a b : ℕ} → (a ≡ b → ⊥) → not (eqb a b) ≡ true
-apart {a} {b} g = rw (ne-eqb a b g)
 
 pub stores-by : {t : Stores} → PossibleStores t → possibleStores t ≡ true
 stores-by k =
-    and-yes _ _ (and-yes _ _ (and-yes _ _ (and-yes _ _ (and-yes _ _ (le-leb _ _ (k .cur)) (le-leb _ _ (k .fwd))) (le-leb _ _ (k .bwd))) (apart (k .cur-fwd))) (apart (k .cur-bwd))) (apart (k .fwd-bwd))
+    rw (le-leb _ _ (k .cur), le-leb _ _ (k .fwd), le-leb _ _ (k .bwd), ne-eqb _ _ (k .cur-fwd), ne-eqb _ _ (k .cur-bwd), ne-eqb _ _ (k .fwd-bwd))
 
 pub record PossibleMotion (m : Motion) : Type 0 where
   pub size : m .«r_size» ≤ 6
@@ -80,18 +71,11 @@ pub record PossibleMotion (m : Motion) : Type 0 where
 
 pub motion-of : (m : Motion) → possibleMotion m ≡ true → PossibleMotion m
 motion-of m e =
-    let x = and-eq-true-iff _ _ .0 e in
-    let y = and-eq-true-iff _ _ .0 (x .0) in
-    record { size = leb-true _ _ (y .0); h = range-of (m .h) (y .1); v = range-of (m .v) (x .1) }
+    let x = each _ (_ ∷ _ ∷ []) e in
+    record { size = leb-true _ _ (x 0); h = range-of (m .h) (x 1); v = range-of (m .v) (x 2) }
 
 pub motion-by : {m : Motion} → PossibleMotion m → possibleMotion m ≡ true
-motion-by k = and-yes _ _ (and-yes _ _ (le-leb _ _ (k .size)) (range-by (k .h))) (range-by (k .v))
-
-block-of : (c : List ℤ) → possibleBlock c ≡ true → Bounded c
-block-of c e = record { each = λ k l. leb-true _ _ (all-at _ 64 e k l) }
-
-block-by : {c : List ℤ} → Bounded c → possibleBlock c ≡ true
-block-by b = all-by _ 64 (λ k l. le-leb _ _ (b .each k l))
+motion-by k = rw (le-leb _ _ (k .size), range-by (k .h), range-by (k .v))
 
 pub record PossibleSlice (s : Slice) : Type 0 where
   pub scale : s .«quantizer_scale» ≤ 31
@@ -103,23 +87,19 @@ pub record PossibleSlice (s : Slice) : Type 0 where
 
 pub slice-of : (s : Slice) → possibleSlice s ≡ true → PossibleSlice s
 slice-of s e =
-    let h₅ = and-eq-true-iff _ _ .0 e in
-    let h₄ = and-eq-true-iff _ _ .0 (h₅ .0) in
-    let h₃ = and-eq-true-iff _ _ .0 (h₄ .0) in
-    let h₂ = and-eq-true-iff _ _ .0 (h₃ .0) in
-    let h₁ = and-eq-true-iff _ _ .0 (h₂ .0) in
+    let h = each _ (_ ∷ _ ∷ _ ∷ _ ∷ _ ∷ []) e in
     record {
-      scale = leb-true _ _ (h₁ .0);
-      address = h₁ .1;
-      forward = motion-of (s .«motion_forward») (h₂ .1);
-      backward = motion-of (s .«motion_backward») (h₃ .1);
-      predictors = all-at _ 3 (h₄ .1);
-      block = block-of (s .«block_data») (h₅ .1);
+      scale = leb-true _ _ (h 0);
+      address = h 1;
+      forward = motion-of (s .«motion_forward») (h 2);
+      backward = motion-of (s .«motion_backward») (h 3);
+      predictors = all-at _ 3 (h 4);
+      block = bounded-of (s .«block_data») (h 5);
     }
 
 pub slice-by : {s : Slice} → PossibleSlice s → possibleSlice s ≡ true
 slice-by k =
-    and-yes _ _ (and-yes _ _ (and-yes _ _ (and-yes _ _ (and-yes _ _ (le-leb _ _ (k .scale)) (k .address)) (motion-by (k .forward))) (motion-by (k .backward))) (all-by _ 3 (k .predictors))) (block-by (k .block))
+    rw (le-leb _ _ (k .scale), k .address, motion-by (k .forward), motion-by (k .backward), all-by _ 3 (k .predictors), bounded-by (k .block))
 
 pub record PossiblePicture (p : Picture) : Type 0 where
   pub type : p .«picture_type» ≤ 7
@@ -129,10 +109,8 @@ pub record PossiblePicture (p : Picture) : Type 0 where
 
 pub picture-of : (p : Picture) → possiblePicture p ≡ true → PossiblePicture p
 picture-of p e =
-    let h₃ = and-eq-true-iff _ _ .0 e in
-    let h₂ = and-eq-true-iff _ _ .0 (h₃ .0) in
-    let h₁ = and-eq-true-iff _ _ .0 (h₂ .0) in
-    record { type = leb-true _ _ (h₁ .0); code = h₁ .1; stores = stores-of (p .stores) (h₂ .1); slice = slice-of (p .slice) (h₃ .1) }
+    let h = each _ (_ ∷ _ ∷ _ ∷ []) e in
+    record { type = leb-true _ _ (h 0); code = h 1; stores = stores-of (p .stores) (h 2); slice = slice-of (p .slice) (h 3) }
 
 pub picture-by : {p : Picture} → PossiblePicture p → possiblePicture p ≡ true
-picture-by k = and-yes _ _ (and-yes _ _ (and-yes _ _ (le-leb _ _ (k .type)) (k .code)) (stores-by (k .stores))) (slice-by (k .slice))
+picture-by k = rw (le-leb _ _ (k .type), k .code, stores-by (k .stores), slice-by (k .slice))

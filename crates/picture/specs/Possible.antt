@@ -1,13 +1,11 @@
 -- RULES Q2: is a picture's state possible?
 use mathlib.Core.Bool.{Bool, not, _&&_}
-use mathlib.Core.List.{List}
-use Prim.Native.Nat.{_*_}
 use lib.Dec.{eqb, leb}
-use lib.IntN.{ℤ, pos, negℤ, natAbs}
+use lib.IntN.{ℤ, pos, negℤ}
 use lib.ListN.{getD}
 use lib.Signed.{leZ}
 use Rattle.laws.specs.Each.{allBelow}
-use Rattle.codes.specs.Matrices.{premultiplierMatrix}
+use Rattle.codes.specs.Matrices.{bounded}
 use Rattle.coefficients.specs.Dcs.{dcInside}
 use Rattle.picture.specs.declared.state.Motion.{Motion}
 use Rattle.picture.specs.declared.state.Stores.{Stores}
@@ -27,16 +25,12 @@ possibleStores t =
 abbrev pub possibleMotion : Motion → Bool
 possibleMotion m = leb (m .«r_size») 6 && between (negℤ (pos 1024)) (pos 1023) (m .h) && between (negℤ (pos 1024)) (pos 1023) (m .v)
 
--- left-over coefficients: at most 2048 × premultiplier at their place, in size
-abbrev pub possibleBlock : List ℤ → Bool
-possibleBlock c = allBelow 64 (λ k. leb (natAbs (getD c k (pos 0))) (2048 * natAbs (getD premultiplierMatrix k (pos 0))))
-
 -- scale, address, vectors, DC predictors, left-over coefficients
 abbrev pub possibleSlice : Slice → Bool
 possibleSlice s =
     leb (s .«quantizer_scale») 31 && between (negℤ (pos 1)) (pos 402700000) (s .«macroblock_address») &&
     possibleMotion (s .«motion_forward») && possibleMotion (s .«motion_backward») &&
-    allBelow 3 (λ k. dcInside (getD (s .«dc_predictor») k (pos 0))) && possibleBlock (s .«block_data»)
+    allBelow 3 (λ k. dcInside (getD (s .«dc_predictor») k (pos 0))) && bounded (s .«block_data»)
 
 -- type, start code, stores
 abbrev pub possiblePicture : Picture → Bool

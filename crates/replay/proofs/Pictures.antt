@@ -1,17 +1,16 @@
 -- A case of scaled.bin: its planes hold the picture, its area holds the output, and what it comes to.
 use mathlib.Core.Path.{_≡_, refl, sym, _∙_}
 use mathlib.Core.Bool.{Bool, true, false}
-use mathlib.Core.List.{List}
+use mathlib.Core.List.{List, [], _∷_}
 use Prim.Native.Nat.{ℕ, _+_, _*_, _/_, _%_, _≤_}
 use native.Mathlib.Omega.{arith}
 use native.Mathlib.Nat.{mul-le-mul}
 use borrow.Author.Tests.{leb-true, eqb-true, eq-eqb, ne-eqb}
-use lib.Dec.{eqb, leb}
 use lib.ListN.{length}
 use Rattle.argb.specs.Scaled.{picture, Whole, scaled}
 use Rattle.lists.specs.Bytes.{part}
 use Rattle.lists.specs.Numbers.{numberAt, holds}
-use Rattle.laws.proofs.Tests.{both}
+use Rattle.laws.proofs.Tests.{each}
 use Rattle.lists.proofs.Parts.{part-long}
 use Rattle.replay.specs.ScaledList.{blank, possible, scaledAgrees}
 
@@ -33,22 +32,16 @@ module _ (width height luma w h : ℕ) {t : Bool} (tested : t ≡ possible width
   sizes : Sizes width height luma w h
   unfolding possible
   sizes =
-      let b7 = both _ (leb h 8) (sym tested ∙ passed) in
-      let b6 = both _ (leb w 8) (b7 .0) in
-      let b5 = both _ (leb height 8) (b6 .0) in
-      let b4 = both _ (leb 1 height) (b5 .0) in
-      let b3 = both _ (eqb (luma % 2) 0) (b4 .0) in
-      let b2 = both _ (leb luma 32) (b3 .0) in
-      let b1 = both (leb 1 width) (leb width luma) (b2 .0) in
+      let b = each _ (_ ∷ _ ∷ _ ∷ _ ∷ _ ∷ _ ∷ _ ∷ []) (sym tested ∙ passed) in
       record {
-        some = leb-true _ _ (b1 .0);
-        wide = leb-true _ _ (b1 .1);
-        luma-most = leb-true _ _ (b2 .1);
-        even = eqb-true _ _ (b3 .1);
-        high = leb-true _ _ (b4 .1);
-        high-most = leb-true _ _ (b5 .1);
-        w-most = leb-true _ _ (b6 .1);
-        h-most = leb-true _ _ (b7 .1);
+        some = leb-true _ _ (b 0);
+        wide = leb-true _ _ (b 1);
+        luma-most = leb-true _ _ (b 2);
+        even = eqb-true _ _ (b 3);
+        high = leb-true _ _ (b 4);
+        high-most = leb-true _ _ (b 5);
+        w-most = leb-true _ _ (b 6);
+        h-most = leb-true _ _ (b 7);
       }
 
   planes : (y cr cb : List ℕ) → length y ≡ 256 → length cr ≡ 64 → length cb ≡ 64 → Whole (picture width height luma y cr cb)

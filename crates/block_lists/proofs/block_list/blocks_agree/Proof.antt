@@ -3,8 +3,8 @@ use native.Mathlib.Omega.{arith}
 use mir.Syntax.{w32}
 use mir.Val.{ofZ, toZ}
 use mir.Facts.{toZ-ofZ}
+use Rattle.codes.proofs.Bounds.{bounded-of}
 use Rattle.lists.specs.Blocks.{blockOf}
-use Rattle.block_lists.proofs.InBounds.{in-bounds as are-bounded}
 use Rattle.block_lists.proofs.BlockCases.{Bounds, Reads, in-bounds, wide, compared, too-large, refused}
 use borrow.Author.Needs.{needs, sfits-of}
 use Rattle.block_lists.proofs.block_list.blocks_agree.Statement.{statement}
@@ -40,7 +40,7 @@ ends-as-requires c κs =
       (rw e (wide (h .inside) n), rw e (omega (arith, c .before .place-of .ensures .1, h .few))),
       (
         (h .start-most, h .scale-most, h .predictor-inside),
-        are-bounded _ (sym (c .before .before .before .bounded .ensures) ∙ c .before .before .if2 .taken),
+        bounded-of _ (sym (c .before .before .before .bounded .ensures) ∙ c .before .before .if2 .taken),
       ),
     )
 

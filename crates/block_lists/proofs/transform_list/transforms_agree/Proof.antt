@@ -1,12 +1,12 @@
 use mathlib.Core.Path.{sym, _∙_}
 use Rattle.block_lists.specs.TransformList.{transformAgrees}
-use Rattle.block_lists.proofs.InBounds.{in-bounds}
+use Rattle.codes.proofs.Bounds.{bounded-of}
 use Rattle.block_lists.proofs.transform_list.transforms_agree.Statement.{statement}
 use Rattle.block_lists.proofs.transform_list.transforms_agree.Tie as tie
 
 idct-requires : tie.Need-idct-requires
 idct-requires c κs = let b = c .before .before in
-    in-bounds _ (sym (b .bounded .ensures) ∙ c .before .if1 .taken)
+    bounded-of _ (sym (b .bounded .ensures) ∙ c .before .if1 .taken)
 
 returns : tie.Need-returns
 unfolding transformAgrees

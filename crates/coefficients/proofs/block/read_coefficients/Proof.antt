@@ -20,7 +20,8 @@ use Rattle.coefficients.specs.declared.coefficient.Coefficient.the-varia
 use Rattle.coefficients.specs.declared.block.BlockEnd.the-variants.{Dropped}
 use Rattle.coefficients.specs.Dequantise.{dequantised}
 use Rattle.coefficients.specs.Blocks.{Quantiser, quantiser, Filled, filled, coded, taken, coefficientTurn, coefficients}
-use Rattle.coefficients.proofs.Bounds.{zig-zag-inside, premultiplier-small, premultiplier-read, bounded-set}
+use Rattle.codes.proofs.Bounds.{premultiplier-small, premultiplier-read}
+use Rattle.coefficients.proofs.Bounds.{zig-zag-inside, bounded-set}
 use Rattle.coefficients.proofs.block.read_coefficients.Statement.{statement}
 use Rattle.coefficients.proofs.block.read_coefficients.Tie as tie
 
