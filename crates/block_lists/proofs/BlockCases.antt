@@ -1,17 +1,15 @@
 -- A case of blocks.bin: what a possible one keeps to, and what ours reads and writes there.
 use mathlib.Core.Path.{_≡_, refl, _∙_}
-use mathlib.Core.Bool.{Bool, true, false, cond, _&&_}
+use mathlib.Core.Bool.{Bool, true, false, _&&_}
 use mathlib.Core.List.{List, [], _∷_}
 use mathlib.Core.Logic.{⊎-elim}
-use Prim.Native.Nat.{ℕ, _*_, _≤_}
-use native.Mathlib.Nat.{mul-le-mul}
+use Prim.Native.Nat.{ℕ, _≤_}
 use native.Mathlib.Omega.{arith}
-use borrow.Author.Tests.{leb-true, ltb-true}
+use borrow.Author.Tests.{leb-true}
 use denote.Enum.Declared.{tagOf}
 use types.Run.{OneOf}
-use lib.Dec.{eqb, leb, ltb}
-use lib.IntN.{ℤ, pos, negℤ}
-use lib.Signed.{leZ}
+use lib.Dec.{eqb, ltb}
+use lib.IntN.{ℤ}
 use mir.Facts.{toZ-ofZ}
 use mir.Syntax.{w32}
 use mir.Val.{ofZ, toZ}
@@ -28,13 +26,15 @@ use Rattle.coefficients.proofs.Sizes.{inside-small}
 use Rattle.lists.specs.Blocks.{blockOf, holdsBlock}
 use Rattle.lists.specs.Bytes.{part, sameBytes}
 use Rattle.lists.specs.Numbers.{numberAt}
-use Rattle.laws.proofs.Tests.{both}
+use Rattle.laws.proofs.Tests.{each}
 use Rattle.prediction.specs.declared.place.Macroblock.{Macroblock}
 use Rattle.prediction.specs.Planes.{macroblocks}
 use Rattle.prediction.specs.Predict.{Inside}
-use Rattle.block_lists.specs.BlockList.{possible, placeOf, widthOf, matrixAt, written, endsAs, blockAgrees}
-use Rattle.block_lists.specs.MacroblockList.{macroblockAt}
+use Rattle.prediction.specs.Writers.{blockWidth, blockPlace}
+use Rattle.block_lists.specs.BlockList.{possible, matrixAt, written, endsAs, blockAgrees}
+use Rattle.block_lists.specs.MacroblockList.{within, listedMacroblock}
 use Rattle.block_lists.specs.Planes.{noisy, laidOver}
+use Rattle.block_lists.proofs.Macroblocks.{placed-within}
 
 pub record Bounds (m : Macroblock) (predictor : ℤ) (scale start : ℕ) : Type 0 where
   pub inside : Inside m
@@ -46,32 +46,9 @@ pub record Bounds (m : Macroblock) (predictor : ℤ) (scale start : ℕ) : Type 
 pub in-bounds : (m : Macroblock) (number intra : ℕ) (predictor : ℤ) (scale start : ℕ) → possible m number intra predictor scale start ≡ true → Bounds m predictor scale start
 unfolding possible
 in-bounds m number intra predictor scale start e =
-    let a = both _ (leb start 512) e in
-    let b = both _ (leb scale 31) (a .0) in
-    let d = both _ (leZ predictor (pos 255)) (b .0) in
-    let f = both _ (leZ (negℤ (pos 256)) predictor) (d .0) in
-    let g = both _ (leb intra 1) (f .0) in
-    let i = both _ (leb number 5) (g .0) in
-    let j = both _ (ltb (m .column) (m .across)) (i .0) in
-    let k = both _ (ltb (m .row) (m .down)) (j .0) in
-    let n = both (leb (m .across) 5) (leb (m .down) 2) (k .0) in
-    let x : m .across ≤ 5 = leb-true _ _ (n .0) in
-    let y : m .down ≤ 2 = leb-true _ _ (n .1) in
-    record {
-      inside = record { across = omega arith; down = omega arith; row = ltb-true _ _ (k .1); column = ltb-true _ _ (j .1) };
-      few = mul-le-mul x y;
-      predictor-inside = rw (f .1) (d .1);
-      scale-most = leb-true _ _ (b .1);
-      start-most = leb-true _ _ (a .1);
-    }
-
--- a plane of a picture is at least one macroblock wide
-pub wide : {m : Macroblock} → Inside m → (number : ℕ) → 8 ≤ widthOf m number
-wide {m} h number = go (ltb number 4)
-  where
-    go : (b : Bool) → 8 ≤ cond b (m .across * 16) (m .across * 8)
-    go true = omega (arith, h .column)
-    go false = omega (arith, h .column)
+    let t = each (within 5 2 m) (_ ∷ _ ∷ dcInside predictor ∷ _ ∷ _ ∷ []) e in
+    let w = placed-within (omega arith) (omega arith) m (t 0) in
+    record { inside = w .0; few = w .1; predictor-inside = t 3; scale-most = leb-true _ _ (t 4); start-most = leb-true _ _ (t 5) }
 
 -- a block with an end other than the first of the three is not written
 pub not-written : (intra : Bool) (di dw : ℕ) (f : Filled) (p : ℤ) (e : BlockEnd) (d : List ℕ) → OneOf (1 ∷ 2 ∷ []) (tagOf the-type e)
@@ -95,7 +72,7 @@ ended intra di dw a l h en ez em et eo er eu = rw (h .is, en, ez, em, et, eu, eo
 
 -- what is read from a case
 pub record Reads (m : Macroblock) (number intra : ℕ) (predictor : ℤ) (scale start : ℕ) (left : List ℤ) (l : List ℕ) : Type 0 where
-  pub macroblock : m ≡ macroblockAt l
+  pub macroblock : m ≡ listedMacroblock l
   pub number-is : number ≡ numberAt l 16
   pub intra-is : intra ≡ numberAt l 20
   pub predictor-is : predictor ≡ toZ w32 (numberAt l 24)
@@ -105,11 +82,11 @@ pub record Reads (m : Macroblock) (number intra : ℕ) (predictor : ℤ) (scale 
 
 module _ (m : Macroblock) (number intra : ℕ) (predictor : ℤ) (scale start : ℕ) (left : List ℤ) {t : Bool} (is : t ≡ possible m number intra predictor scale start) {l : List ℕ}
     (r : Reads m number intra predictor scale start left l) where
-  pub compared : t ≡ true → {u : Bool} → u ≡ bounded left → u ≡ true → {di dw : ℕ} → di ≡ placeOf m number → dw ≡ widthOf m number
+  pub compared : t ≡ true → {u : Bool} → u ≡ bounded left → u ≡ true → {di dw : ℕ} → di ≡ blockPlace m number → dw ≡ blockWidth m number
       → endsAs (block (quantiser (eqb intra 1) scale (matrixAt l)) (ltb number 4) predictor left) (eqb intra 1) di dw start l ≡ blockAgrees l
   unfolding blockAgrees
   compared e b f p w =
-      let is-there : t ≡ possible (macroblockAt l) number intra predictor scale start = is ∙ rw (r .macroblock) in
+      let is-there : t ≡ possible (listedMacroblock l) number intra predictor scale start = is ∙ rw (r .macroblock) in
       rw (p, w, r .macroblock, ← r .number-is, ← r .intra-is, ← r .predictor-is, ← r .scale-is, ← r .start-is, ← r .left-is, ← is-there, e, ← b, f)
 
   pub too-large : t ≡ true → {u : Bool} → u ≡ bounded left → u ≡ false → false ≡ blockAgrees l

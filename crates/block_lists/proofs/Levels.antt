@@ -1,6 +1,7 @@
 -- A case of dequantised.bin: what a possible one keeps to, and its level that is k places behind -256.
 use mathlib.Core.Path.{_≡_, ap, _∙_}
-use mathlib.Core.Bool.{true, _&&_}
+use mathlib.Core.Bool.{true}
+use mathlib.Core.List.{[], _∷_}
 use Prim.Native.Nat.{ℕ, _≤_, _<_}
 use native.Mathlib.Omega.{arith}
 use borrow.Author.Tests.{leb-true}
@@ -10,14 +11,14 @@ use mir.Facts.{toZ-ofZ, toZ-pos}
 use mir.Syntax.{w32}
 use mir.Val.{SFits, ofZ, toZ}
 use Rattle.laws.proofs.Ints.{lit, _⊖_, fits-by, abs-by}
-use Rattle.laws.proofs.Tests.{both}
+use Rattle.laws.proofs.Tests.{each}
 use Rattle.block_lists.specs.DequantisedList.{possible}
 
 pub in-bounds : (intra scale entry : ℕ) → possible intra scale entry ≡ true → (scale ≤ 31) × (entry ≤ 255)
 unfolding possible
 in-bounds intra scale entry h =
-    let a = both (leb intra 1 && leb scale 31) (leb entry 255) h in
-    (leb-true _ _ (both (leb intra 1) (leb scale 31) (a .0) .1), leb-true _ _ (a .1))
+    let t = each (leb intra 1) (leb scale 31 ∷ leb entry 255 ∷ []) h in
+    (leb-true _ _ (t 1), leb-true _ _ (t 2))
 
 module _ (k : ℕ) (h : k < 512) where
   read : toZ w32 k ≡ pos k

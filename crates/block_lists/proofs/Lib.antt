@@ -2,5 +2,4 @@ pub mod BlockCases
 pub mod Levels
 pub mod Macroblocks
 pub mod Noise
-pub mod Sizes
 pub mod Writers

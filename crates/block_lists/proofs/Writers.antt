@@ -1,7 +1,7 @@
 -- A case of writers.bin: what a possible one keeps to.
 use mathlib.Core.Path.{_≡_, ap, sym, _∙_}
 use mathlib.Core.Bool.{Bool, true, not, _&&_, Bool·not-not}
-use mathlib.Core.List.{List}
+use mathlib.Core.List.{List, [], _∷_}
 use Prim.Native.Nat.{ℕ, _+_, _*_, _≤_}
 use borrow.Author.Tests.{leb-true}
 use lib.Dec.{leb}
@@ -9,27 +9,21 @@ use lib.IntN.{ℤ, pos, negℤ}
 use lib.ListN.{getD}
 use lib.Signed.{leZ}
 use Rattle.laws.proofs.Each.{all-at}
-use Rattle.laws.proofs.Tests.{both}
+use Rattle.laws.proofs.Ints.{abs-test}
+use Rattle.laws.proofs.Tests.{each}
 use Rattle.laws.specs.Sizes.{Narrow}
 use Rattle.block_lists.specs.WriterList.{possible, narrowAt, narrow}
-use Rattle.block_lists.proofs.Sizes.{size-most}
 
 -- a result z as the code tests it
 pub tested : (s : List ℤ) (i : ℕ) {z : ℤ} {b : Bool} → z ≡ getD s i (pos 0) → not (leZ (negℤ (pos 131072)) z && leZ z (pos 131072)) ≡ b → narrowAt s i ≡ not b
-tested s i e h = rw (← e) (sym (Bool·not-not _) ∙ ap not h)
+tested s i {z} e h = rw (← e) (sym (abs-test 131072 z) ∙ sym (Bool·not-not _) ∙ ap not h)
 
 pub are-narrow : (s : List ℤ) → narrow s ≡ true → Narrow s
 unfolding narrow
-are-narrow s h =
-    record {
-      entry = λ k q.
-          let b = both (leZ (negℤ (pos 131072)) (getD s k (pos 0))) (leZ (getD s k (pos 0)) (pos 131072)) (all-at (narrowAt s) 64 h k q) in
-          size-most 131072 (getD s k (pos 0)) (b .0) (b .1);
-    }
+are-narrow s h = record { entry = λ k q. leb-true _ _ (all-at (narrowAt s) 64 h k q) }
 
 pub in-plane : (writer di dw : ℕ) → possible writer di dw ≡ true → (8 ≤ dw) × (di + 7 * dw + 8 ≤ 2560)
 unfolding possible
 in-plane writer di dw h =
-    let a = both (leb writer 3 && leb 8 dw) (leb (di + 7 * dw + 8) 2560) h in
-    let b = both (leb writer 3) (leb 8 dw) (a .0) in
-    (leb-true _ _ (b .1), leb-true _ _ (a .1))
+    let t = each (leb writer 3) (leb 8 dw ∷ leb (di + 7 * dw + 8) 2560 ∷ []) h in
+    (leb-true _ _ (t 1), leb-true _ _ (t 2))

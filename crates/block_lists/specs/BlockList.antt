@@ -1,40 +1,31 @@
 -- The lists blocks.bin and random_blocks.bin: the cases that agree with the program of a block and the definition of its results.
-use mathlib.Core.Bool.{Bool, cond, _&&_}
+use mathlib.Core.Bool.{Bool, _&&_}
 use mathlib.Core.List.{List}
-use Prim.Native.Nat.{ℕ, _*_}
+use Prim.Native.Nat.{ℕ}
 use lib.Dec.{eqb, leb, ltb}
-use lib.IntN.{ℤ, pos, negℤ}
+use lib.IntN.{ℤ}
 use lib.ListN.{replicate}
-use lib.Signed.{leZ}
 use mir.Syntax.{w32}
 use mir.Val.{ofZ, toZ}
 use Rattle.bits.specs.Programs.{Prog, run}
 use Rattle.codes.specs.Matrices.{bounded}
 use Rattle.coefficients.specs.Blocks.{Read, quantiser, block, leftOver}
+use Rattle.coefficients.specs.Dcs.{dcInside}
 use Rattle.coefficients.specs.declared.block.BlockEnd.the-variants.{Whole, Dropped, Outside}
 use Rattle.lists.specs.Blocks.{blockOf, holdsBlock}
 use Rattle.lists.specs.Bytes.{part, sameBytes}
 use Rattle.lists.specs.Numbers.{numberAt}
 use Rattle.picture.specs.Blocks.{results}
 use Rattle.prediction.specs.declared.place.Macroblock.{Macroblock}
-use Rattle.prediction.specs.Writers.{lumaPlace, chromaPlace}
-use Rattle.block_lists.specs.MacroblockList.{macroblockAt}
+use Rattle.prediction.specs.Writers.{blockWidth, blockPlace}
+use Rattle.block_lists.specs.MacroblockList.{within, listedMacroblock}
 use Rattle.block_lists.specs.Planes.{noisy, laidOver}
 
 -- a macroblock of a picture of at most five by two, one of its six blocks, 1 or 0, a predictor of RULES Q8, a scale of five bits, and a place in a
 -- stream of 64 bytes
 unfoldable pub possible : Macroblock → ℕ → ℕ → ℤ → ℕ → ℕ → Bool
 possible m number intra predictor scale start =
-    leb (m .across) 5 && leb (m .down) 2 && ltb (m .row) (m .down) && ltb (m .column) (m .across) && leb number 5 && leb intra 1
-    && leZ (negℤ (pos 256)) predictor && leZ predictor (pos 255) && leb scale 31 && leb start 512
-
--- RULES 6.12: where the block with this number is in its plane, and how wide the plane is
-abbrev pub placeOf : Macroblock → ℕ → ℕ
-placeOf m number =
-    cond (ltb number 4) (lumaPlace (m .across * 16) (m .row) (m .column) number) (chromaPlace (m .across * 8) (m .row) (m .column))
-
-abbrev pub widthOf : Macroblock → ℕ → ℕ
-widthOf m number = cond (ltb number 4) (m .across * 16) (m .across * 8)
+    within 5 2 m && leb number 5 && leb intra 1 && dcInside predictor && leb scale 31 && leb start 512
 
 -- the matrix of a case: 64 bytes
 abbrev pub matrixAt : List ℕ → List ℕ
@@ -57,7 +48,7 @@ endsAs p intra di dw a l =
 -- left over, the stream; and what the Rust left
 unfoldable pub blockAgrees : List ℕ → Bool
 blockAgrees l =
-    let m = macroblockAt l in
+    let m = listedMacroblock l in
     let number = numberAt l 16 in
     let intra = numberAt l 20 in
     let predictor = toZ w32 (numberAt l 24) in
@@ -66,4 +57,4 @@ blockAgrees l =
     let left = blockOf (part l 104 256) in
     possible m number intra predictor scale start
     && (bounded left
-    && endsAs (block (quantiser (eqb intra 1) scale (matrixAt l)) (ltb number 4) predictor left) (eqb intra 1) (placeOf m number) (widthOf m number) start l)
+    && endsAs (block (quantiser (eqb intra 1) scale (matrixAt l)) (ltb number 4) predictor left) (eqb intra 1) (blockPlace m number) (blockWidth m number) start l)

@@ -3,8 +3,7 @@ use mathlib.Core.Bool.{Bool, _&&_}
 use mathlib.Core.List.{List}
 use Prim.Native.Nat.{ℕ, _+_, _*_}
 use lib.Dec.{eqb, leb, ltb}
-use lib.IntN.{ℤ, pos, negℤ}
-use lib.Signed.{leZ}
+use lib.IntN.{ℤ, natAbs}
 use mir.Syntax.{w32}
 use mir.Val.{toZ}
 use Rattle.lists.specs.Bytes.{part, sameBytes}
@@ -18,14 +17,18 @@ use Rattle.prediction.specs.Planes.{macroblocks, blockSize, planeStart, predict
 use Rattle.prediction.specs.Predict.{blockOf, address}
 use Rattle.block_lists.specs.Planes.{noisy, laidOver}
 
+-- a macroblock of a picture that is at most so many macroblocks across and down
+abbrev pub within : ℕ → ℕ → Macroblock → Bool
+within across down m = leb (m .across) across && leb (m .down) down && ltb (m .row) (m .down) && ltb (m .column) (m .across)
+
 -- a macroblock of a picture of at most five by three, two of three stores, a vector whose components are at most 2048 in size, and 1 or 0
 unfoldable pub possible : Macroblock → ℕ → ℕ → ℤ → ℤ → ℕ → Bool
 possible m from to h v interpolate =
-    leb (m .across) 5 && leb (m .down) 3 && ltb (m .row) (m .down) && ltb (m .column) (m .across) && ltb from 3 && ltb to 3
-    && leZ (negℤ (pos 2048)) h && leZ h (pos 2048) && leZ (negℤ (pos 2048)) v && leZ v (pos 2048) && leb interpolate 1
+    within 5 3 m && ltb from 3 && ltb to 3 && leb (natAbs h) 2048 && leb (natAbs v) 2048 && leb interpolate 1
 
-abbrev pub macroblockAt : List ℕ → Macroblock
-macroblockAt l = record { across = numberAt l 0; down = numberAt l 4; row = numberAt l 8; column = numberAt l 12 }
+-- the macroblock of a case
+abbrev pub listedMacroblock : List ℕ → Macroblock
+listedMacroblock l = record { across = numberAt l 0; down = numberAt l 4; row = numberAt l 8; column = numberAt l 12 }
 
 -- 1 where the answer is number 9
 unfoldable pub refusals : Predicted → ℕ
@@ -51,7 +54,7 @@ endsAs m from to h v interpolate l =
 -- a case: a macroblock, the stores, the vector, whether it is averaged; the seed, 1 for a panic or 0, and the macroblock's bytes
 unfoldable pub macroblockAgrees : List ℕ → Bool
 macroblockAgrees l =
-    let m = macroblockAt l in
+    let m = listedMacroblock l in
     let from = numberAt l 16 in
     let to = numberAt l 20 in
     let h = toZ w32 (numberAt l 24) in

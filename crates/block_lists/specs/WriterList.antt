@@ -3,9 +3,8 @@ use mathlib.Core.Bool.{Bool, cond, _&&_}
 use mathlib.Core.List.{List}
 use Prim.Native.Nat.{ℕ, _+_, _*_}
 use lib.Dec.{eqb, leb}
-use lib.IntN.{ℤ, pos, negℤ}
+use lib.IntN.{ℤ, pos, natAbs}
 use lib.ListN.{getD}
-use lib.Signed.{leZ}
 use Rattle.laws.specs.Signed.{clamp255}
 use Rattle.lists.specs.Blocks.{blockOf}
 use Rattle.lists.specs.Bytes.{part, sameBytes}
@@ -20,7 +19,7 @@ possible writer di dw = leb writer 3 && leb 8 dw && leb (di + 7 * dw + 8) 2560
 
 -- results that the transform can give: at the place k, and all
 abbrev pub narrowAt : List ℤ → ℕ → Bool
-narrowAt s k = leZ (negℤ (pos 131072)) (getD s k (pos 0)) && leZ (getD s k (pos 0)) (pos 131072)
+narrowAt s k = leb (natAbs (getD s k (pos 0))) 131072
 
 unfoldable pub narrow : List ℤ → Bool
 narrow s = allBelow 64 (narrowAt s)

@@ -3,7 +3,8 @@
 // place in the stream in bits where the block begins; then the matrix, 64 bytes; the 64 coefficients that are left over; the stream, 64 bytes. Then
 // the Rust's place after the block, the plane's predictor, the 64 coefficients that are left over, and the 64 bytes of the block in its plane. All
 // other bytes of the plane stay.
-use crate::macroblock_list::macroblock_at;
+use crate::macroblock_list::listed_macroblock;
+use crate::macroblock_list::within;
 use crate::planes::lay_over;
 use crate::planes::plane;
 use bits::position::BitPosition;
@@ -17,6 +18,7 @@ use coefficients::block::Block;
 use coefficients::block::BlockEnd;
 use coefficients::block::left_over;
 use coefficients::block::read_block;
+use coefficients::dc::dc_inside;
 use laws::clamp_u8;
 use lists::block::block_of;
 use lists::block::holds_block;
@@ -26,12 +28,12 @@ use lists::numbers::held;
 use lists::numbers::number_at;
 use lists::numbers::signed;
 use prediction::place::Macroblock;
+use prediction::writers::block_place;
 use prediction::writers::block_set_add;
 use prediction::writers::block_set_add_const;
 use prediction::writers::block_set_const;
 use prediction::writers::block_set_overwrite;
-use prediction::writers::chroma_place;
-use prediction::writers::luma_place;
+use prediction::writers::block_width;
 use transform::idct::dc_only;
 use transform::idct::idct;
 ghost use mathlib.Core.Path.{_≡_};
@@ -44,47 +46,18 @@ ghost use Rattle.codes.specs.Matrices.{Bounded};
 ghost use Rattle.coefficients.specs.Blocks.{quantiser, block, readOf};
 ghost use Rattle.lists.specs.Bytes.{part};
 ghost use Rattle.picture.specs.Blocks.{results};
-ghost use Rattle.prediction.specs.Planes.{macroblocks};
-ghost use Rattle.prediction.specs.Predict.{Inside};
-ghost use Rattle.block_lists.specs.BlockList.{possible, placeOf, widthOf, matrixAt, written, endsAs, blockAgrees};
+ghost use Rattle.block_lists.specs.BlockList.{possible, matrixAt, written, endsAs, blockAgrees};
 
 // Whether a picture of at most five macroblocks by two has the block, and it can have these (RULES 3.8, Q8).
 fn possible(m: Macroblock, number: u32, intra: u32, predictor: i32, scale: u32, start: u32) -> bool
     ensures { λ r. ⌜ r ≡ possible m number intra predictor scale start ⌝ }
 {
-    (m.across <= 5)
-        & (m.down <= 2)
-        & (m.row < m.down)
-        & (m.column < m.across)
+    within(5, 2, m)
         & (number <= 5)
         & (intra <= 1)
-        & (-256 <= predictor)
-        & (predictor <= 255)
+        & dc_inside(predictor)
         & (scale <= 31)
         & (start <= 512)
-}
-
-// The block's place in its plane.
-fn place_of(m: Macroblock, number: usize) -> usize
-    requires { ⌜ Inside m ⌝ }
-    ensures is { λ r. ⌜ r ≡ placeOf m number ⌝ }
-    ensures inside { λ r. ⌜ r + 7 * widthOf m number + 8 ≤ 256 * macroblocks m ⌝ }
-{
-    if number < 4 {
-        return luma_place(m, number);
-    }
-    chroma_place(m)
-}
-
-// The width of its plane.
-fn width_of(m: Macroblock, number: usize) -> usize
-    requires { ⌜ Inside m ⌝ }
-    ensures { λ r. ⌜ r ≡ widthOf m number ⌝ }
-{
-    if number < 4 {
-        return m.across * 16;
-    }
-    m.across * 8
 }
 
 fn matrix_at(case: &[u8]) -> [u8; 64]
@@ -207,7 +180,7 @@ fn ends_as(
 pub fn blocks_agree(case: &[u8]) -> bool
     ensures { λ r. ⌜ r ≡ blockAgrees (now (case .entry)) ⌝ }
 {
-    let m = macroblock_at(case);
+    let m = listed_macroblock(case);
     let number = number_at(case, 16);
     let intra = number_at(case, 20);
     let predictor = signed(number_at(case, 24));
@@ -216,8 +189,8 @@ pub fn blocks_agree(case: &[u8]) -> bool
     let left = block_of(part(case, 104, 256));
     if possible(m, number, intra, predictor, scale, start) {
         if bounded(&left) {
-            let di = place_of(m, number as usize);
-            let dw = width_of(m, number as usize);
+            let di = block_place(m, number as usize);
+            let dw = block_width(m, number as usize);
             return ends_as(
                 case,
                 di,

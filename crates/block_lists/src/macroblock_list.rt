@@ -19,28 +19,30 @@ ghost use mathlib.Core.Bool.{true};
 ghost use Prim.Native.Nat.{_<_};
 ghost use lib.Dec.{eqb};
 ghost use Rattle.prediction.specs.Predict.{Inside};
-ghost use Rattle.block_lists.specs.MacroblockList.{possible, refusals, macroblockAt, laidIn, withMacroblock, endsAs, macroblockAgrees};
+ghost use Rattle.block_lists.specs.MacroblockList.{within, possible, refusals, listedMacroblock, laidIn, withMacroblock, endsAs, macroblockAgrees};
 ghost use Rattle.block_lists.specs.Planes.{noisy};
+
+// Whether a picture of at most so many macroblocks across and down has the macroblock.
+pub fn within(across: usize, down: usize, m: Macroblock) -> bool
+    ensures { λ r. ⌜ r ≡ within across down m ⌝ }
+{
+    (m.across <= across) & (m.down <= down) & (m.row < m.down) & (m.column < m.across)
+}
 
 // Whether a picture of at most five macroblocks by three has the macroblock, there are such stores, and the vector is one of RULES 6.2.
 fn possible(m: Macroblock, from: usize, to: usize, h: i32, v: i32, interpolate: u32) -> bool
     ensures { λ r. ⌜ r ≡ possible m from to h v interpolate ⌝ }
 {
-    (m.across <= 5)
-        & (m.down <= 3)
-        & (m.row < m.down)
-        & (m.column < m.across)
+    within(5, 3, m)
         & (from < 3)
         & (to < 3)
-        & (-2048 <= h)
-        & (h <= 2048)
-        & (-2048 <= v)
-        & (v <= 2048)
+        & ((-2048 <= h) & (h <= 2048))
+        & ((-2048 <= v) & (v <= 2048))
         & (interpolate <= 1)
 }
 
-pub fn macroblock_at(case: &[u8]) -> Macroblock
-    ensures { λ r. ⌜ r ≡ macroblockAt (now (case .entry)) ⌝ }
+pub fn listed_macroblock(case: &[u8]) -> Macroblock
+    ensures { λ r. ⌜ r ≡ listedMacroblock (now (case .entry)) ⌝ }
 {
     let across = number_at(case, 0) as usize;
     let down = number_at(case, 4) as usize;
@@ -121,7 +123,7 @@ fn ends_as(
 pub fn macroblocks_agree(case: &[u8]) -> bool
     ensures { λ r. ⌜ r ≡ macroblockAgrees (now (case .entry)) ⌝ }
 {
-    let m = macroblock_at(case);
+    let m = listed_macroblock(case);
     let from = number_at(case, 16) as usize;
     let to = number_at(case, 20) as usize;
     let h = signed(number_at(case, 24));

@@ -26,12 +26,12 @@ use Rattle.transform.specs.Idct.{columns, rows, idct, dcOnly}
 use Rattle.prediction.specs.Samples.{sample}
 use Rattle.prediction.specs.Predict.{way, predicted}
 use Rattle.prediction.specs.Planes.{follow, next as following, predictedPlanes}
-use Rattle.prediction.specs.Writers.{setConst, overwrite}
+use Rattle.prediction.specs.Writers.{setConst, overwrite, blockPlace}
 use Rattle.picture.specs.Ways.{also, leave, onward, plain}
 use Rattle.picture.specs.Increments.{incrementTurn, increment}
 use Rattle.picture.specs.Predictions.{unlessRefused, predictFrom, predictBoth, predict, predictSkipped}
 use Rattle.picture.specs.Heads.{macroblockType, scale, vector, forward, backward, vectors, head, pattern}
-use Rattle.picture.specs.Blocks.{placeOf, results, written, blockEnd, oneBlock, lastBlocks, blocks}
+use Rattle.picture.specs.Blocks.{results, written, blockEnd, oneBlock, lastBlocks, blocks}
 use Rattle.picture.specs.Macroblocks.{skipReset, advance, predictUnlessIntra, body, firstOf, laterOf, macroblock}
 use Rattle.picture.specs.Slices.{extraTurn, extra, pastMacroblock, sliceTurn, slice}
 use Rattle.picture.specs.Pictures as P
@@ -119,5 +119,5 @@ pub record Pictures : Type 0 where
   pub skipped-both-row : take 48 (drop 2304 (skips .store)) ≡ replicate 15 133 ++ (131 ∷ replicate 15 128) ++ (133 ∷ 131 ∷ 136 ∷ replicate 14 138)
 
 pub shown-pictures : Pictures
-unfolding clamp255 half0 odd storeRow storeRows turns bitAt bitsAt got next codePrefix codeFrom found run bind loop findTurn findStartCode macroblockAddressIncrementIndex macroblockAddressIncrementValue macroblockTypeIntraIndex macroblockTypeIntraValue macroblockTypePredictiveIndex macroblockTypePredictiveValue macroblockTypeBIndex macroblockTypeBValue motionIndex motionValue dctSizeLuminanceIndex dctSizeLuminanceValue dctSizeChrominanceIndex dctSizeChrominanceValue dctCoeffIndex dctCoeffValue walkTurn walk vlc Codes.macroblockAddressIncrement Codes.macroblockTypeIntra Codes.macroblockTypePredictive Codes.macroblockTypeB Codes.motion Codes.dctSizeLuminance Codes.dctSizeChrominance Codes.dctCoeff downFrom diagonals zigZag intraQuantMatrix nonIntraQuantMatrix premultiplierMatrix bounded displacement motionVector corrected Dcs.dcSize Dcs.added Dcs.dc Coefficients.runLevel Coefficients.coefficient dequantised Block.coefficientTurn Block.coefficients Block.block Block.intraBlock Block.leftOver butterfly columns rows idct dcOnly sample way predicted setConst overwrite also leave onward plain incrementTurn increment follow following predictedPlanes unlessRefused predictFrom predictBoth predictSkipped predict macroblockType scale vector forward backward vectors head pattern placeOf results written blockEnd oneBlock lastBlocks blocks skipReset advance predictUnlessIntra body firstOf laterOf macroblock extraTurn extra pastMacroblock sliceTurn slice P.direction P.backwardHeader P.forwardHeader P.pictureHeader P.pastSlice P.slicesTurn P.slices P.coded P.picture fresh cleared allBelow possible matrix size rest findSequence accepted askSize askHeader askStore opened opening nextPicture isFollowed timeOf counted handed shown pastPicture decoded searched pictureTurn pictures ended askFirst begun goOn handOut ofInt pixelAspectRatio pictureRate div
+unfolding clamp255 half0 odd storeRow storeRows turns bitAt bitsAt got next codePrefix codeFrom found run bind loop findTurn findStartCode macroblockAddressIncrementIndex macroblockAddressIncrementValue macroblockTypeIntraIndex macroblockTypeIntraValue macroblockTypePredictiveIndex macroblockTypePredictiveValue macroblockTypeBIndex macroblockTypeBValue motionIndex motionValue dctSizeLuminanceIndex dctSizeLuminanceValue dctSizeChrominanceIndex dctSizeChrominanceValue dctCoeffIndex dctCoeffValue walkTurn walk vlc Codes.macroblockAddressIncrement Codes.macroblockTypeIntra Codes.macroblockTypePredictive Codes.macroblockTypeB Codes.motion Codes.dctSizeLuminance Codes.dctSizeChrominance Codes.dctCoeff downFrom diagonals zigZag intraQuantMatrix nonIntraQuantMatrix premultiplierMatrix bounded displacement motionVector corrected Dcs.dcSize Dcs.added Dcs.dc Coefficients.runLevel Coefficients.coefficient dequantised Block.coefficientTurn Block.coefficients Block.block Block.intraBlock Block.leftOver butterfly columns rows idct dcOnly sample way predicted setConst overwrite also leave onward plain incrementTurn increment follow following predictedPlanes unlessRefused predictFrom predictBoth predictSkipped predict macroblockType scale vector forward backward vectors head pattern blockPlace results written blockEnd oneBlock lastBlocks blocks skipReset advance predictUnlessIntra body firstOf laterOf macroblock extraTurn extra pastMacroblock sliceTurn slice P.direction P.backwardHeader P.forwardHeader P.pictureHeader P.pastSlice P.slicesTurn P.slices P.coded P.picture fresh cleared allBelow possible matrix size rest findSequence accepted askSize askHeader askStore opened opening nextPicture isFollowed timeOf counted handed shown pastPicture decoded searched pictureTurn pictures ended askFirst begun goOn handOut ofInt pixelAspectRatio pictureRate div
 shown-pictures = record { hands = refl; intra-row = refl; predictive-row = refl; hands-next = refl; both-ways-row = refl; skipped-row = refl; skipped-both-row = refl }

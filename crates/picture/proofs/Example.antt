@@ -23,12 +23,12 @@ use Rattle.transform.specs.Butterfly.{butterfly}
 use Rattle.transform.specs.Idct.{columns, rows, idct, dcOnly}
 use Rattle.prediction.specs.Predict.{way}
 use Rattle.prediction.specs.Planes.{follow, next as following, predictedPlanes}
-use Rattle.prediction.specs.Writers.{setConst, overwrite}
+use Rattle.prediction.specs.Writers.{setConst, overwrite, blockPlace}
 use Rattle.picture.specs.Ways.{leave, onward, plain}
 use Rattle.picture.specs.Increments.{incrementTurn, increment}
 use Rattle.picture.specs.Predictions.{unlessRefused, predictFrom, predict}
 use Rattle.picture.specs.Heads.{macroblockType, scale, vector, forward, backward, vectors, head, pattern}
-use Rattle.picture.specs.Blocks.{placeOf, results, written, blockEnd, oneBlock, lastBlocks, blocks}
+use Rattle.picture.specs.Blocks.{results, written, blockEnd, oneBlock, lastBlocks, blocks}
 use Rattle.picture.specs.Macroblocks.{advance, predictUnlessIntra, body, firstOf, laterOf, macroblock}
 use Rattle.picture.specs.Slices.{extraTurn, extra, pastMacroblock, sliceTurn, slice}
 use Rattle.picture.specs.Pictures as P
@@ -77,7 +77,7 @@ storeOf (out n l) = l
 
 -- the first row of plane Y in store 0
 pub row : take 32 (storeOf (decoded .value)) ≡ replicate 16 133 ++ replicate 16 128
-unfolding clamp255 odd storeRow storeRows bitAt bitsAt got next codePrefix codeFrom found run bind loop macroblockAddressIncrementIndex macroblockAddressIncrementValue macroblockTypeIntraIndex macroblockTypeIntraValue dctSizeLuminanceIndex dctSizeLuminanceValue dctSizeChrominanceIndex dctSizeChrominanceValue dctCoeffIndex dctCoeffValue walkTurn walk vlc Codes.macroblockAddressIncrement Codes.macroblockTypeIntra Codes.dctSizeLuminance Codes.dctSizeChrominance Codes.dctCoeff downFrom diagonals zigZag intraQuantMatrix premultiplierMatrix Dcs.dcSize Dcs.added Dcs.dc Coefficients.runLevel Coefficients.coefficient dequantised Block.coefficientTurn Block.coefficients Block.block Block.intraBlock Block.leftOver butterfly columns rows idct dcOnly setConst overwrite leave onward plain incrementTurn increment macroblockType scale head pattern placeOf results written blockEnd oneBlock lastBlocks blocks advance predictUnlessIntra body firstOf laterOf macroblock extraTurn extra pastMacroblock sliceTurn slice P.pictureHeader P.pastSlice P.slicesTurn P.slices P.coded P.picture
+unfolding clamp255 odd storeRow storeRows bitAt bitsAt got next codePrefix codeFrom found run bind loop macroblockAddressIncrementIndex macroblockAddressIncrementValue macroblockTypeIntraIndex macroblockTypeIntraValue dctSizeLuminanceIndex dctSizeLuminanceValue dctSizeChrominanceIndex dctSizeChrominanceValue dctCoeffIndex dctCoeffValue walkTurn walk vlc Codes.macroblockAddressIncrement Codes.macroblockTypeIntra Codes.dctSizeLuminance Codes.dctSizeChrominance Codes.dctCoeff downFrom diagonals zigZag intraQuantMatrix premultiplierMatrix Dcs.dcSize Dcs.added Dcs.dc Coefficients.runLevel Coefficients.coefficient dequantised Block.coefficientTurn Block.coefficients Block.block Block.intraBlock Block.leftOver butterfly columns rows idct dcOnly setConst overwrite leave onward plain incrementTurn increment macroblockType scale head pattern blockPlace results written blockEnd oneBlock lastBlocks blocks advance predictUnlessIntra body firstOf laterOf macroblock extraTurn extra pastMacroblock sliceTurn slice P.pictureHeader P.pastSlice P.slicesTurn P.slices P.coded P.picture
 row = refl
 
 abbrev one : Sizes

@@ -16,11 +16,11 @@ use Rattle.prediction.specs.declared.place.Way.{Way}
 use Rattle.prediction.specs.declared.place.Way.the-variants.{Alone, Past, Copied}
 use Rattle.prediction.specs.declared.predict.Predicted.{Predicted}
 use Rattle.prediction.specs.declared.predict.Predicted.the-variants.{Done, Refused}
-use Rattle.prediction.specs.Predict.{bytes, way, predicted, address, width}
-use Rattle.prediction.specs.Planes.{After, planeLength, planeStart, follow, inPlane, next, predictedPlanes}
-use Rattle.prediction.specs.Writers.{setConst, overwrite, addConst, addBlock}
+use Rattle.prediction.specs.Predict.{macroblockAt, bytes, way, predicted, address, width}
+use Rattle.prediction.specs.Planes.{After, planeOf, planeLength, planeStart, follow, inPlane, next, predictedPlanes}
+use Rattle.prediction.specs.Writers.{setConst, overwrite, addConst, addBlock, blockWidth, blockPlace}
 use Rattle.picture.specs.State.{Given}
-use Rattle.picture.specs.Blocks.{planeOf, widthOf, placeOf, results, written}
+use Rattle.picture.specs.Blocks.{results, written}
 
 -- ---- a prediction
 
@@ -67,6 +67,6 @@ unfolding written
 written-length g intra number address r l =
     let start = planeStart (g .stores .cur) (planeOf number) (g .sizes .«mb_size») in
     let size = planeLength (planeOf number) (g .sizes .«mb_size») in
-    let place = placeOf (g .sizes) address number in
-    same-len-mid start size l (results intra (r .filled .n) (r .filled .coefficients) place (widthOf (g .sizes) number) (midOf start size l))
-    (results-length intra (r .filled .n) (r .filled .coefficients) place (widthOf (g .sizes) number) (midOf start size l))
+    let m = macroblockAt (g .sizes .«mb_width») (g .sizes .«mb_height») address in
+    same-len-mid start size l (results intra (r .filled .n) (r .filled .coefficients) (blockPlace m number) (blockWidth m number) (midOf start size l))
+    (results-length intra (r .filled .n) (r .filled .coefficients) (blockPlace m number) (blockWidth m number) (midOf start size l))

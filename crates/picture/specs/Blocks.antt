@@ -1,7 +1,7 @@
 -- RULES 7.16, 6.12, 6.13: the blocks of a macroblock, read and written.
 use mathlib.Core.Bool.{Bool}
 use mathlib.Core.List.{List}
-use Prim.Native.Nat.{ℕ, zero, suc, _-_, _*_, _/_, _%_, _^_}
+use Prim.Native.Nat.{ℕ, zero, suc, _-_, _^_}
 use borrow.Rule.Slice.PartMut.{midOf, putMid}
 use lib.Dec.{eqb, ltb}
 use lib.IntN.{ℤ, pos, natAbs}
@@ -11,34 +11,17 @@ use Rattle.bits.specs.Programs.{Prog, if_then_else_}
 use Rattle.coefficients.specs.Blocks.{Quantiser, Read, quantiser, block, leftOver}
 use Rattle.coefficients.specs.declared.block.BlockEnd.the-variants.{Whole, Dropped, Outside}
 use Rattle.transform.specs.Idct.{idct, dcOnly}
-use Rattle.prediction.specs.declared.planes.Plane.{Plane}
-use Rattle.prediction.specs.declared.planes.Plane.the-variants.{Y, Cr, Cb}
-use Rattle.prediction.specs.Planes.{blockSize, planeLength, planeStart}
-use Rattle.prediction.specs.Writers.{setConst, overwrite, addConst, addBlock, lumaPlace, chromaPlace}
-use Rattle.picture.specs.declared.state.Sizes.{Sizes}
+use Rattle.prediction.specs.Predict.{macroblockAt}
+use Rattle.prediction.specs.Planes.{planeOf, planeLength, planeStart}
+use Rattle.prediction.specs.Writers.{setConst, overwrite, addConst, addBlock, blockWidth, blockPlace}
 use Rattle.picture.specs.declared.state.Slice.{Slice}
 use Rattle.picture.specs.State.{Given, World, world, blockAs}
 use Rattle.picture.specs.Ways.{Way, on, out, leave, onward, plain, step, give, _>>=_, _>>_}
 use Rattle.picture.specs.Heads.{flag}
 
--- RULES 3.1: the plane of block 0 to 5
-abbrev pub planeOf : ℕ → Plane
-planeOf number = if ltb number 4 then Y else (if eqb number 4 then Cb else Cr)
-
 -- RULES 3.1: the place of a block's DC predictor: 0 for Y, 1 for Cb, 2 for Cr
 abbrev pub predictorOf : ℕ → ℕ
 predictorOf number = number - 3
-
--- RULES part 6: the width of that plane in samples
-abbrev pub widthOf : Sizes → ℕ → ℕ
-widthOf z number = z .«mb_width» * blockSize (planeOf number)
-
--- RULES 6.12: where a block is in its plane
-unfoldable pub placeOf : Sizes → ℕ → ℕ → ℕ
-placeOf z address number =
-    let row = address / z .«mb_width» in
-    let column = address % z .«mb_width» in
-    if ltb number 4 then lumaPlace (widthOf z number) row column number else chromaPlace (widthOf z number) row column
 
 -- RULES 4.3, 6.13: the results in a plane: with n = 1 one number everywhere, else the transform; intra replaces, non-intra adds
 unfoldable pub results : Bool → ℕ → List ℤ → ℕ → ℕ → List ℕ → List ℕ
@@ -50,11 +33,12 @@ results intra n c di dw d =
 -- the store with the results of a block that was read whole
 unfoldable pub written : Given → Bool → ℕ → ℕ → Read → List ℕ → List ℕ
 written g intra number address r l =
+    let m = macroblockAt (g .sizes .«mb_width») (g .sizes .«mb_height») address in
     let p = planeOf number in
     let start = planeStart (g .stores .cur) p (g .sizes .«mb_size») in
     let size = planeLength p (g .sizes .«mb_size») in
     let before = midOf start size l in
-    putMid start size l (results intra (r .filled .n) (r .filled .coefficients) (placeOf (g .sizes) address number) (widthOf (g .sizes) number) before)
+    putMid start size l (results intra (r .filled .n) (r .filled .coefficients) (blockPlace m number) (blockWidth m number) before)
 
 -- RULES 3.3, 3.9, 3.12: the predictor and the left-over coefficients behind a block
 abbrev pub behind : ℕ → Read → Slice → Slice

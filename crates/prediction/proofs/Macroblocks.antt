@@ -1,11 +1,13 @@
 -- The planes of a macroblock: where they lie in the lent memory, and how their prediction goes on from one to the next.
 use mathlib.Core.Path.{_≡_, refl, ap, _∙_}
-use mathlib.Core.Bool.{Bool}
+use mathlib.Core.Bool.{Bool, true, false, cond}
 use mathlib.Core.List.{List}
 use mathlib.Core.Logic.{inl, inr}
 use Prim.Native.Nat.{ℕ, zero, suc, _+_, _*_, _/_, _%_, _≤_, _<_}
 use native.Mathlib.Nat.{div-lt-iff-lt-mul, mod-lt, mul-le-mul, mul-le-mul-right}
 use native.Mathlib.Omega.{arith}
+use borrow.Author.Tests.{le-ltb}
+use lib.Dec.{eqb, ltb}
 use lib.IntN.{ℤ, pos, negsuc, natAbs}
 use Rattle.laws.specs.Signed.{half0}
 use Rattle.laws.proofs.Nums.{neg-abs}
@@ -15,9 +17,9 @@ use Rattle.prediction.specs.declared.planes.Plane.{Plane}
 use Rattle.prediction.specs.declared.planes.Plane.the-variants.{Y, Cr, Cb}
 use Rattle.prediction.specs.declared.predict.Predicted.{Predicted}
 use Rattle.prediction.specs.declared.predict.Predicted.the-variants.{Done, Refused}
-use Rattle.prediction.specs.Planes.{macroblocks, blockSize, planeStart, After, inPlane, next, ofStores, predictedPlanes}
+use Rattle.prediction.specs.Planes.{macroblocks, blockSize, planeOf, planeLength, planeStart, After, inPlane, next, ofStores, predictedPlanes}
 use Rattle.prediction.specs.Predict.{Inside, Placed, macroblockAt, blockOf, bytes, chroma}
-use Rattle.prediction.specs.Writers.{lumaPlace, chromaPlace}
+use Rattle.prediction.specs.Writers.{lumaPlace, chromaPlace, blockWidth, blockPlace}
 use Rattle.prediction.proofs.Places.{at-place, block-in}
 
 -- a picture with an address has a macroblock across
@@ -61,6 +63,46 @@ module _ {m : Macroblock} (i : Inside m) where
 
   pub chroma-in : chromaPlace (m .across * 8) (m .row) (m .column) + 7 * (m .across * 8) + 8 ≤ 64 * macroblocks m
   chroma-in = omega (arith, block-in (placed Cr))
+
+-- the side of a macroblock's block in a plane
+pub size-least : (q : Plane) → 8 ≤ blockSize q
+size-least Y = omega arith
+size-least Cr = omega arith
+size-least Cb = omega arith
+
+pub size-most : (q : Plane) → blockSize q ≤ 16
+size-most Y = omega arith
+size-most Cr = omega arith
+size-most Cb = omega arith
+
+pub length-most : (q : Plane) (n : ℕ) → planeLength q n ≤ 256 * n
+length-most q n = mul-le-mul-right n (mul-le-mul (size-most q) (size-most q))
+
+-- block 0 to 5 lies in its plane
+module _ {m : Macroblock} (i : Inside m) (number : ℕ) where
+  pub width-least : 8 ≤ blockWidth m number
+  width-least = let h : 1 ≤ m .across = omega (arith, i .column) in mul-le-mul h (size-least (planeOf number))
+
+  pub width-most : blockWidth m number ≤ 4096
+  width-most = mul-le-mul (i .across) (size-most (planeOf number))
+
+  pub place-in : blockPlace m number + 7 * blockWidth m number + 8 ≤ planeLength (planeOf number) (macroblocks m)
+  unfolding blockPlace
+  place-in = go (ltb number 4) (eqb number 4)
+    where
+      go : (luma : Bool) (cb : Bool) → let q = cond luma Y (cond cb Cb Cr) in let w = m .across * blockSize q in
+          cond luma (lumaPlace w (m .row) (m .column) number) (chromaPlace w (m .row) (m .column)) + 7 * w + 8 ≤ planeLength q (macroblocks m)
+      go true cb = luma-in i number
+      go false true = chroma-in i
+      go false false = chroma-in i
+
+  -- the width of a plane of Cr or Cb
+  pub chroma-width : 4 ≤ number → blockWidth m number ≡ m .across * 8
+  chroma-width h = rw (le-ltb number 4 h) (go (eqb number 4))
+    where
+      go : (cb : Bool) → m .across * blockSize (cond cb Cb Cr) ≡ m .across * 8
+      go true = refl
+      go false = refl
 
 pub plane-in : (m : Macroblock) (q : Plane) (k : ℕ) → k < 3 → planeStart k q (macroblocks m) + bytes (blockOf m (blockSize q)) ≤ 1152 * macroblocks m
 plane-in m Y k h = omega (arith, store-most k (macroblocks m) h)

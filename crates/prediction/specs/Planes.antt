@@ -1,8 +1,9 @@
 -- RULES 6.10, 6.11: the three stores, the planes of each, and the prediction of a macroblock's planes.
-use mathlib.Core.Bool.{Bool}
+use mathlib.Core.Bool.{Bool, cond}
 use mathlib.Core.List.{List}
 use Prim.Native.Nat.{ℕ, _+_, _*_}
 use borrow.Rule.Slice.PartMut.{midOf, putMid}
+use lib.Dec.{eqb, ltb}
 use lib.IntN.{ℤ}
 use Rattle.prediction.specs.declared.place.Macroblock.{Macroblock}
 use Rattle.prediction.specs.declared.place.Place.{Place}
@@ -23,6 +24,10 @@ abbrev pub blockSize : Plane → ℕ
 blockSize Y = 16
 blockSize Cr = 8
 blockSize Cb = 8
+
+-- RULES 3.1: the plane of block 0 to 5 of a macroblock
+abbrev pub planeOf : ℕ → Plane
+planeOf number = cond (ltb number 4) Y (cond (eqb number 4) Cb Cr)
 
 -- where a plane begins within its store, for so many macroblocks
 abbrev pub offset : Plane → ℕ → ℕ

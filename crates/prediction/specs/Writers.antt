@@ -1,10 +1,14 @@
 -- RULES 6.12, 6.13: the results of a block written at its place.
+use mathlib.Core.Bool.{cond}
 use mathlib.Core.List.{List}
 use Prim.Native.Nat.{ℕ, _+_, _*_, _/_, _%_}
+use lib.Dec.{ltb}
 use lib.IntN.{ℤ, pos, _+ℤ_}
 use lib.ListN.{getD}
 use Rattle.laws.specs.Signed.{clamp255}
 use Rattle.laws.specs.Stores.{storeRows}
+use Rattle.prediction.specs.declared.place.Macroblock.{Macroblock}
+use Rattle.prediction.specs.Planes.{blockSize, planeOf}
 
 -- one byte everywhere
 unfoldable pub setConst : List ℕ → ℕ → ℕ → ℕ → List ℕ
@@ -29,3 +33,12 @@ lumaPlace dw row column block = (row * 16 + block / 2 % 2 * 8) * dw + column * 1
 -- the place of block 4 or 5 in its plane, of width dw
 abbrev pub chromaPlace : ℕ → ℕ → ℕ → ℕ
 chromaPlace dw row column = row * 8 * dw + column * 8
+
+-- RULES 3.1: the width of the plane of block 0 to 5
+abbrev pub blockWidth : Macroblock → ℕ → ℕ
+blockWidth m number = m .across * blockSize (planeOf number)
+
+-- RULES 6.12: the place of block 0 to 5 in its plane
+unfoldable pub blockPlace : Macroblock → ℕ → ℕ
+blockPlace m number =
+    cond (ltb number 4) (lumaPlace (blockWidth m number) (m .row) (m .column) number) (chromaPlace (blockWidth m number) (m .row) (m .column))

@@ -1,7 +1,7 @@
 // The planes of a store: Y, Cr and Cb one after the other, by rows (RULES 6.11).
 ghost use mathlib.Core.Path.{_≡_};
 ghost use Prim.Native.Nat.{_≤_, _<_};
-ghost use Rattle.prediction.specs.Planes.{blockSize, planeLength, planeStart};
+ghost use Rattle.prediction.specs.Planes.{blockSize, planeOf, planeLength, planeStart};
 
 pub enum Plane {
     Y,
@@ -18,6 +18,19 @@ pub fn block_size(q: Plane) -> usize
         Plane::Cr => 8,
         Plane::Cb => 8,
     }
+}
+
+// The plane of block 0 to 5 of a macroblock.
+pub fn plane_of(number: usize) -> Plane
+    ensures { λ r. ⌜ r ≡ planeOf number ⌝ }
+{
+    if number < 4 {
+        return Plane::Y;
+    }
+    if number == 4 {
+        return Plane::Cb;
+    }
+    Plane::Cr
 }
 
 // Bytes of the plane, for n macroblocks.

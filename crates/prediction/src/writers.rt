@@ -1,5 +1,7 @@
 // The results of a block, and the place in its plane at which they are written (RULES 6.12, 6.13).
 use crate::place::Macroblock;
+use crate::planes::block_size;
+use crate::planes::plane_of;
 use crate::rows::put_eight;
 use laws::clamp_u8;
 ghost use mathlib.Core.Path.{_≡_};
@@ -8,10 +10,10 @@ ghost use lib.IntN.{pos, natAbs, _+ℤ_};
 ghost use lib.ListN.{length, getD};
 ghost use Rattle.laws.specs.Signed.{clamp255};
 ghost use Rattle.laws.specs.Stores.{storeRow};
-ghost use Rattle.prediction.specs.Planes.{macroblocks};
+ghost use Rattle.prediction.specs.Planes.{macroblocks, planeOf, planeLength};
 ghost use Rattle.prediction.specs.Predict.{Inside};
 ghost use Rattle.laws.specs.Sizes.{Narrow};
-ghost use Rattle.prediction.specs.Writers.{lumaPlace, chromaPlace, setConst, overwrite, addConst, addBlock};
+ghost use Rattle.prediction.specs.Writers.{lumaPlace, chromaPlace, blockWidth, blockPlace, setConst, overwrite, addConst, addBlock};
 
 // A result as a byte.
 fn clamped(s: &[i32; 64], k: usize) -> u8
@@ -153,7 +155,7 @@ pub fn block_set_add(d: &mut [u8], di: usize, dw: usize, s: &[i32; 64])
 }
 
 // The place of block 0, 1, 2 or 3 in the plane Y.
-pub fn luma_place(m: Macroblock, block: usize) -> usize
+fn luma_place(m: Macroblock, block: usize) -> usize
     requires { ⌜ Inside m ⌝ }
     requires { ⌜ block < 4 ⌝ }
     ensures is { λ r. ⌜ r ≡ lumaPlace (m .across * 16) (m .row) (m .column) block ⌝ }
@@ -171,4 +173,25 @@ pub fn chroma_place(m: Macroblock) -> usize
 {
     let dw = m.across * 8;
     m.row * 8 * dw + m.column * 8
+}
+
+// The width of the plane of block 0 to 5.
+pub fn block_width(m: Macroblock, number: usize) -> usize
+    requires { ⌜ Inside m ⌝ }
+    ensures is { λ r. ⌜ r ≡ blockWidth m number ⌝ }
+    ensures wide { λ r. ⌜ 8 ≤ r ⌝ }
+{
+    m.across * block_size(plane_of(number))
+}
+
+// The place of block 0 to 5 in its plane.
+pub fn block_place(m: Macroblock, number: usize) -> usize
+    requires { ⌜ Inside m ⌝ }
+    ensures is { λ r. ⌜ r ≡ blockPlace m number ⌝ }
+    ensures inside { λ r. ⌜ r + 7 * blockWidth m number + 8 ≤ planeLength (planeOf number) (macroblocks m) ⌝ }
+{
+    if number < 4 {
+        return luma_place(m, number);
+    }
+    chroma_place(m)
 }

@@ -3,8 +3,8 @@ use Prim.Native.Nat.{_+_, _*_, _≤_}
 use native.Mathlib.Omega.{arith}
 use Rattle.prediction.specs.Planes.{macroblocks, blockSize, planeStart}
 use Rattle.prediction.specs.Predict.{blockOf, address}
-use Rattle.prediction.proofs.Macroblocks.{count-most, placed}
-use Rattle.block_lists.proofs.Macroblocks.{place-fits, block-most, row-most}
+use Rattle.prediction.proofs.Macroblocks.{count-most, placed, size-most}
+use Rattle.block_lists.proofs.Macroblocks.{place-fits, row-most}
 use borrow.Author.Needs.{needs}
 use Rattle.block_lists.proofs.macroblock_list.lay_in.Statement.{statement}
 use Rattle.block_lists.proofs.macroblock_list.lay_in.Tie as tie
@@ -40,7 +40,7 @@ mul-lay-over c =
 cast-lay-over : tie.Need-cast-lay-over
 cast-lay-over c =
     let z = c .before .before .before .before .before .before in
-    omega (arith, block-most (z .before .before .before .args .q), z .block-size .ensures)
+    omega (arith, size-most (z .before .before .before .args .q), z .block-size .ensures)
 
 returns : tie.Need-returns
 returns c =

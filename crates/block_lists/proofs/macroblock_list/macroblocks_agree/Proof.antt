@@ -7,10 +7,10 @@ use borrow.Author.Needs.{needs, sfits-of}
 use Rattle.block_lists.proofs.macroblock_list.macroblocks_agree.Statement.{statement}
 use Rattle.block_lists.proofs.macroblock_list.macroblocks_agree.Tie as tie
 
-read : (c : tie.After-number-at5) → Reads (c .before .before .before .before .before .before .before .macroblock-at .result) (c .before .before .before .before .before .before .number-at .result) (c .before .before .before .before .before .number-at2 .result) (toZ w32 (ofZ w32 (c .before .before .before .signed .result))) (toZ w32 (ofZ w32 (c .before .signed2 .result))) (c .number-at5 .result) (c .before .before .before .before .before .before .before .before .before .args .case .now)
+read : (c : tie.After-number-at5) → Reads (c .before .before .before .before .before .before .before .listed-macroblock .result) (c .before .before .before .before .before .before .number-at .result) (c .before .before .before .before .before .number-at2 .result) (toZ w32 (ofZ w32 (c .before .before .before .signed .result))) (toZ w32 (ofZ w32 (c .before .signed2 .result))) (c .number-at5 .result) (c .before .before .before .before .before .before .before .before .before .args .case .now)
 read c =
     record {
-      macroblock = c .before .before .before .before .before .before .before .macroblock-at .ensures;
+      macroblock = c .before .before .before .before .before .before .before .listed-macroblock .ensures;
       from-is = c .before .before .before .before .before .before .number-at .ensures;
       to-is = c .before .before .before .before .before .number-at2 .ensures;
       h-is = toZ-ofZ {w = w32} (sfits-of (c .before .before .before .signed .ok)) ∙ c .before .before .before .signed .ensures ∙ ap (toZ w32) (c .before .before .before .before .number-at3 .ensures);

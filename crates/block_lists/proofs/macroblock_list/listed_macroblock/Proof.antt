@@ -1,12 +1,12 @@
 use borrow.Author.Needs.{needs}
-use Rattle.block_lists.proofs.macroblock_list.macroblock_at.Statement.{statement}
-use Rattle.block_lists.proofs.macroblock_list.macroblock_at.Tie as tie
+use Rattle.block_lists.proofs.macroblock_list.listed_macroblock.Statement.{statement}
+use Rattle.block_lists.proofs.macroblock_list.listed_macroblock.Tie as tie
 
 returns : tie.Need-returns
 returns c = rw (c .before .before .before .number-at .ensures, c .before .before .number-at2 .ensures, c .before .number-at3 .ensures, c .number-at4 .ensures)
 
-pub macroblock-at-spec : {M : Type 1} → statement M
-macroblock-at-spec =
+pub listed-macroblock-spec : {M : Type 1} → statement M
+listed-macroblock-spec =
     tie.close
     (tie.spec
     (λ c κs. search needs)
