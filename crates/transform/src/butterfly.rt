@@ -45,23 +45,15 @@ pub fn butterfly(a: Eight) -> Eight
     let y5 = x1 - x2;
     let y6 = x3 - b3;
     let y7 = -x0 - ((b4 * 473 + b6 * 196 + 128) >> 8);
-    let o0 = b7 + y4;
-    let o1 = x4 + y3;
-    let o2 = y5 - x0;
-    let o3 = y6 - y7;
-    let o4 = y6 + y7;
-    let o5 = x0 + y5;
-    let o6 = y3 - x4;
-    let o7 = y4 - b7;
     Eight {
-        v0: o0,
-        v1: o1,
-        v2: o2,
-        v3: o3,
-        v4: o4,
-        v5: o5,
-        v6: o6,
-        v7: o7,
+        v0: b7 + y4,
+        v1: x4 + y3,
+        v2: y5 - x0,
+        v3: y6 - y7,
+        v4: y6 + y7,
+        v5: x0 + y5,
+        v6: y3 - x4,
+        v7: y4 - b7,
     }
 }
 
