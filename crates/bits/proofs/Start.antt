@@ -8,7 +8,6 @@ use native.Mathlib.Nat.{eq-or-lt-of-le}
 use native.Mathlib.Omega.{arith}
 use lib.ListN.{length, getD}
 use lib.IntN.{ℤ, pos, negsuc}
-use borrow.Author.Tests.{eq-eqb, ne-eqb}
 use Rattle.laws.proofs.Tests.{by-case}
 use Rattle.bits.specs.Bits.{Found, codePrefix, codeFrom, found, boundary}
 
@@ -76,29 +75,16 @@ pub found-on-by-one : (s : List ℕ) (b : ℕ) → b + 5 ≤ length s → codePr
 unfolding codeFrom
 found-on-by-one s b h p = rw (left (length s) b h) (simp p)
 
-pub found-here : (s : List ℕ) (b : ℕ) → b + 5 ≤ length s → getD s b 0 ≡ 0 → getD s (b + 1) 0 ≡ 0 → getD s (b + 2) 0 ≡ 1
+pub found-here : (s : List ℕ) (b : ℕ) → b + 5 ≤ length s → codePrefix s b ≡ true
     → codeFrom s b (length s - 4 - b) ≡ record { code = pos (getD s (b + 3) 0); at = (b + 4) * 8 }
-unfolding codeFrom codePrefix
-found-here s b h p q r = rw (left (length s) b h) (simp (eq-eqb _ _ p, eq-eqb _ _ q, eq-eqb _ _ r))
+unfolding codeFrom
+found-here s b h p = rw (left (length s) b h) (simp p)
 
 -- a search that has come from the byte of the next boundary to the byte b, and there ends with f
 pub found-by : (s : List ℕ) (a c b : ℕ) {f : Found} → c ≡ boundary a → codeFrom s c (length s - 4 - c) ≡ codeFrom s b (length s - 4 - b)
     → codeFrom s b (length s - 4 - b) ≡ f → found s a ≡ f
 unfolding found
 found-by s a c b e p q = ap (λ (k : ℕ). codeFrom s k (length s - 4 - k)) (sym e) ∙ p ∙ q
-
--- no start code begins at b where one of its first three bytes is another
-pub not-first : (s : List ℕ) (b : ℕ) → (getD s b 0 ≡ 0 → ⊥) → codePrefix s b ≡ false
-unfolding codePrefix
-not-first s b n = simp (ne-eqb _ _ n)
-
-pub not-second : (s : List ℕ) (b : ℕ) → getD s b 0 ≡ 0 → (getD s (b + 1) 0 ≡ 0 → ⊥) → codePrefix s b ≡ false
-unfolding codePrefix
-not-second s b p n = simp (eq-eqb _ _ p, ne-eqb _ _ n)
-
-pub not-third : (s : List ℕ) (b : ℕ) → getD s b 0 ≡ 0 → getD s (b + 1) 0 ≡ 0 → (getD s (b + 2) 0 ≡ 1 → ⊥) → codePrefix s b ≡ false
-unfolding codePrefix
-not-third s b p q n = simp (eq-eqb _ _ p, eq-eqb _ _ q, ne-eqb _ _ n)
 
 -- the first start code from the byte b on begins at p
 pub record First (s : List ℕ) (b p : ℕ) : Type 0 where

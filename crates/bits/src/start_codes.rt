@@ -3,9 +3,10 @@ use crate::position::BytePosition;
 use crate::position::bit_of;
 use crate::reader::Reader;
 ghost use mathlib.Core.Path.{_≡_};
-ghost use Prim.Native.Nat.{_≤_};
+ghost use Prim.Native.Nat.{_+_, _≤_};
 ghost use lib.ListN.{length};
 ghost use lib.IntN.{natAbs};
+ghost use Rattle.bits.specs.Bits.{codePrefix};
 ghost use Rattle.bits.specs.Programs.{nextStartCode, findStartCode, run};
 ghost use Rattle.bits.specs.Runs.{Runs};
 
@@ -13,6 +14,14 @@ ghost use Rattle.bits.specs.Runs.{Runs};
 pub struct StartCode {
     pub reader: Reader,
     pub code: i32,
+}
+
+// RULES 1.9: whether 00 00 01, with which a start code begins, stands at the byte b.
+fn has_prefix(s: &[u8], b: usize) -> bool
+    requires { ⌜ b + 3 ≤ length (now s) ⌝ }
+    ensures { λ r. ⌜ r ≡ codePrefix (now (s .entry)) b ⌝ }
+{
+    s[b] == 0 && s[b + 1] == 0 && s[b + 2] == 1
 }
 
 impl Reader {
@@ -25,17 +34,13 @@ impl Reader {
     {
         let mut b = self.align().tell().at.0;
         while b + 5 <= s.len() {
-            if s[b] == 0 {
-                if s[b + 1] == 0 {
-                    if s[b + 2] == 1 {
-                        return StartCode {
-                            reader: Reader {
-                                at: bit_of(BytePosition(b + 4)),
-                            },
-                            code: s[b + 3] as i32,
-                        };
-                    }
-                }
+            if has_prefix(s, b) {
+                return StartCode {
+                    reader: Reader {
+                        at: bit_of(BytePosition(b + 4)),
+                    },
+                    code: s[b + 3] as i32,
+                };
             }
             b += 1;
         }

@@ -8,7 +8,7 @@ use lib.Dec.{eqb, leb}
 use lib.IntN.{ℤ, pos}
 use lib.ListN.{length}
 use borrow.Author.Tests.{le-leb}
-use Rattle.bits.specs.Bits.{found, codeFrom}
+use Rattle.bits.specs.Bits.{found, codeFrom, codePrefix}
 use Rattle.bits.specs.Programs.{Out, run, bind, loop, findTurn, findStartCode}
 use Rattle.bits.specs.Runs.{Runs}
 use Rattle.bits.proofs.Start.{found-here}
@@ -34,8 +34,8 @@ abbrev pub behind : Decoder
 behind = searchedAs (pos 0xb3) 32 fresh
 
 found-first : (t : List ℕ) → 1 ≤ length t → found (begins t) 0 ≡ record { code = pos 0xb3; at = 32 }
-unfolding found
-found-first t h = found-here (begins t) 0 (omega arith) refl refl refl
+unfolding found codePrefix
+found-first t h = found-here (begins t) 0 (omega arith) refl
 
 seeks : (t : List ℕ) → 1 ≤ length t → Runs (findStartCode (pos 0xb3)) (begins t) 0 (pos 0xb3) 32
 unfolding findStartCode findTurn

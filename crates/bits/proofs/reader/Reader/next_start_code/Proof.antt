@@ -1,7 +1,5 @@
 -- The loop's invariant: the search from b on gives what the search from the next byte boundary on gives.
-use mathlib.Core.Path.{_≡_, refl, _∙_}
-use mathlib.Core.Bool.{false}
-use mathlib.Core.Logic.{⊎-elim}
+use mathlib.Core.Path.{_≡_, refl, sym, _∙_}
 use Prim.Native.Nat.{_+_, _≤_, _-_}
 use native.Mathlib.Omega.{arith}
 use lib.ListN.{length, getD}
@@ -9,9 +7,9 @@ use mir.Syntax.{w32}
 use mir.ValLaws.{toZ-pos}
 use denote.Ref.{now}
 use borrow.Author.Needs.{needs}
-use Rattle.bits.specs.Bits.{codeFrom, codePrefix}
+use Rattle.bits.specs.Bits.{codeFrom}
 use Rattle.bits.proofs.Rules.{is-start}
-use Rattle.bits.proofs.Start.{found-by, found-here, found-end, found-on-by-one, not-first, not-second, not-third}
+use Rattle.bits.proofs.Start.{found-by, found-here, found-end, found-on-by-one}
 use Rattle.bits.proofs.reader.Reader.next_start_code.Statement.{statement}
 use Rattle.bits.proofs.reader.Reader.next_start_code.Tie as tie
 
@@ -24,37 +22,33 @@ abbrev μ-loop : tie.MeasureT-loop
 loop-holds : tie.Need-loop-holds Inv-loop μ-loop
 loop-holds c = (omega arith, refl)
 
-cast-t26 : tie.Need-cast-t26 Inv-loop μ-loop
-cast-t26 c = record { sfits = omega (arith, c .shared-slice-known5 .given (c .before .before .before .before .before .before .before .before .before .loop .b + 3)) }
+cast-t17 : tie.Need-cast-t17 Inv-loop μ-loop
+cast-t17 c = record { sfits = omega (arith, c .shared-slice-known2 .given (c .before .before .before .before .before .loop .b + 3)) }
 
 returns : tie.Need-returns Inv-loop μ-loop
 returns c =
-    let x = c .before .before .before .before .before .before .before .before in
-    let b = x .before .loop .b in
-    let s = now (x .before .before .before .before .before .args .s) in
-    let bytes =
-    found-here s b (x .loop-test .taken) (c .before .before .before .before .before .before .if1 .taken) (c .before .before .before .before .if2 .taken)
-    (c .before .before .if3 .taken)
-    in
-    let e = found-by s (x .before .before .before .before .before .args .self .at .0) _ b (omega arith) (x .before .loop .inv .1) bytes in
-    rw (toZ-pos w32 (getD s (b + 3) 0) (omega (arith, c .shared-slice-known5 .given (b + 3))))
-    (is-start (rw (c .before .bit-of .ensures) e), (omega arith, omega (arith, c .shared-slice-known5 .given (b + 3))))
+    let p = c .before .before .before in
+    let x = p .before .before in
+    let b = x .loop .b in
+    let s = now (x .before .before .before .before .args .s) in
+    let here = found-here s b (p .before .loop-test .taken) (sym (p .has-prefix .ensures) ∙ c .before .before .if1 .taken) in
+    let e = found-by s (x .before .before .before .before .args .self .at .0) _ b (omega arith) (x .loop .inv .1) here in
+    rw (toZ-pos w32 (getD s (b + 3) 0) (omega (arith, c .shared-slice-known2 .given (b + 3))))
+    (is-start (rw (c .before .bit-of .ensures) e), (omega arith, omega (arith, c .shared-slice-known2 .given (b + 3))))
 
 loop-again : tie.Need-loop-again Inv-loop μ-loop
 loop-again c =
-    let b = c .before .before .before .loop .b in
-    let s = now (c .before .before .before .before .before .before .before .args .s) in
-    let no : codePrefix s b ≡ false =
-    ⊎-elim (λ w. not-third s b (w .0 .taken) (w .2 .taken) (w .4 .left))
-    (⊎-elim (λ w. not-second s b (w .0 .taken) (w .2 .left)) (λ w. not-first s b (w .left))) (c .if1 .came)
-    in
-    (omega arith, c .before .before .before .loop .inv .1 ∙ found-on-by-one s b (c .before .before .loop-test .taken) no)
+    let p = c .before in
+    let x = p .before .before in
+    let s = now (x .before .before .before .before .args .s) in
+    (omega arith, x .loop .inv .1 ∙ found-on-by-one s (x .loop .b) (p .before .loop-test .taken) (sym (p .has-prefix .ensures) ∙ c .if1 .left))
 
 returns-2 : tie.Need-returns-2 Inv-loop μ-loop
 returns-2 c =
     let x = c .before .before in
     let s = now (x .before .before .before .before .args .s) in
-    let e = found-by s (x .before .before .before .before .args .self .at .0) _ (x .loop .b) (omega arith) (x .loop .inv .1) (found-end s (x .loop .b) (c .before .loop-test .left)) in
+    let end = found-end s (x .loop .b) (c .before .loop-test .left) in
+    let e = found-by s (x .before .before .before .before .args .self .at .0) _ (x .loop .b) (omega arith) (x .loop .inv .1) end in
     (is-start (rw (c .bit-of2 .ensures) e), (omega arith, omega arith))
 
 pub next-start-code-spec : {M : Type 1} → statement M
@@ -67,16 +61,12 @@ next-start-code-spec =
     (λ c κs. search needs)
     loop-holds
     (λ c. search needs)
-    (λ c. search needs)
-    (λ c. search needs)
-    (λ c. search needs)
-    (λ c. search needs)
-    (λ c. search needs)
+    (λ c κs. search needs)
     (λ c. search needs)
     (λ c κs. search needs)
     (λ c. search needs)
     (λ c. search needs)
-    cast-t26
+    cast-t17
     returns
     (λ c. search needs)
     (λ c. search needs)
