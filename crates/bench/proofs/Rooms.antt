@@ -1,15 +1,16 @@
 -- Room for the loops over planes, and their turns.
-use mathlib.Core.Path.{_≡_, sym, ap, _∙_, subst}
+use mathlib.Core.Path.{_≡_, sym, ap, _∙_}
 use mathlib.Core.Bool.{Bool, true, false, _&&_}
-use mathlib.Core.List.{List}
+use mathlib.Core.List.{List, [], _∷_}
 use Prim.Native.Nat.{ℕ, _+_, _*_, _≤_}
 use native.Mathlib.Nat.{mul-le-mul}
 use native.Mathlib.Numerals.{add-one}
 use native.Mathlib.Omega.{arith}
-use lib.Dec.{T, leb, leb→le}
+use borrow.Author.Tests.{leb-true}
 use lib.IntN.{ℤ, natAbs}
-use mir.Facts.{and-yes, toZ-ofZ}
+use mir.Facts.{toZ-ofZ}
 use mir.Syntax.{w32}
+use Rattle.laws.proofs.Tests.{each}
 use Rattle.laws.proofs.Ints.{reread, v, abs-of, fits-by}
 use Rattle.prediction.specs.declared.place.Macroblock.{Macroblock}
 use Rattle.prediction.specs.declared.planes.Plane.the-variants.{Y, Cr}
@@ -27,11 +28,8 @@ pub record Room (across down unit size : ℕ) : Type 0 where
 pub room-yes : (across down unit size : ℕ) → room across down unit size ≡ true → Room across down unit size
 unfolding room
 room-yes across down unit size e =
-    let x = and-yes (leb 1 across && leb across 256 && leb down 256 && leb unit 1152) (leb (across * down * unit) size) (subst T (sym e) tt) in
-    let u = and-yes (leb 1 across && leb across 256 && leb down 256) (leb unit 1152) (x .0) in
-    let y = and-yes (leb 1 across && leb across 256) (leb down 256) (u .0) in
-    let z = and-yes (leb 1 across) (leb across 256) (y .0) in
-    record { some = leb→le _ _ (z .0); wide = leb→le _ _ (z .1); high = leb→le _ _ (y .1); enough = leb→le _ _ (x .1) }
+    let t = each _ (_ ∷ _ ∷ _ ∷ _ ∷ []) e in
+    record { some = leb-true _ _ (t 0); wide = leb-true _ _ (t 1); high = leb-true _ _ (t 2); enough = leb-true _ _ (t 4) }
 
 -- two tests: the first fails, or the second tells
 pub no-first : {a r : Bool} (b : Bool) → r ≡ a → r ≡ false → false ≡ (a && b)

@@ -1,7 +1,7 @@
 -- The fuel `many` of a picture's loops is enough: each turn that goes on takes a bit of the stream, so that more fuel, and what a loop would give with its
 -- fuel spent, change nothing. Assumes nothing.
 use mathlib.Core.Path.{_≡_, refl, ap, sym, _∙_}
-use mathlib.Core.Bool.{Bool, true, false, not, _&&_, false≢true, and-eq-true-iff}
+use mathlib.Core.Bool.{Bool, true, false, not, _&&_, false≢true}
 use mathlib.Core.List.{List}
 use Prim.Native.Nat.{ℕ, suc, _-_, _*_, _≤_, _<_}
 use native.Mathlib.Nat.{le-trans, lt-of-lt-of-le}
@@ -14,7 +14,7 @@ use Rattle.laws.specs.Turns.{Turn, again, stop}
 use Rattle.bits.specs.Bits.{Found, boundary, has, got, next, found}
 use Rattle.bits.specs.Programs.{Prog, bind, eqZ, loop, many, run, turn}
 use Rattle.bits.proofs.Fuel.{loop-enough-fuel}
-use Rattle.laws.proofs.Tests.{by-case}
+use Rattle.laws.proofs.Tests.{by-case, both}
 use Rattle.bits.proofs.Programs.{run-bind, run-on, next-le, got-served}
 use Rattle.bits.proofs.Rules.{loop-suc}
 use Rattle.bits.proofs.Start.{Searched, first, none, found-is-first}
@@ -68,7 +68,7 @@ increment-takes s sum a =
     let served : (k : ℕ) → eqb 0 k ≡ false → eqZ c (pos k) ≡ true → (a < e) × (a < length s * 8) =
     λ k z q. let l = code-served s a (λ i. false≢true (sym z ∙ sym (ap (λ (x : ℤ). eqZ x (pos k)) i) ∙ q)) in (code-takes s a l, l) in
     rw (run-bind macroblockAddressIncrement _ s a)
-    (by-case Ends (eqZ c (pos 34) && eqb sum 0) (λ q. served 34 refl (and-eq-true-iff _ _ .0 q .0)) (λ q. by-case Ends (eqZ c (pos 35)) (λ q. served 35 refl q) (λ q. tt)))
+    (by-case Ends (eqZ c (pos 34) && eqb sum 0) (λ q. served 34 refl (both _ _ q .0)) (λ q. by-case Ends (eqZ c (pos 35)) (λ q. served 35 refl q) (λ q. tt)))
 
 -- RULES 7.7
 pub increment-fuel : (s : List ℕ) → length s ≤ 16777216 → (n : ℕ) → many ≤ n → (d a : ℕ) → run (loop n incrementTurn d 0) s a ≡ run increment s a
@@ -106,7 +106,7 @@ past-takes g s a (out n l) e h k = tt
 past-takes g s a (on w) e h k =
     let Ends : Prog (Turn Slicing (Way World)) → Type 0 = λ p. Takes (length s * 8) a (run p s e .value) (run p s e .at) in
     by-case Ends (isLast g w) (λ q. tt) (λ q.
-    by-case Ends (has s e 23 && not (eqb (got s e 23) 0)) (λ q. let i = leb-true 23 (length s * 8 - e) (and-eq-true-iff _ _ .0 q .0) in (k (omega arith), omega arith)) (λ q. tt))
+    by-case Ends (has s e 23 && not (eqb (got s e 23) 0)) (λ q. let i = leb-true 23 (length s * 8 - e) (both _ _ q .0) in (k (omega arith), omega arith)) (λ q. tt))
 
 slice-takes : (g : Given) (s : List ℕ) (x : Slicing) (a : ℕ) → Takes (length s * 8) a (run (sliceTurn g x) s a .value) (run (sliceTurn g x) s a .at)
 unfolding sliceTurn
@@ -138,7 +138,7 @@ slices-take g s x a =
     let p = startCodeAs c (x .frame .picture) in
     let o = run (bind (slice g (natAbs c) (world (p .slice) (x .frame .store))) (P.pastSlice g p)) s e in
     takes (length s * 8) a (o .value) (o .at) (lt-of-lt-of-le (f .0) (run-on (bind (slice g (natAbs c) (world (p .slice) (x .frame .store))) (P.pastSlice g p)) s e)) (f .1)) (λ q.
-    by-case Ends (P.isExtra c && not (x .begun)) (λ q. found-takes s a (λ z. false≢true (sym (ap P.isExtra z) ∙ and-eq-true-iff _ _ .0 q .0))) (λ q. tt))
+    by-case Ends (P.isExtra c && not (x .begun)) (λ q. found-takes s a (λ z. false≢true (sym (ap P.isExtra z) ∙ both _ _ q .0))) (λ q. tt))
 
 -- RULES 7.3
 pub slices-fuel : (g : Given) (s : List ℕ) → length s ≤ 16777216 → (n : ℕ) → many ≤ n → (d : Way P.Frame) (f : P.Frame) (a : ℕ)

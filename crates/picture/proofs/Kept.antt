@@ -1,7 +1,7 @@
 -- RULES Q8, Q9, QG: what a picture leaves. It leaves early with no number but 8 and 9, the store stays as long as it was, and a possible state stays
 -- possible. Assumes nothing.
 use mathlib.Core.Path.{_≡_, refl, sym, ap, _∙_, subst}
-use mathlib.Core.Bool.{Bool, true, false, not, _&&_, false≢true, and-eq-true-iff}
+use mathlib.Core.Bool.{Bool, true, false, not, _&&_, false≢true}
 use mathlib.Core.List.{List}
 use mathlib.Core.Logic.{_⊎_, inl, inr}
 use Prim.Native.Nat.{ℕ, zero, suc, _+_, _-_, _*_, _^_, _≤_, _<_}
@@ -17,7 +17,7 @@ use lib.Signed.{leZ}
 use Rattle.laws.proofs.Ints.{up, dn, v, lit, _⊕_, _⊖_, le-no, le-yes, abs-by}
 use Rattle.bits.specs.Programs.{Prog, nonZero, many, run}
 use Rattle.bits.proofs.Gives.{Gives, Turned, g-done, g-any, g-bind, g-if, g-loop, g-bits, g-start, g-as, g-when}
-use Rattle.laws.proofs.Tests.{by-case}
+use Rattle.laws.proofs.Tests.{by-case, both}
 use Rattle.coefficients.specs.Dcs.{dcInside}
 use Rattle.coefficients.specs.Blocks as Block
 use Rattle.coefficients.specs.declared.block.BlockEnd.{BlockEnd}
@@ -267,7 +267,7 @@ module _ (H : Type 0) {s : List ℕ} (n : ℕ) (g : Given) (c : Reading H s (g .
 
 number-most : (k : ℤ) → P.isSlice k ≡ true → natAbs k ≤ 175
 number-most k e =
-    let b = and-eq-true-iff _ _ .0 e in
+    let b = both _ _ e in
     let low = le-yes (lit 1) (v k) (b .0) in
     let high = le-yes (v k) (lit 175) (b .1) in
     abs-by 175 (v k) (omega arith) (omega arith)
