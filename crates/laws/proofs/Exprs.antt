@@ -1,7 +1,7 @@
 -- Straight-line signed code by reflection, at a width w. `Exp` is an expression over numbered inputs. `eval` is its number, `stored` the bits of the
 -- local that the machine sets to it, `term` what the machine reads of that local, `raw` the result of its last operation before it is stored, `bound`
 -- a numeral that |eval| keeps to, and `ok` computes that no step leaves the width. One proof: where `ok`, the machine's term is the number.
-use mathlib.Core.Path.{_≡_, refl, ap, ap₂, _∙_}
+use mathlib.Core.Path.{_≡_, refl, sym, ap, ap₂, _∙_}
 use mathlib.Core.Bool.{Bool, _&&_}
 use mathlib.Core.List.{List, [], _∷_}
 use Prim.Native.Nat.{ℕ, zero, suc, _+_, _*_, _-_, _/_, _%_, _^_, _≤_, zero-le}
@@ -163,6 +163,6 @@ module _ {w : Width} (ρ : List (Input w)) where
   pub eval-fits : (e : Exp) → T (ok e) → SFits w (eval e)
   eval-fits e t = fits w (num (within e t)) (sound e t .small)
 
-  -- a test of two locals is the test of their numbers
-  pub test : (d e : Exp) → T (ok d) → T (ok e) → ltZ (term d) (term e) ≡ ltZ (eval d) (eval e)
-  test d e t u = ap₂ ltZ (value d t) (value e u)
+  -- what a test of two locals gives, the test of their numbers gives
+  pub test : (d e : Exp) → T (ok d) → T (ok e) → {b : Bool} → ltZ (term d) (term e) ≡ b → ltZ (eval d) (eval e) ≡ b
+  test d e t u g = sym (ap₂ ltZ (value d t) (value e u)) ∙ g

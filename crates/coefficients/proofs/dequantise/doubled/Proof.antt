@@ -1,4 +1,4 @@
-use mathlib.Core.Path.{sym, ap, _∙_}
+use mathlib.Core.Path.{ap, _∙_}
 use mathlib.Core.List.{List, [], _∷_}
 use native.Mathlib.Omega.{arith}
 use lib.IntN.{natAbs}
@@ -37,13 +37,13 @@ returns-2 : tie.Need-returns-2
 returns-2 c =
     let s = c .before .before in
     let x = num-of (ρ s) less tt in
-    (x .is ∙ rw (c .before .if1 .left, sym (test (ρ s) twice (cst 0) tt tt) ∙ c .if2 .taken), omega (arith, ap natAbs (x .is), x .bound))
+    (x .is ∙ rw (c .before .if1 .left, test (ρ s) twice (cst 0) tt tt (c .if2 .taken)), omega (arith, ap natAbs (x .is), x .bound))
 
 returns-3 : tie.Need-returns-3
 returns-3 c =
     let s = c .before .before in
     let x = num-of (ρ s) more tt in
-    (x .is ∙ rw (c .before .if1 .left, sym (test (ρ s) twice (cst 0) tt tt) ∙ c .if2 .left), omega (arith, ap natAbs (x .is), x .bound))
+    (x .is ∙ rw (c .before .if1 .left, test (ρ s) twice (cst 0) tt tt (c .if2 .left)), omega (arith, ap natAbs (x .is), x .bound))
 
 pub doubled-spec : {M : Type 1} → statement M
 doubled-spec = tie.close (tie.spec mul-twice sub-less add-more returns returns-2 returns-3)

@@ -1,4 +1,4 @@
-use mathlib.Core.Path.{sym, _∙_}
+use mathlib.Core.Path.{_∙_}
 use mathlib.Core.List.{List, [], _∷_}
 use mir.Syntax.{w32}
 use Rattle.laws.proofs.Bytes.{odd-yes, odd-no}
@@ -27,12 +27,12 @@ returns c = let s = c .before in value (ρ s) (var 0) tt ∙ rw (odd-yes w32 (s 
 returns-2 : tie.Need-returns-2
 returns-2 c =
     let s = c .before .before in
-    value (ρ s) less tt ∙ rw (odd-no w32 (s .fits .x) (c .before .if1 .left), sym (test (ρ s) (cst 0) (var 0) tt tt) ∙ c .if2 .taken)
+    value (ρ s) less tt ∙ rw (odd-no w32 (s .fits .x) (c .before .if1 .left), test (ρ s) (cst 0) (var 0) tt tt (c .if2 .taken))
 
 returns-3 : tie.Need-returns-3
 returns-3 c =
     let s = c .before .before in
-    value (ρ s) more tt ∙ rw (odd-no w32 (s .fits .x) (c .before .if1 .left), sym (test (ρ s) (cst 0) (var 0) tt tt) ∙ c .if2 .left)
+    value (ρ s) more tt ∙ rw (odd-no w32 (s .fits .x) (c .before .if1 .left), test (ρ s) (cst 0) (var 0) tt tt (c .if2 .left))
 
 pub made-odd-spec : {M : Type 1} → statement M
 made-odd-spec = tie.close (tie.spec sub-less add-more returns returns-2 returns-3)

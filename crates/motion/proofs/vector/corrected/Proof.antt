@@ -1,5 +1,5 @@
 -- Each operation by reflection, each return by the case of the correction that its tests say.
-use mathlib.Core.Path.{_≡_, refl, sym, _∙_}
+use mathlib.Core.Path.{_≡_, refl}
 use mathlib.Core.Bool.{Bool, cond}
 use mathlib.Core.List.{List, [], _∷_}
 use Prim.Native.Nat.{ℕ, _*_, _^_, _%_, _≤_}
@@ -48,9 +48,7 @@ module _ (s : tie.Start) where
       → cond t (term ρ less) (cond u (term ρ more) (term ρ motion)) ≡ corrected f (s .args .motion)
   unfolding corrected
   chosen e g =
-      let over = sym (test ρ top motion tt tt) ∙ e in
-      let under = sym (test ρ motion bottom tt tt) ∙ g in
-      rw (over, under, value ρ less tt, value ρ more tt, value ρ motion tt)
+      rw (test ρ top motion tt tt e, test ρ motion bottom tt tt g, value ρ less tt, value ρ more tt, value ρ motion tt)
 
 -- the results first, the one without a correction before the others: a wrong test or correction is refused at the result that it makes wrong
 returns-3 : tie.Need-returns-3
