@@ -39,11 +39,15 @@ returns-5 c = ends (c .valued2 .ensures) (rw (c .before .before .enum-told3 .giv
 
 returns-6 : tie.Need-returns-6
 unfolding outcome
-returns-6 c = ends (c .flagged .ensures) (rw (c .before .before .enum-told4 .given .1, c .before .has .ensures .0, c .before .has .ensures .1)) (omega arith)
+returns-6 c =
+    let h = c .before .has .ensures in
+    ends (c .flagged .ensures) (rw (c .before .before .enum-told4 .given .1, h .0, h .1)) (omega arith)
 
 returns-7 : tie.Need-returns-7
 unfolding outcome
-returns-7 c = ends (c .flagged2 .ensures) (rw (c .before .before .enum-told5 .given .1, c .before .has-ended .ensures .0, c .before .has-ended .ensures .1)) (omega arith)
+returns-7 c =
+    let h = c .before .has-ended .ensures in
+    ends (c .flagged2 .ensures) (rw (c .before .before .enum-told5 .given .1, h .0, h .1)) (omega arith)
 
 returns-8 : tie.Need-returns-8
 unfolding outcome
@@ -55,7 +59,9 @@ returns-9 c = ends (c .given3 .ensures) (rw (c .before .before .enum-told7 .give
 
 returns-10 : tie.Need-returns-10
 unfolding outcome
-returns-10 c = ends (c .given4 .ensures) (rw (c .before .before .before .enum-told8 .given .1, c .before .before .tell .ensures .0, c .before .before .tell .ensures .1)) (omega arith)
+returns-10 c =
+    let x = c .before .before in
+    ends (c .given4 .ensures) (rw (x .before .enum-told8 .given .1, x .tell .ensures .0, x .tell .ensures .1)) (omega arith)
 
 returns-11 : tie.Need-returns-11
 unfolding outcome
@@ -67,7 +73,8 @@ returns-12 : tie.Need-returns-12
 unfolding outcome
 returns-12 c =
     let r = c .before .before in
-    ends (c .given6 .ensures) (rw (r .before .before .enum-told10 .given .1, le-ltb _ _ (r .before .if2 .left), r .skip-bytes .ensures .1 .0, r .skip-bytes .ensures .0)) (omega arith)
+    let e = r .skip-bytes .ensures in
+    ends (c .given6 .ensures) (rw (r .before .before .enum-told10 .given .1, le-ltb _ _ (r .before .if2 .left), e .1 .0, e .0)) (omega arith)
 
 returns-13 : tie.Need-returns-13
 unfolding outcome
