@@ -3,6 +3,7 @@ use mathlib.Core.Path.{_≡_, refl, sym, ap, subst, _∙_}
 use mathlib.Core.Bool.{Bool, true, false}
 use mathlib.Core.List.{List}
 use Prim.Native.Nat.{ℕ, _+_, _-_, _*_, _%_, _≤_, _<_}
+use native.Mathlib.Nat.{le-trans, lt-of-lt-of-le}
 use native.Mathlib.Omega.{arith}
 use borrow.Author.Tests.{lt-ltb, le-ltb, leb-true}
 use lib.IntN.{ℤ, pos}
@@ -10,7 +11,7 @@ use lib.ListN.{length}
 use Rattle.bits.specs.Bits.{has, got, next}
 use Rattle.bits.specs.Programs.{Prog, look, bits, bind, run, Out, many}
 use Rattle.bits.specs.Runs.{Runs}
-use Rattle.bits.proofs.Programs.{run-bind, run-on}
+use Rattle.bits.proofs.Programs.{bind-on}
 use Rattle.bits.proofs.Rules.{r-call, r-yes, r-no, r-done, r-most, Loops, loop-start, loop-on, loop-end}
 use Rattle.codes.specs.Codes.{dctCoeff, motion}
 use Rattle.codes.specs.Tables.{dctCoeffIndex, dctCoeffValue, motionIndex, motionValue}
@@ -92,14 +93,10 @@ pub code-on : {s : List ℕ} {a v e : ℕ} → has s a 1 ≡ true → Runs dctCo
 unfolding dctCoeff
 code-on {s} {a} there r = vlc-takes dctCoeffIndex dctCoeffValue 0 r good-dct-coeff (omega (arith, leb-true 1 (length s * 8 - a) there))
 
--- where the first of two programs takes a bit, the two do
-first-on : {A B : Type 0} (p : Prog A) (f : A → Prog B) (s : List ℕ) (a : ℕ) → a < run p s a .at → a < run (bind p f) s a .at
-first-on p f s a h = rw (run-bind p f s a) (omega (arith, run-on (f (run p s a .value)) s (run p s a .at)))
-
 -- where a bit is there, a vector step takes one or more
 pub vector-on : (r : ℕ) (x : ℤ) {s : List ℕ} {a e : ℕ} {y : ℤ} → has s a 1 ≡ true → Runs (motionVector r x) s a y e → a < e
 unfolding motionVector displacement motion
 vector-on r x {s} {a} there q =
     let some : a < length s * 8 = omega (arith, leb-true 1 (length s * 8 - a) there) in
     let code = vlc-takes motionIndex motionValue (pos 0) {s = s} {a = a} (record { is = refl }) good-motion some in
-    subst (λ (n : ℕ). a < n) (ap (λ (o : Out ℤ). o .at) (q .is)) (first-on _ _ s a (first-on motion _ s a code))
+    subst (λ (n : ℕ). a < n) (ap (λ (o : Out ℤ). o .at) (q .is)) (lt-of-lt-of-le code (le-trans (bind-on motion _ s a) (bind-on _ _ s a)))

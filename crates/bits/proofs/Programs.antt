@@ -61,6 +61,10 @@ run-on (skip n p) s a = omega (arith, next-le s a n, run-on p s (next s a n))
 run-on (look n k) s a = run-on (k (has s a n) (got s a n)) s a
 run-on (start k) s a = omega (arith, found-on s a, run-on (k (found s a .code)) s (found s a .at))
 
+-- so a program that is followed by another ends where the two do, or before
+pub bind-on : {A B : Type 0} (p : Prog A) (f : A → Prog B) (s : List ℕ) (a : ℕ) → run p s a .at ≤ run (bind p f) s a .at
+bind-on p f s a = rw (run-bind p f s a) (run-on (f (run p s a .value)) s (run p s a .at))
+
 pub run-most : {A : Type 0} (p : Prog A) (s : List ℕ) (a m : ℕ) → a ≤ m * 8 → length s ≤ m → run p s a .at ≤ m * 8
 unfolding run
 run-most (done x) s a m h l = h

@@ -7,6 +7,7 @@ use lib.IntN.{ℤ, pos, negsuc}
 use Rattle.laws.specs.Turns.{Turn, again, stop}
 use Rattle.bits.specs.Bits.{has, got, next, found}
 
+-- RULES part 1: a program that reads, and gives an A
 pub data Prog (A : Type 0) : Type 0 where
   done : A → Prog A
   read : ℕ → (ℕ → Prog A) → Prog A  -- n bits: their value, or 0 and no advance where fewer are left
@@ -56,10 +57,11 @@ infix 2 if_then_else_
 abbrev pub if_then_else_ : {A : Type 0} → Bool → A → A → A
 if t then x else y = cond t x y
 
--- n bits
+-- RULES 1.5: n bits
 abbrev pub bits : ℕ → Prog ℕ
 bits n = read n done
 
+-- RULES 1.6: n bits are passed over
 abbrev pub skips : ℕ → Prog (Unit {0})
 skips n = skip n (done tt)
 
@@ -89,17 +91,19 @@ loop (suc n) f d x = bind (f x) (turn (loop n f d))
 abbrev pub many : ℕ
 many = 134217729
 
+-- are two whole numbers the same?
 abbrev pub eqZ : ℤ → ℤ → Bool
 eqZ (pos m) (pos n) = eqb m n
 eqZ (pos m) (negsuc n) = false
 eqZ (negsuc m) (pos n) = false
 eqZ (negsuc m) (negsuc n) = eqb m n
 
--- RULES 1.11: start codes are passed over up to the first that is c; -1 where there is none
+-- RULES 1.11: one start code, which ends the search if it is c or -1
 unfoldable pub findTurn : ℤ → Unit {0} → Prog (Turn (Unit {0}) ℤ)
 findTurn c x = do
   k ← nextStartCode
   if eqZ k c || eqZ k (negsuc 0) then done (stop k) else done (again tt)
 
+-- RULES 1.11: start codes are passed over up to the first that is c; -1 where there is none
 unfoldable pub findStartCode : ℤ → Prog ℤ
 findStartCode c = loop many (findTurn c) (negsuc 0) tt

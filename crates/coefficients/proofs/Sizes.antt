@@ -1,6 +1,6 @@
 -- Sizes of DC differentials, and the range of DC values. Assumes nothing.
 use mathlib.Core.Path.{_≡_, refl}
-use mathlib.Core.Bool.{Bool, true, false, and-eq-true-iff}
+use mathlib.Core.Bool.{Bool, true, false}
 use mathlib.Core.List.{List}
 use Prim.Native.Nat.{ℕ, _≤_}
 use native.Mathlib.Omega.{arith}
@@ -9,6 +9,7 @@ use lib.IntN.{ℤ, pos, negsuc, negℤ, natAbs}
 use lib.Signed.{nonNeg, leZ}
 use Rattle.laws.proofs.Ints.{v, lit, neg, le-yes, abs-by}
 use Rattle.laws.proofs.Tables.{every}
+use Rattle.laws.proofs.Tests.{both}
 use Rattle.bits.specs.Runs.{Runs}
 use Rattle.codes.specs.Codes.{dctSizeLuminance, dctSizeChrominance}
 use Rattle.codes.specs.Tables.{dctSizeLuminanceIndex, dctSizeLuminanceValue, dctSizeChrominanceIndex, dctSizeChrominanceValue}
@@ -34,7 +35,7 @@ size-natural false r = from-0 dctSizeChrominanceIndex dctSizeChrominanceValue tt
 -- a DC value that question 8 admits
 pub inside-small : (x : ℤ) → dcInside x ≡ true → natAbs x ≤ 256
 inside-small x e =
-    let b = and-eq-true-iff (leZ (negℤ (pos 256)) x) (leZ x (pos 255)) .0 e in
+    let b = both (leZ (negℤ (pos 256)) x) (leZ x (pos 255)) e in
     let l = le-yes (neg (lit 256)) (v x) (b .0) in
     let h = le-yes (v x) (lit 255) (b .1) in
     abs-by 256 (v x) (omega arith) (omega arith)

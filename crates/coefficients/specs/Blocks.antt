@@ -51,7 +51,7 @@ pub record Coded : Type 0 where
 abbrev pub coded : Filled → BlockEnd → Coded
 coded f end = record { filled = f; end = end }
 
--- the same with the predictor from now on
+-- RULES 3.3, 3.9: what a block leaves
 pub record Read : Type 0 where
   pub filled : Filled
   pub predictor : ℤ
@@ -63,12 +63,13 @@ placed q f n level =
     let place = getD zigZag n 0 in
     filled (set (f .coefficients) place (dequantised (q .intra) level (q .scale) (getD (q .matrix) place 0) *ℤ getD premultiplierMatrix place (pos 0))) (n + 1)
 
--- what a coefficient does: it ends the block, drops it where its run leads past the last place, or takes one place more
+-- RULES 3.5, 3.7: a coefficient ends the block, drops it where its run leads past the last place, or takes one place more
 abbrev pub taken : Quantiser → Filled → Coefficient → Prog (Turn Filled Coded)
 taken q f EndOfBlock = done (stop (coded f Whole))
 taken q f (RunLevel run level) =
     if ltb (f .n + run) 64 then done (again (placed q f (f .n + run) level)) else done (stop (coded f Dropped))
 
+-- RULES 3.5, 3.7: one coefficient
 unfoldable pub coefficientTurn : Quantiser → Filled → Prog (Turn Filled Coded)
 coefficientTurn q f = do
   c ← coefficient (f .n)
@@ -78,6 +79,7 @@ coefficientTurn q f = do
 unfoldable pub coefficients : Quantiser → Filled → Prog Coded
 coefficients q f = loop 65 (coefficientTurn q) (coded f Dropped) f
 
+-- what was read, with the predictor from now on
 abbrev pub readAs : Coded → ℤ → Read
 readAs c predictor = record { filled = c .filled; predictor = predictor; end = c .end }
 

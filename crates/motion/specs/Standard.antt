@@ -17,6 +17,7 @@ pub record Right : Type 0 where
   pub little : ℤ
   pub big : ℤ
 
+-- the two by the sign of right_little
 unfoldable pub right : ℕ → ℤ → ℤ → Right
 right f little complement =
     if eqZ little (pos 0) then record { little = little; big = pos 0 }
@@ -31,6 +32,7 @@ recon f prev right =
     let new = prev +ℤ right .little in
     if leZ new max && leZ min new then prev +ℤ right .little else prev +ℤ right .big
 
+-- recon_right_for from the code and its residual R
 unfoldable pub reconstructed : ℕ → ℤ → ℤ → ℕ → ℤ
 reconstructed f prev code R = recon f prev (right f (code *ℤ pos f) (complement f code R))
 

@@ -15,7 +15,7 @@ use Rattle.bits.specs.Bits.{Found, boundary, has, got, next, found}
 use Rattle.bits.specs.Programs.{Prog, bind, eqZ, loop, many, run, turn}
 use Rattle.bits.proofs.Fuel.{loop-enough-fuel}
 use Rattle.laws.proofs.Tests.{by-case, both}
-use Rattle.bits.proofs.Programs.{run-bind, run-on, next-le, got-served}
+use Rattle.bits.proofs.Programs.{run-bind, run-on, bind-on, next-le, got-served}
 use Rattle.bits.proofs.Rules.{loop-suc}
 use Rattle.bits.proofs.Start.{Searched, first, none, found-is-first}
 use Rattle.codes.specs.Codes.{macroblockAddressIncrement}
@@ -45,11 +45,7 @@ enough : {S A : Type 0} (s : List ℕ) (f : S → Prog (Turn S A)) → ((x : S) 
 enough s f h l n m d e x a =
     loop-enough-fuel f s (λ x a. length s * 8 - a) (λ x y a e r. let t = rw (r .is) at (h x a) in omega arith) n many d e x a (omega arith) (omega arith)
 
--- a sequence ends no earlier than its first part
-bind-on : {A B : Type 0} (p : Prog A) (f : A → Prog B) (s : List ℕ) (a : ℕ) → run p s a .at ≤ run (bind p f) s a .at
-bind-on p f s a = rw (run-bind p f s a) (run-on (f (run p s a .value)) s (run p s a .at))
-
--- and a loop no earlier than its first turn
+-- a loop ends no earlier than its first turn
 loop-past : {S A : Type 0} (f : S → Prog (Turn S A)) (d : A) (x : S) (s : List ℕ) (a n m : ℕ) → n ≡ suc m → run (f x) s a .at ≤ run (loop n f d x) s a .at
 loop-past f d x s a n m h = rw (loop-suc n m f d x s a h) (run-on (turn (loop m f d) (run (f x) s a .value)) s (run (f x) s a .at))
 

@@ -87,9 +87,10 @@ predicted p s d h v interpolate from =
     storeRows d (address p) (width p) (p .size)
     (λ y x. laid interpolate (getD d (address p + y * width p + x) 0) (sample s (width p) (odd h) (odd v) (from + y * width p + x))) (p .size)
 
--- RULES 6.2: a full-pel component is doubled; chroma components are then halved toward zero
+-- RULES 6.2: a full-pel component is doubled
 abbrev pub inHalves : Bool → ℤ → ℤ
 inHalves full z = cond full (z *ℤ pos 2) z
 
+-- RULES 6.2: for Cr and Cb it is then halved toward zero
 abbrev pub chroma : ℤ → ℤ
 chroma = half0

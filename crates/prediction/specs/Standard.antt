@@ -41,6 +41,7 @@ formed s wide rightHalf downHalf i j =
     (cond (none downHalf) (roundedDiv (pelPast s wide i j + pelPast s wide i (j +ℤ pos 1)) 2)
     (roundedDiv (pelPast s wide i j + pelPast s wide (i +ℤ pos 1) j + pelPast s wide i (j +ℤ pos 1) + pelPast s wide (i +ℤ pos 1) (j +ℤ pos 1)) 4))
 
+-- the same from the vector in half samples
 abbrev pub pel : List ℕ → ℕ → ℤ → ℤ → ℕ → ℕ → ℕ
 pel s wide right down i j = formed s wide (half right) (half down) (pos i +ℤ whole down) (pos j +ℤ whole right)
 
