@@ -1,5 +1,7 @@
 // Vector steps, from a stream's beginning to its end.
 use bits::reader::Reader;
+use codes::tables::MOTION_INDEX;
+use codes::tables::MOTION_VALUE;
 use motion::vector::decode_motion_vector;
 ghost use mathlib.Core.Path.{_≡_};
 ghost use Rattle.bench.specs.Vectors.{lastComponent};
@@ -15,10 +17,12 @@ pub extern "C" fn bench_vectors(bytes: &[u8], r: u32) -> i32
     if 16777216 < bytes.len() {
         return 0;
     }
+    let index = MOTION_INDEX;
+    let value = MOTION_VALUE;
     let mut reader = Reader::new();
     let mut component: i32 = 0;
     while reader.has(bytes, 1).value {
-        let step = decode_motion_vector(bytes, reader, r, component);
+        let step = decode_motion_vector(bytes, reader, &index, &value, r, component);
         reader = step.reader;
         component = step.motion;
     }

@@ -1,4 +1,5 @@
-// A code of each table. A caller of the coefficient codes, of which a block has many, lends the table to `read_vlc_uint` itself.
+// A code of each table. A caller of the motion codes or the coefficient codes, which come many times, lends the table to `read_vlc` or
+// `read_vlc_uint` itself.
 use crate::tables::CODE_BLOCK_PATTERN_INDEX;
 use crate::tables::CODE_BLOCK_PATTERN_VALUE;
 use crate::tables::DCT_COEFF_INDEX;

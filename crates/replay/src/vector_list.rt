@@ -1,5 +1,7 @@
 // The list vectors.bin: vector steps. A case is eight numbers: r, the component before the step, and the reading of the component after it.
 use crate::reading;
+use codes::tables::MOTION_INDEX;
+use codes::tables::MOTION_VALUE;
 use lists::bytes::part;
 use lists::numbers::number_at;
 use lists::numbers::signed;
@@ -23,7 +25,10 @@ pub fn vectors_agree(case: &[u8]) -> bool
     }
     let read = part(case, 8, 24);
     if reading::possible(read) {
-        let v = decode_motion_vector(reading::stream(read), reading::reader(read), r, motion);
+        let index = MOTION_INDEX;
+        let value = MOTION_VALUE;
+        let stream = reading::stream(read);
+        let v = decode_motion_vector(stream, reading::reader(read), &index, &value, r, motion);
         let after = v.reader;
         return reading::same_end(read, v.motion, after);
     }

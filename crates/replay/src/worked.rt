@@ -1,6 +1,8 @@
 // Cases worked by hand (RULES W).
 use argb::pixel::pixel;
 use bits::reader::Reader;
+use codes::tables::MOTION_INDEX;
+use codes::tables::MOTION_VALUE;
 use coefficients::dc::read_dc;
 use coefficients::dequantise::dequantise;
 use laws::half;
@@ -58,14 +60,16 @@ pub struct Vectors {
 pub fn vector_cases() -> Vectors
     ensures { λ r. ⌜ (r .w1 ≡ negℤ (pos 16)) × (r .w2 ≡ pos 15) × (r .w3 ≡ negℤ (pos 60)) × (r .w4 ≡ pos 0) ⌝ }
 {
+    let index = MOTION_INDEX;
+    let value = MOTION_VALUE;
     let s1 = [0b0100_0000u8];
     let s2 = [0b0110_0000u8];
     let s3 = [0b0010_1100u8];
     let s4 = [0b0000_0011u8, 0b0011_1111u8, 0b1000_0000u8];
-    let w1 = decode_motion_vector(&s1, Reader::new(), 0, 15).motion;
-    let w2 = decode_motion_vector(&s2, Reader::new(), 0, -16).motion;
-    let w3 = decode_motion_vector(&s3, Reader::new(), 2, 60).motion;
-    let w4 = decode_motion_vector(&s4, Reader::new(), 6, -1024).motion;
+    let w1 = decode_motion_vector(&s1, Reader::new(), &index, &value, 0, 15).motion;
+    let w2 = decode_motion_vector(&s2, Reader::new(), &index, &value, 0, -16).motion;
+    let w3 = decode_motion_vector(&s3, Reader::new(), &index, &value, 2, 60).motion;
+    let w4 = decode_motion_vector(&s4, Reader::new(), &index, &value, 6, -1024).motion;
     Vectors { w1, w2, w3, w4 }
 }
 

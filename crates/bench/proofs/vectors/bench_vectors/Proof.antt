@@ -1,5 +1,5 @@
 -- The loop's invariant: the component is in the widest range, and the program's loop goes on from here.
-use mathlib.Core.Path.{sym, _∙_}
+use mathlib.Core.Path.{refl, sym, _∙_}
 use Prim.Native.Nat.{_-_, _<_}
 use native.Mathlib.Omega.{arith}
 use borrow.Author.Needs.{needs, sfits-of}
@@ -9,6 +9,7 @@ use mir.Facts.{toZ-ofZ}
 use mir.Syntax.{w32}
 use mir.Val.{toZ}
 use Rattle.laws.proofs.Ints.{lit, neg, le-by, lt-by}
+use Rattle.codes.specs.Tables.{motionIndex, motionValue}
 use Rattle.motion.specs.Displacement.{InRange}
 use Rattle.motion.specs.Vector.{motionVector}
 use Rattle.bench.specs.Vectors.{lastComponent}
@@ -17,11 +18,11 @@ use Rattle.bench.proofs.vectors.bench_vectors.Statement.{statement}
 use Rattle.bench.proofs.vectors.bench_vectors.Tie as tie
 
 abbrev Inv-loop : tie.InvT-loop
-Inv-loop bytes r reader₀ component₀ reader component =
+Inv-loop bytes r index value reader₀ component₀ reader component =
     Going 1 (motionVector r) (pos 0) bytes (reader .at .0) (toZ w32 component) × InRange 64 (toZ w32 component)
 
 abbrev μ-loop : tie.MeasureT-loop
-μ-loop bytes r reader₀ component₀ reader component = 134217728 - reader .at .0
+μ-loop bytes r index value reader₀ component₀ reader component = 134217728 - reader .at .0
 
 returns : tie.Need-returns Inv-loop μ-loop
 unfolding lastComponent
@@ -37,19 +38,21 @@ loop-holds c =
     (going-start 1 _ (pos 0) _ _ (c .new .ensures), zero-in)
 
 decode-motion-vector-requires : tie.Need-decode-motion-vector-requires Inv-loop μ-loop
+unfolding motionIndex motionValue
 decode-motion-vector-requires c κs =
-    let l = c .before .before in
-    (l .loop .inv .0 .most, (omega (arith, l .before .before .if2 .left), (omega (arith, l .before .before .before .if1 .left), l .loop .inv .1)))
+    let l = c .before .before .before .before in
+    let b = l .before .before in
+    (l .loop .inv .0 .most, (omega (arith, b .if2 .left), ((refl, refl), (omega (arith, b .before .if1 .left), l .loop .inv .1))))
 
-step : (c : tie.After-struct-told Inv-loop μ-loop) → let d = c .before .before in let l = d .before .before .before in
+step : (c : tie.After-struct-told Inv-loop μ-loop) → let d = c .before .before in let l = d .before .before .before .before .before in
     let a = l .before .before .before .before .before .args in
     let v = d .decode-motion-vector .result in (134217728 - v .reader .at .0 < 134217728 - l .loop .reader .at .0)
     × Going 1 (motionVector (a .r)) (pos 0) (a .bytes .now) (v .reader .at .0) (v .motion)
 step c =
     let d = c .before .before in
-    let l = d .before .before .before in
+    let l = d .before .before .before .before .before in
     let r = l .before .before .before .before .before .args .r in
-    let there = sym (d .before .before .has .ensures .0) ∙ d .before .if3 .taken in
+    let there = sym (d .before .before .before .before .has .ensures .0) ∙ d .before .before .before .if3 .taken in
     let moved = d .decode-motion-vector .ensures .0 in
     going-on 1 (motionVector r) (pos 0) _ (omega (arith, l .before .before .if2 .left)) there moved (vector-on r _ there moved) (l .loop .inv .0)
 
@@ -77,6 +80,8 @@ bench-vectors-spec =
     (λ c κs. search needs)
     loop-holds
     (λ c κs. search needs)
+    (λ c. search needs)
+    (λ c. search needs)
     decode-motion-vector-requires
     (λ c. step c .0)
     loop-again

@@ -36,7 +36,7 @@ module _ (x : tie.After-read-displacement) where
   small = runs-small (s .args .r) (x .read-displacement .ensures)
 
   scaled : f ≤ 64
-  scaled = pow-mono (s .pre .1 .1 .0)
+  scaled = pow-mono (s .pre .1 .1 .1 .0)
 
   fits : SFits w32 d
   fits = let b = abs-of (v d) small in fits-by (v d) (omega (arith, scaled)) (omega (arith, scaled))
@@ -47,8 +47,8 @@ module _ (x : tie.After-read-displacement) where
 
   sum-small : natAbs (a +ℤ d) ≤ 2048
   sum-small =
-      let lo = le-of (neg (lit 1024)) (v a) (s .pre .1 .1 .1 .low) in
-      let hi = lt-of (v a) (lit 1024) (s .pre .1 .1 .1 .high) in
+      let lo = le-of (neg (lit 1024)) (v a) (s .pre .1 .1 .1 .1 .low) in
+      let hi = lt-of (v a) (lit 1024) (s .pre .1 .1 .1 .1 .high) in
       let b = abs-of (v d) small in
       abs-by 2048 (v a ⊕ v d) (omega (arith, scaled)) (omega (arith, scaled))
 
@@ -61,14 +61,16 @@ add-corrected c =
 corrected-requires : tie.Need-corrected-requires
 corrected-requires c κs =
     let x = c .before .before .before in
-    (s x .pre .1 .1 .0, rw (toZ-ofZ (add-corrected c), sum-is x) (sum-small x))
+    (s x .pre .1 .1 .1 .0, rw (toZ-ofZ (add-corrected c), sum-is x) (sum-small x))
 
 returns : tie.Need-returns
 unfolding motionVector
 returns c =
     let x = c .before .before .before .before in
+    let p = s x .pre in
+    let read = x .read-displacement .ensures in
     rw (toZ-ofZ (sfits-of (c .corrected .ok)), c .corrected .ensures, toZ-ofZ (add-corrected (c .before)), sum-is x)
-    (r-call _ (x .read-displacement .ensures) r-done, (r-most (x .read-displacement .ensures) (s x .pre .0) (s x .pre .1 .0), corrected-in (d x) (scaled x) (small x) (s x .pre .1 .1 .1)))
+    (r-call _ read r-done, (r-most read (p .0) (p .1 .0), corrected-in (d x) (scaled x) (small x) (p .1 .1 .1 .1)))
 
 pub decode-motion-vector-spec : {M : Type 1} → statement M
 decode-motion-vector-spec =

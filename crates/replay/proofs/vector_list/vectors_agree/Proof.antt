@@ -1,10 +1,11 @@
-use mathlib.Core.Path.{_≡_, sym, ap, _∙_}
+use mathlib.Core.Path.{_≡_, refl, sym, ap, _∙_}
 use native.Mathlib.Omega.{arith}
-use borrow.Author.Needs.{sfits-of}
+use borrow.Author.Needs.{needs, sfits-of}
 use borrow.Author.Tests.{le-leb, lt-leb}
 use mir.Syntax.{w32}
 use mir.Val.{ofZ, toZ}
 use mir.Facts.{toZ-ofZ}
+use Rattle.codes.specs.Tables.{motionIndex, motionValue}
 use Rattle.lists.specs.Numbers.{numberAt}
 use Rattle.replay.specs.VectorList.{vectorAgrees}
 use Rattle.replay.proofs.Components.{too-low, too-high, within, in-range}
@@ -33,22 +34,30 @@ returns-3 c =
     rw (← m .before .before .before .number-at .ensures, le-leb _ _ (m .before .before .if1 .left), ← moved m, too-high _ (c .before .if2 .left) (c .if3 .taken))
 
 decode-motion-vector-requires : tie.Need-decode-motion-vector-requires
+unfolding motionIndex motionValue
 decode-motion-vector-requires c κs =
-    let p = c .before .before .before in
+    let b = c .before .before in
+    let p = b .before .before .before in
     let m = p .before .before .before .before in
-    let h = sym (p .possible .ensures) ∙ c .before .before .if4 .taken in
-    (omega (arith, c .reader .ensures, limits _ h), (short _ h _ (c .before .stream .ensures), (m .before .before .if1 .left, in-range _ (p .before .before .before .if2 .left) (p .before .before .if3 .left))))
+    let h = sym (p .possible .ensures) ∙ b .before .before .if4 .taken in (
+      omega (arith, b .reader .ensures, limits _ h),
+      (
+        short _ h _ (b .before .stream .ensures),
+        ((refl, refl), (m .before .before .if1 .left, in-range _ (p .before .before .before .if2 .left) (p .before .before .if3 .left))),
+      ),
+    )
 
 returns-4 : tie.Need-returns-4
 unfolding vectorAgrees
 returns-4 c =
     let d = c .before .before .before in
-    let p = d .before .before .before .before in
+    let b = d .before .before .before in
+    let p = b .before .before .before in
     let m = p .before .before .before .before in
-    let h = sym (p .possible .ensures) ∙ d .before .before .before .if4 .taken in
+    let h = sym (p .possible .ensures) ∙ b .before .before .if4 .taken in
     let f = toZ-ofZ {w = w32} {z = d .decode-motion-vector .result .motion} (sfits-of (c .before .struct-told .given .1 .0 .1)) in
     rw (← m .before .before .before .number-at .ensures, ← p .before .part .ensures, le-leb _ _ (m .before .before .if1 .left), ← moved m, within _ (p .before .before .before .if2 .left) (p .before .before .if3 .left))
-    (c .same-end .ensures ∙ rw f (read _ h (d .before .before .stream .ensures) (d .before .reader .ensures) (d .decode-motion-vector .ensures .0)))
+    (c .same-end .ensures ∙ rw f (read _ h (b .before .stream .ensures) (b .reader .ensures) (d .decode-motion-vector .ensures .0)))
 
 returns-5 : tie.Need-returns-5
 unfolding vectorAgrees
@@ -72,6 +81,8 @@ vectors-agree-spec =
     (λ c κs. tt)
     (λ c κs. tt)
     (λ c κs. tt)
+    (λ c. search needs)
+    (λ c. search needs)
     decode-motion-vector-requires
     (λ c κs. tt)
     returns-4
