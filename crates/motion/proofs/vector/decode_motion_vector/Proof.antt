@@ -1,4 +1,4 @@
-use mathlib.Core.Path.{_≡_, ap₂}
+use mathlib.Core.Path.{_≡_, ap, ap₂, _∙_}
 use Prim.Native.Nat.{ℕ, _*_, _^_, _≤_}
 use native.Mathlib.Omega.{arith}
 use lib.IntN.{ℤ, natAbs, _+ℤ_}
@@ -6,10 +6,12 @@ use lib.Pow.{pow-mono}
 use mir.Facts.{toZ-ofZ}
 use mir.Syntax.{w32}
 use mir.Val.{SFits}
+use denote.Ref.{now}
 use borrow.Author.Needs.{needs, sfits-of}
 use Rattle.laws.proofs.Ints.{reread, v, lit, neg, _⊕_, le-of, lt-of, abs-by, abs-of, fits-by}
+use Rattle.bits.specs.Runs.{Runs}
 use Rattle.bits.proofs.Rules.{r-call, r-done, r-most}
-use Rattle.motion.specs.Displacement.{corrected}
+use Rattle.motion.specs.Displacement.{InRange, corrected}
 use Rattle.motion.specs.Vector.{motionVector}
 use Rattle.motion.proofs.Correction.{corrected-in}
 use Rattle.motion.proofs.OneStep.{runs-small}
@@ -63,14 +65,23 @@ corrected-requires c κs =
     let x = c .before .before .before in
     (s x .pre .1 .1 .1 .0, rw (toZ-ofZ (add-corrected c), sum-is x) (sum-small x))
 
-returns : tie.Need-returns
-unfolding motionVector
-returns c =
+-- what is put into the result
+moved : (c : tie.After-corrected) → let x = c .before .before .before .before in
+    reread w32 (c .corrected .result) ≡ corrected (f x) (a x +ℤ d x)
+moved c =
     let x = c .before .before .before .before in
+    toZ-ofZ (sfits-of (c .corrected .ok)) ∙ c .corrected .ensures ∙ ap (corrected (f x)) (toZ-ofZ (add-corrected (c .before)) ∙ sum-is x)
+
+stepped : (x : tie.After-read-displacement) {z : ℤ} → z ≡ corrected (f x) (a x +ℤ d x) → let e = x .read-displacement .result .reader .at .0 in
+    Runs (motionVector (s x .args .r) (a x)) (now (s x .args .s)) (s x .args .reader .at .0) z e × ((e ≤ 134217728) × InRange 64 z)
+unfolding motionVector
+stepped x is =
     let p = s x .pre in
     let read = x .read-displacement .ensures in
-    rw (toZ-ofZ (sfits-of (c .corrected .ok)), c .corrected .ensures, toZ-ofZ (add-corrected (c .before)), sum-is x)
-    (r-call _ read r-done, (r-most read (p .0) (p .1 .0), corrected-in (d x) (scaled x) (small x) (p .1 .1 .1 .1)))
+    rw is (r-call _ read r-done, (r-most read (p .0) (p .1 .0), corrected-in (d x) (scaled x) (small x) (p .1 .1 .1 .1)))
+
+returns : tie.Need-returns
+returns c = stepped (c .before .before .before .before) (moved c)
 
 pub decode-motion-vector-spec : {M : Type 1} → statement M
 decode-motion-vector-spec =
