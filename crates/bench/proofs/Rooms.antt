@@ -8,10 +8,10 @@ use native.Mathlib.Numerals.{add-one}
 use native.Mathlib.Omega.{arith}
 use borrow.Author.Tests.{leb-true}
 use lib.IntN.{ℤ, natAbs}
-use mir.Facts.{toZ-ofZ}
 use mir.Syntax.{w32}
 use Rattle.laws.proofs.Tests.{each}
-use Rattle.laws.proofs.Ints.{reread, v, abs-of, fits-by}
+use Rattle.laws.proofs.Ints.{reread}
+use Rattle.laws.proofs.Nums.{num, rd}
 use Rattle.prediction.specs.declared.place.Macroblock.{Macroblock}
 use Rattle.prediction.specs.declared.planes.Plane.the-variants.{Y, Cr}
 use Rattle.prediction.specs.Planes.{macroblocks}
@@ -66,4 +66,4 @@ two-planes false m size h = omega arith
 
 -- a component is read as it was written
 pub small-read : (z : ℤ) → natAbs z ≤ 2048 → reread w32 z ≡ z
-small-read z h = let b = abs-of (v z) h in toZ-ofZ (fits-by (v z) (omega arith) (omega arith))
+small-read z h = rd w32 (num h) tt .is

@@ -9,7 +9,7 @@ use borrow.Author.Tests.{lt-ltb, le-ltb, leb-true}
 use lib.IntN.{ℤ, pos}
 use lib.ListN.{length}
 use Rattle.bits.specs.Bits.{has, got, next}
-use Rattle.bits.specs.Programs.{Prog, look, bits, bind, run, Out, many}
+use Rattle.bits.specs.Programs.{Prog, look, bits, run, Out, many}
 use Rattle.bits.specs.Runs.{Runs}
 use Rattle.bits.proofs.Programs.{bind-on}
 use Rattle.bits.proofs.Rules.{r-call, r-yes, r-no, r-done, r-most, Loops, loop-start, loop-on, loop-end}

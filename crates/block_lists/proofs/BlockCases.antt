@@ -10,10 +10,9 @@ use denote.Enum.Declared.{tagOf}
 use types.Run.{OneOf}
 use lib.Dec.{eqb, ltb}
 use lib.IntN.{ℤ}
-use mir.Facts.{toZ-ofZ}
 use mir.Syntax.{w32}
 use mir.Val.{ofZ, toZ}
-use Rattle.laws.proofs.Ints.{v, abs-of, fits-by}
+use Rattle.laws.proofs.Nums.{num, rd}
 use Rattle.bits.specs.Programs.{Prog}
 use Rattle.bits.specs.Runs.{Runs}
 use Rattle.codes.specs.Matrices.{bounded}
@@ -60,7 +59,7 @@ not-written intra di dw f p Outside d k = refl
 
 -- a predictor as the code reads it
 pub inside-read : (x : ℤ) → dcInside x ≡ true → toZ w32 (ofZ w32 x) ≡ x
-inside-read x h = let b = abs-of (v x) (inside-small x h) in toZ-ofZ {w = w32} {z = x} (fits-by {w = w32} (v x) (omega (arith, b)) (omega (arith, b)))
+inside-read x h = rd w32 (num (inside-small x h)) tt .is
 
 -- the five comparisons of a case
 pub ended : {p : Prog Read} (intra : Bool) (di dw a : ℕ) (l : List ℕ) {e n z m : ℕ} {r : Read} {t : Bool} {ours rust : List ℕ} {u : Bool} → Runs p (part l 360 64) a r e
