@@ -1,7 +1,7 @@
 // The definitions of the crates: the lines that bring them in, and the line that unfolds them all.
 use std::fs;
 
-const CRATES: [&str; 9] = ["laws", "bits", "codes", "motion", "coefficients", "transform", "prediction", "picture", "decoder"];
+const CRATES: [&str; 10] = ["laws", "bits", "codes", "motion", "coefficients", "transform", "prediction", "argb", "picture", "decoder"];
 
 const USES: &str = "\
 use mathlib.Core.Path.{_≡_, refl}
@@ -15,8 +15,10 @@ use lib.ListN.{replicate}
 use Rattle.decoder.specs.Record.{left}
 use Rattle.decoder.specs.Opening.{opening}
 use Rattle.decoder.specs.HandOut.{handOut}
-use Rattle.decoder.specs.declared.answers.Opening.the-variants.{Ready}
-use Rattle.decoder.specs.declared.answers.Outcome.the-variants.{Picture, Refused}
+use Rattle.decoder.specs.Conversion.{area, converted}
+use Rattle.decoder.specs.declared.answers.Opening.the-variants as O
+use Rattle.decoder.specs.declared.answers.Outcome.the-variants as H
+use Rattle.decoder.specs.declared.answers.Converted.the-variants as C
 ";
 
 // The definitions of floats that the times take.

@@ -1,4 +1,4 @@
-// Streams that no encoder makes: damaged ones, and random pictures.
+// Streams that no encoder makes: damaged ones, random pictures, and those that bring numbers and the flush.
 use crate::bits::Bits;
 use crate::random::Random;
 use crate::video::{entry, Code};
@@ -195,4 +195,68 @@ pub fn made(random: &mut Random) -> Vec<u8> {
     }
     stream.extend([0xff; 136]);
     stream
+}
+
+// RULES O.3: a header of so many samples across and down, and of 25 pictures in a second, with default matrices.
+fn plain_header(width: u32, height: u32) -> Vec<u8> {
+    unit(0xb3, Bits::new().put(12, width).put(12, height).put(4, 1).put(4, 3).put(32, 0))
+}
+
+// The header of a picture of type I, P or B, with f codes of 1.
+fn plain_picture(kind: u32) -> Vec<u8> {
+    let mut bits = Bits::new();
+    bits.put(10, 0).put(3, kind).put(16, 0xffff);
+    for _ in 1..kind {
+        bits.put(4, 1);
+    }
+    unit(0, &mut bits)
+}
+
+// A slice of one intra macroblock, the coefficients of which hold a picture start code: it is read over that code, up to the last bit.
+fn slice_over_code(kind: u32) -> Vec<u8> {
+    let mut bits = Bits::new();
+    bits.put(5, 1).put(1, 0).put(1, 1);
+    match kind {
+        1 => bits.put(1, 0b1).put(3, 0b100).put(3, 0b110).put(4, 0b0110),
+        _ => bits.put(5, 0b00011).put(3, 0b100).put(3, 0b110),
+    };
+    bits.escape(0, 0).put(5, 0b0100_0).escape(0, 1).put(2, 0b10);
+    bits.put(15, 0b10010_10010_10010).put(8, 0b0010_0010);
+    unit(1, &mut bits)
+}
+
+// A header of 16 × 16 samples, bytes between, and pictures.
+fn small(between: usize, pictures: &[Vec<u8>]) -> Vec<u8> {
+    [plain_header(16, 16), vec![0xff; between], pictures.concat()].concat()
+}
+
+// A picture that is read over a start code to the end.
+fn over_code(kind: u32) -> Vec<u8> {
+    [plain_picture(kind), slice_over_code(kind)].concat()
+}
+
+// A sequence start code and bytes behind it.
+fn begun(bytes: &[u8]) -> Vec<u8> {
+    [&[0, 0, 1, 0xb3], bytes].concat()
+}
+
+// Header tries: none found (3), too few bits (4), a size of 0 (5), and one that is accepted behind two of these. At the end of the bits: an I and a P
+// picture that are flushed (RULES 8.8), and 7 behind a B picture and with a byte left.
+pub fn edges() -> Vec<(&'static str, Vec<u8>)> {
+    let intra = plain_picture(1);
+    let three = small(104, &[intra.clone(), intra.clone(), intra.clone()]);
+    vec![
+        ("Empty", Vec::new()),
+        ("LastCode", begun(&[])),
+        ("OtherCode", vec![0, 0, 1, 0xb8, 0, 0, 1, 0, 0xff]),
+        ("TooFew", small(127, &[])),
+        ("Enough", small(128, &[])),
+        ("NoSize", begun(&[0; 136])),
+        ("NoHeight", begun(&[&[1, 0, 0][..], &[0; 140]].concat())),
+        ("ThirdTry", begun(&[&[0, 0, 0, 1, 0, 0], &three[4..]].concat())),
+        ("FlushI", small(104, &[over_code(1)])),
+        ("FlushP", small(104, &[intra.clone(), over_code(2)])),
+        ("EndB", small(104, &[intra, over_code(3)])),
+        ("ByteLeft", small(104, &[over_code(1), vec![0xff]])),
+    ]
 }

@@ -1,7 +1,8 @@
-// Writes what opening and each hand-out of the Rust do with a stream as equations on our definitions, one module a call.
+// Writes what opening, each hand-out and conversions of the Rust do with a stream as equations on our definitions, one module a call.
 // usage: trace ROOT FOLDER whole STREAM CALLS
 //        trace ROOT FOLDER damaged STREAM CALLS SEED COPIES
 //        trace ROOT FOLDER made CALLS SEED STREAMS
+//        trace ROOT FOLDER edges CALLS
 mod logic;
 mod names;
 mod streams;
@@ -21,7 +22,12 @@ mod random;
 
 use logic::{float, list};
 use random::Random;
-use video::{after, hand_out, record, store_bytes, stores, Answer};
+use video::{after, conversion, hand_out, opening_refusal, record, store_bytes, stores, Answer, Video};
+
+// A store before a call that may accept a header: long enough for the record after the call, and of bytes that accepting one changes.
+fn lent(end: &Video) -> String {
+    format!("replicate {} 7", store_bytes(end).max(5))
+}
 
 struct Modules {
     folder: String,
@@ -45,43 +51,61 @@ impl Modules {
         self.write("Lib", &lines.concat());
     }
 
-    // From a store of other bytes, since opening sets it to 0.
     fn add_opening(&mut self, name: String, stream: &[u8]) {
         let opened = after(stream, 0);
-        let left = format!("opening ({}) (replicate {} 7)", list(stream.iter()), store_bytes(&opened));
-        let right = format!("left Ready ({}) ({})", record(&opened, stream.len(), 0), stores(&opened));
-        self.add(name, &left, &right);
+        let left = format!("opening ({}) ({})", list(stream.iter()), lent(&opened));
+        let said = match opening_refusal(stream) {
+            0 => "O.Ready".to_string(),
+            number => format!("(O.Refused {number})"),
+        };
+        let store = if opened.accepted() { stores(&opened) } else { lent(&opened) };
+        self.add(name, &left, &format!("left {said} ({}) ({store})", record(&opened, stream.len(), 0)));
     }
 
     // Where the Rust panics, it may have written a part of the plane, so the store is not compared.
     fn add_hand_out(&mut self, name: String, stream: &[u8], calls: usize) -> Answer {
         let before = after(stream, calls);
         let (end, answer) = hand_out(stream, calls);
-        let call = format!("handOut ({}) ({}) ({})", record(&before, stream.len(), 0), list(stream.iter()), stores(&before));
+        let given = if before.accepted() { stores(&before) } else { lent(&end) };
+        let store = if end.accepted() { stores(&end) } else { given.clone() };
+        let call = format!("handOut ({}) ({}) ({given})", record(&before, stream.len(), 0), list(stream.iter()));
         match answer {
-            Answer::Picture(store) => {
-                let said = format!("Picture {store} ({})", float(end.last_frame_time()));
-                self.add(name, &call, &format!("left ({said}) ({}) ({})", record(&end, stream.len(), 0), stores(&end)));
+            Answer::Picture(number) => {
+                let said = format!("H.Picture (record {{ store = {number}; time = {} }})", float(end.last_frame_time()));
+                self.add(name, &call, &format!("left ({said}) ({}) ({store})", record(&end, stream.len(), 0)));
             }
-            Answer::Number(7) => {
-                self.add(name, &call, &format!("left (Refused 7) ({}) ({})", record(&end, stream.len(), 0), stores(&end)));
+            Answer::Number(number @ (3..=5 | 7)) => {
+                self.add(name, &call, &format!("left (H.Refused {number}) ({}) ({store})", record(&end, stream.len(), 0)));
             }
             Answer::Number(8) => {
-                self.add(name, &call, &format!("left (Refused 8) ({}) ({})", record(&before, stream.len(), 8), stores(&end)));
+                self.add(name, &call, &format!("left (H.Refused 8) ({}) ({store})", record(&before, stream.len(), 8)));
             }
             Answer::Number(number) => {
                 let left = format!("(let x = {call} in left (x .answer) (x .decoder) [])");
-                self.add(name, &left, &format!("left (Refused {number}) ({}) []", record(&before, stream.len(), number)));
+                self.add(name, &left, &format!("left (H.Refused {number}) ({}) []", record(&before, stream.len(), number)));
             }
         }
         answer
     }
 
+    // Up to the first number; 3 to 5 say that no header is accepted yet, and the next call tries again.
     fn add_hand_outs(&mut self, prefix: &str, stream: &[u8], most: usize) {
         for calls in 0..most {
-            if let Answer::Number(_) = self.add_hand_out(format!("{prefix}{calls}"), stream, calls) {
+            if let Answer::Number(7..) = self.add_hand_out(format!("{prefix}{calls}"), stream, calls) {
                 return;
             }
+        }
+    }
+
+    // Of each store, after so many hand-outs, to an area of numbers that are no pixels.
+    fn add_conversions(&mut self, prefix: &str, stream: &[u8], calls: usize) {
+        let video = after(stream, calls);
+        for (number, (width, height)) in [(9, 7), (3, 20), (40, 1)].into_iter().enumerate() {
+            let mut pixels = vec![7; width * height + 2];
+            conversion(&video, number, &mut pixels, width, height);
+            let area = format!("replicate {} 7", pixels.len());
+            let left = format!("converted ({}) ({}) {number} ({area}) {width} {height}", record(&video, stream.len(), 0), stores(&video));
+            self.add(format!("{prefix}{number}"), &left, &format!("area C.Written ({})", list(pixels.iter())));
         }
     }
 }
@@ -96,6 +120,13 @@ fn main() {
         "whole" => {
             modules.add_opening("Opening".to_string(), &stream(&given[3]));
             modules.add_hand_outs("Call", &stream(&given[3]), number(4));
+            modules.add_conversions("Conversion", &stream(&given[3]), 2);
+        }
+        "edges" => {
+            for (name, stream) in streams::edges() {
+                modules.add_opening(name.to_string(), &stream);
+                modules.add_hand_outs(&format!("{name}Call"), &stream, number(3));
+            }
         }
         "damaged" => {
             let mut random = Random::new(number(5) as u64);

@@ -75,16 +75,47 @@ pub fn after(stream: &[u8], calls: usize) -> Video {
     video
 }
 
+impl Video {
+    pub fn accepted(&self) -> bool {
+        self.has_sequence_header
+    }
+}
+
+// The number of the first of the questions 3, 4 and 5 that is answered "no" (RULES Q3 to Q5), 0 where none is: the Rust does not tell them apart.
+fn header_refusal(mut before: Video) -> u32 {
+    if before.start_code != START_SEQUENCE {
+        before.start_code = before.buffer.find_start_code(START_SEQUENCE);
+    }
+    match (before.start_code, before.buffer.has(1088), before.has_header()) {
+        (-1, ..) => 3,
+        (_, false, _) => 4,
+        (_, _, false) => 5,
+        _ => 0,
+    }
+}
+
+pub fn opening_refusal(stream: &[u8]) -> u32 {
+    let mut fresh = Video::new(Vec::new());
+    fresh.buffer = Buffer::new(stream.to_vec());
+    header_refusal(fresh)
+}
+
 // The next hand-out: the decoder after it, and what it answers.
 pub fn hand_out(stream: &[u8], calls: usize) -> (Video, Answer) {
     let handed = std::cell::Cell::new(None);
     let (video, number) = ended(|| after(stream, calls), |video| handed.set(video.decode()));
     let answer = match (number, handed.get()) {
         (0, Some(store)) => Answer::Picture(store),
-        (0, None) => Answer::Number(7),
+        (0, None) if video.accepted() => Answer::Number(7),
+        (0, None) => Answer::Number(header_refusal(after(stream, calls))),
         (number, _) => Answer::Number(number),
     };
     (video, answer)
+}
+
+// A conversion of a store.
+pub fn conversion(video: &Video, store: usize, pixels: &mut [u32], width: usize, height: usize) {
+    video.frame(store).write_rgb_scaled(pixels, width, height);
 }
 
 #[derive(Clone, Copy)]

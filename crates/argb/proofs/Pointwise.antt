@@ -7,7 +7,7 @@ use native.Mathlib.Nat.{zero-mul, mul-zero}
 use native.Mathlib.Omega.{arith}
 use lib.ListN.{length, getD}
 use Rattle.laws.specs.Stores.{storeRow}
-use Rattle.laws.proofs.Lists.{length-row, row-in, row-out}
+use Rattle.laws.proofs.Lists.{row-in, row-out}
 use Rattle.argb.specs.Pixel.{argb}
 use Rattle.argb.specs.Scaled.{Picture, samplePixel, outputPixel, pixelAt, scaled}
 use Rattle.argb.proofs.Places.{place-below}
@@ -29,11 +29,6 @@ module _ (p : Picture) (w h : ℕ) (area : List ℕ) where
   pub scaled-outside : (k : ℕ) → w * h ≤ k → getD (scaled p w h area) k 0 ≡ getD area k 0
   unfolding scaled
   scaled-outside k q = row-out area 0 (pixelAt p w h) (w * h) k 0 (inr (omega arith))
-
-  -- the area is as long as before
-  pub scaled-length : length (scaled p w h area) ≡ length area
-  unfolding scaled
-  scaled-length = length-row area 0 (pixelAt p w h) (w * h)
 
   -- a size of 0 writes nothing
   pub scaled-none : (w ≡ 0) ⊎ (h ≡ 0) → scaled p w h area ≡ area

@@ -9,8 +9,10 @@ use Rattle.argb.specs.Scaled.{picture, Whole}
 
 -- across × down macroblocks, each 256 bytes of Y and 64 each of Cr and Cb
 module _ (width height lumaWidth across down : ℕ) (y cr cb : List ℕ) where
-  pub store-whole : lumaWidth ≡ 16 * across → (1 ≤ width) × (width ≤ lumaWidth) × (lumaWidth ≤ 4096) → (1 ≤ height) × (height ≤ 16 * down) × (height ≤ 4096)
-      → (256 * (across * down) ≤ length y) × (64 * (across * down) ≤ length cr) × (64 * (across * down) ≤ length cb) → Whole (picture width height lumaWidth y cr cb)
+  pub store-whole : lumaWidth ≡ 16 * across → (1 ≤ width) × (width ≤ lumaWidth) × (lumaWidth ≤ 4096)
+      → (1 ≤ height) × (height ≤ 16 * down) × (height ≤ 4096)
+      → (256 * (across * down) ≤ length y) × (64 * (across * down) ≤ length cr) × (64 * (across * down) ≤ length cb)
+      → Whole (picture width height lumaWidth y cr cb)
   store-whole e columns rows long =
       let luma : height * lumaWidth ≤ 16 * down * (16 * across) = mul-le-mul (omega arith) (omega arith) in
       let chroma : (height + 1) / 2 * (lumaWidth / 2) ≤ 8 * down * (8 * across) = mul-le-mul (omega arith) (omega arith) in

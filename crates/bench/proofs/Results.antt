@@ -28,4 +28,6 @@ set-narrow s p v h b = record { entry = at }
 pub results-narrow : (n : ℕ) → Narrow (resultsAt n)
 unfolding resultsAt
 results-narrow zero = record { entry = λ k l. rw (getD-replicate 64 k (pos 0) (pos 0) l) zero-le }
-results-narrow (suc n) = set-narrow (resultsAt n) (n % 64) (pos (n % 512) -ℤ pos 128) (abs-by 131072 (lit (n % 512) ⊖ lit 128) (omega arith) (omega arith)) (results-narrow n)
+results-narrow (suc n) =
+    let small = abs-by 131072 (lit (n % 512) ⊖ lit 128) (omega arith) (omega arith) in
+    set-narrow (resultsAt n) (n % 64) (pos (n % 512) -ℤ pos 128) small (results-narrow n)

@@ -10,9 +10,10 @@ use lib.IntN.{ℤ, pos}
 use lib.ListN.{length}
 use Rattle.bits.specs.Bits.{has, got, next}
 use Rattle.bits.specs.Programs.{Prog, look, bits, run, Out, many}
-use Rattle.bits.specs.Runs.{Runs}
+use Rattle.bits.specs.Runs.{Runs, Inside, Reading}
+use Rattle.bits.specs.declared.reader.Reader.{Reader}
 use Rattle.bits.proofs.Programs.{bind-on}
-use Rattle.bits.proofs.Rules.{r-call, r-yes, r-no, r-done, r-most, Loops, loop-start, loop-on, loop-end}
+use Rattle.bits.proofs.Rules.{r-call, r-yes, r-no, r-done, Loops, loop-start, loop-on, loop-end}
 use Rattle.codes.specs.Codes.{dctCoeff, motion}
 use Rattle.codes.specs.Tables.{dctCoeffIndex, dctCoeffValue, motionIndex, motionValue}
 use Rattle.codes.proofs.Good.{good-dct-coeff, good-motion}
@@ -35,51 +36,50 @@ r-look : {A : Type 0} {s : List ℕ} {a n : ℕ} {k : Bool → ℕ → Prog A} {
 unfolding run
 r-look r = record { is = r .is }
 
--- the loop in the middle: at the place a, with the state x
-pub record Going {S : Type 0} (n : ℕ) (p : S → Prog S) (x₀ : S) (s : List ℕ) (a : ℕ) (x : S) : Type 0 where
-  pub most : a ≤ 134217728
-  pub loops : Loops many (whileTurn n p) x₀ x₀ s 0 x a (134217728 - a)
+-- the loop in the middle: at the reader `from`, with the state x
+pub record Going {S : Type 0} (n : ℕ) (p : S → Prog S) (x₀ : S) (s : List ℕ) (from : Reader) (x : S) : Type 0 where
+  pub inside : Inside s from
+  pub loops : Loops many (whileTurn n p) x₀ x₀ s 0 x (from .at .0) (134217728 - from .at .0)
 
 module _ {S : Type 0} (n : ℕ) (p : S → Prog S) (x₀ : S) (s : List ℕ) where
-  pub going-start : (a : ℕ) → a ≡ 0 → Going n p x₀ s a x₀
-  going-start a h = rw h (record { most = omega arith; loops = loop-start (omega arith) })
+  pub going-start : (from : Reader) → length s ≤ 16777216 → from .at .0 ≡ 0 → Going n p x₀ s from x₀
+  going-start from short h = record { inside = record { place = omega arith; stream = short }; loops = rw h (loop-start (omega arith)) }
 
   -- a turn: n bits are there, and p takes one of them or more, so that less is left
-  pub going-on : {a e : ℕ} {x y : S} → length s ≤ 16777216 → has s a n ≡ true → Runs (p x) s a y e → a < e → Going n p x₀ s a x
-      → (134217728 - e < 134217728 - a) × Going n p x₀ s e y
+  pub going-on : {from to : Reader} {x y : S} → has s (from .at .0) n ≡ true → Reading (p x) s from y to → from .at .0 < to .at .0 → Going n p x₀ s from x
+      → (134217728 - to .at .0 < 134217728 - from .at .0) × Going n p x₀ s to y
   unfolding whileTurn
-  going-on {a} {e} short there given on l =
-      let most = r-most given (l .most) short in
-      let less : 134217728 - e < 134217728 - a = omega arith in
-      (less, record { most = most; loops = loop-on (l .loops) (r-look (r-yes _ there (r-call _ given r-done))) less })
+  going-on {from} {to} there given on l =
+      let most = given .inside .place in
+      let less : 134217728 - to .at .0 < 134217728 - from .at .0 = omega arith in
+      (less, record { inside = given .inside; loops = loop-on (l .loops) (r-look (r-yes _ there (r-call _ (given .runs) r-done))) less })
 
-  pub going-end : {a : ℕ} {x : S} (d : S) → length s ≤ 16777216 → has s a n ≡ false → Going n p x₀ s a x
-      → x ≡ ofStream d (whileThere n p x₀) s
+  pub going-end : {from : Reader} {x : S} (d : S) → has s (from .at .0) n ≡ false → Going n p x₀ s from x → x ≡ ofStream d (whileThere n p x₀) s
   unfolding whileTurn whileThere
-  going-end d short h l = whole-stream d _ s short (loop-end (l .loops) (r-look (r-no _ h r-done)))
+  going-end d h l = whole-stream d _ s (l .inside .stream) (loop-end (l .loops) (r-look (r-no _ h r-done)))
 
 -- such a loop that adds up, with the sum so far
-pub record Summing (n : ℕ) (p : Prog ℕ) (s : List ℕ) (a sum : ℕ) : Type 0 where
-  pub small : sum ≤ a * 4294967296
-  pub going : Going n (added p) 0 s a sum
+pub record Summing (n : ℕ) (p : Prog ℕ) (s : List ℕ) (from : Reader) (sum : ℕ) : Type 0 where
+  pub small : sum ≤ from .at .0 * 4294967296
+  pub going : Going n (added p) 0 s from sum
 
 module _ (n : ℕ) (p : Prog ℕ) (s : List ℕ) where
   pub summing-long : 16777216 < length s → 0 ≡ sumOf n p s
   unfolding sumOf
   summing-long h = ap (λ (x : ℕ). x % 4294967296) (too-long 0 _ s h)
 
-  pub summing-start : (a : ℕ) → a ≡ 0 → Summing n p s a 0
-  summing-start a h = record { small = omega arith; going = going-start n (added p) 0 s a h }
+  pub summing-start : (from : Reader) → length s ≤ 16777216 → from .at .0 ≡ 0 → Summing n p s from 0
+  summing-start from short h = record { small = omega arith; going = going-start n (added p) 0 s from short h }
 
-  pub summing-step : {a sum v e : ℕ} → length s ≤ 16777216 → has s a n ≡ true → Runs p s a v e → a < e → v < 4294967296
-      → Summing n p s a sum → (134217728 - e < 134217728 - a) × Summing n p s e (sum + v)
-  summing-step short there given on h l =
-      let g = going-on n (added p) 0 s short there (r-call _ given r-done) on (l .going) in
+  pub summing-step : {from to : Reader} {sum v : ℕ} → has s (from .at .0) n ≡ true → Reading p s from v to → from .at .0 < to .at .0 → v < 4294967296
+      → Summing n p s from sum → (134217728 - to .at .0 < 134217728 - from .at .0) × Summing n p s to (sum + v)
+  summing-step there given on h l =
+      let g = going-on n (added p) 0 s there (record { runs = r-call _ (given .runs) r-done; inside = given .inside }) on (l .going) in
       (g .0, record { small = omega (arith, l .small); going = g .1 })
 
-  pub summing-end : {a sum : ℕ} → length s ≤ 16777216 → has s a n ≡ false → Summing n p s a sum → sum % 4294967296 ≡ sumOf n p s
+  pub summing-end : {from : Reader} {sum : ℕ} → has s (from .at .0) n ≡ false → Summing n p s from sum → sum % 4294967296 ≡ sumOf n p s
   unfolding sumOf
-  summing-end short h l = ap (λ (x : ℕ). x % 4294967296) (going-end n (added p) 0 s 0 short h (l .going))
+  summing-end h l = ap (λ (x : ℕ). x % 4294967296) (going-end n (added p) 0 s 0 h (l .going))
 
 -- bits that are there are taken
 pub bits-on : {s : List ℕ} {a n v e : ℕ} → 0 < n → has s a n ≡ true → Runs (bits n) s a v e → a < e

@@ -1,8 +1,9 @@
 // Coefficient codes, from a stream's beginning to its end.
 use bits::reader::Reader;
-use codes::tables::DCT_COEFF_INDEX;
-use codes::tables::DCT_COEFF_VALUE;
-use codes::walk::read_vlc_uint;
+use codes::codes::read_dct_coeff;
+use codes::matrices::INTRA_QUANT_MATRIX;
+use codes::matrices::NON_INTRA_QUANT_MATRIX;
+use tables::tables::tables_with;
 ghost use mathlib.Core.Path.{_≡_};
 ghost use Rattle.bench.specs.Codes.{sumOfCodes};
 
@@ -14,12 +15,11 @@ pub extern "C" fn bench_codes(bytes: &[u8]) -> u32
     if 16777216 < bytes.len() {
         return 0;
     }
-    let index = DCT_COEFF_INDEX;
-    let value = DCT_COEFF_VALUE;
+    let tables = tables_with(&INTRA_QUANT_MATRIX, &NON_INTRA_QUANT_MATRIX);
     let mut reader = Reader::new();
     let mut sum: u64 = 0;
     while reader.has(bytes, 1).value {
-        let code = read_vlc_uint(bytes, reader, &index, &value);
+        let code = read_dct_coeff(bytes, reader, &tables);
         reader = code.reader;
         sum += code.value as u64;
     }

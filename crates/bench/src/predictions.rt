@@ -58,7 +58,9 @@ pub extern "C" fn bench_predict_plane(
     interpolate: bool,
 ) -> bool
     ensures answer { λ r. ⌜ r ≡ roomForPlanes luma across down (now (store .entry)) (now (vectors .entry)) ⌝ }
-    ensures store { λ r. ⌜ now (store .exit) ≡ cond r (predictPlane luma across down (now (vectors .entry)) interpolate (now (store .entry))) (now (store .entry)) ⌝ }
+    ensures store { λ r. ⌜
+        now (store .exit) ≡ cond r (predictPlane luma across down (now (vectors .entry)) interpolate (now (store .entry))) (now (store .entry))
+        ⌝ }
 {
     let size = size_of(luma);
     if !room(across, down, 2 * (size * size), store.len()) {
@@ -97,7 +99,9 @@ pub extern "C" fn bench_predict_store(
     interpolate: bool,
 ) -> bool
     ensures answer { λ r. ⌜ r ≡ roomForStores across down (now (store .entry)) (now (vectors .entry)) ⌝ }
-    ensures store { λ r. ⌜ now (store .exit) ≡ cond r (predictStore across down (now (vectors .entry)) interpolate (now (store .entry))) (now (store .entry)) ⌝ }
+    ensures store { λ r. ⌜
+        now (store .exit) ≡ cond r (predictStore across down (now (vectors .entry)) interpolate (now (store .entry))) (now (store .entry))
+        ⌝ }
 {
     if !room(across, down, 1152, store.len()) {
         return false;

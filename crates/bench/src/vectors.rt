@@ -1,8 +1,9 @@
 // Vector steps, from a stream's beginning to its end.
 use bits::reader::Reader;
-use codes::tables::MOTION_INDEX;
-use codes::tables::MOTION_VALUE;
+use codes::matrices::INTRA_QUANT_MATRIX;
+use codes::matrices::NON_INTRA_QUANT_MATRIX;
 use motion::vector::decode_motion_vector;
+use tables::tables::tables_with;
 ghost use mathlib.Core.Path.{_≡_};
 ghost use Rattle.bench.specs.Vectors.{lastComponent};
 
@@ -17,12 +18,11 @@ pub extern "C" fn bench_vectors(bytes: &[u8], r: u32) -> i32
     if 16777216 < bytes.len() {
         return 0;
     }
-    let index = MOTION_INDEX;
-    let value = MOTION_VALUE;
+    let tables = tables_with(&INTRA_QUANT_MATRIX, &NON_INTRA_QUANT_MATRIX);
     let mut reader = Reader::new();
     let mut component: i32 = 0;
     while reader.has(bytes, 1).value {
-        let step = decode_motion_vector(bytes, reader, &index, &value, r, component);
+        let step = decode_motion_vector(bytes, reader, &tables, r, component);
         reader = step.reader;
         component = step.motion;
     }

@@ -4,7 +4,8 @@ use mathlib.Core.Path.{_≡_, refl, ap, sym, _∙_}
 use mathlib.Core.List.{List}
 use Prim.Native.Nat.{ℕ, zero, suc, _+_, _-_, _*_, _/_, _%_, _^_, _<_, _≤_}
 use native.Mathlib.Omega.{arith}
-use native.Mathlib.Nat.{add-zero, add-suc, add-assoc, mod-eq-of-lt, mod-eq-sub-div-mul, div-mul-le-self, div-one, div-div-eq-div-mul, pow-suc, mod-le, div-le-self, lt-of-lt-of-le}
+use native.Mathlib.Nat.{add-zero, add-suc, add-assoc, mod-eq-of-lt, mod-eq-sub-div-mul, div-mul-le-self, div-one, div-div-eq-div-mul, pow-suc, mod-le}
+use native.Mathlib.Nat.{div-le-self, lt-of-lt-of-le}
 use lib.Arith.{digits-div, digits-mod}
 use lib.Pow.{high, low, pow-mono}
 use lib.ListN.{getD}
@@ -49,7 +50,8 @@ byte-more s b n m e h =
     ∙ ap (λ (k : ℕ). bitsAt s (b * 8) m * 256 + k) (byte-bits s (b + n) h)
 
 -- five bytes, as the code reads and joins them
-pub five-bytes : (s : List ℕ) (b : ℕ) {v w x y z n : ℕ} → (v ≡ getD s b 0) × (v < 256) → (w ≡ getD s (b + 1) 0) × (w < 256) → (x ≡ getD s (b + 2) 0) × (x < 256)
+pub five-bytes : (s : List ℕ) (b : ℕ) {v w x y z n : ℕ} → (v ≡ getD s b 0) × (v < 256) → (w ≡ getD s (b + 1) 0) × (w < 256)
+    → (x ≡ getD s (b + 2) 0) × (x < 256)
     → (y ≡ getD s (b + 3) 0) × (y < 256) → (z ≡ getD s (b + 4) 0) × (z < 256) → n ≡ v * 4294967296 + w * 16777216 + x * 65536 + y * 256 + z
     → n ≡ bitsAt s (b * 8) 40
 five-bytes s b p q r t u e =

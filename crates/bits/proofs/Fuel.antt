@@ -19,7 +19,8 @@ module _ {S A : Type 0} (f : S → Prog (Turn S A)) (s : List ℕ) where
   abbrev step : Out S → Turn (Out S) (Out A)
   step w = turned (run (f (w .value)) s (w .at) .value) (run (f (w .value)) s (w .at) .at)
 
-  run-loop : (n : ℕ) (d : A) (x : S) (a : ℕ) → run (loop n f d x) s a ≡ turns n step (λ w. record { value = d; at = w .at }) (record { value = x; at = a })
+  run-loop : (n : ℕ) (d : A) (x : S) (a : ℕ) → run (loop n f d x) s a ≡ turns n step (λ w. record { value = d; at = w .at })
+      (record { value = x; at = a })
   unfolding run loop turns
   run-loop zero d x a = refl
   run-loop (suc n) d x a = run-bind (f x) (turn (loop n f d)) s a ∙ go (run (f x) s a .value) (run (f x) s a .at) (λ y e. run-loop n d y e)
@@ -40,7 +41,8 @@ module _ {S A : Type 0} (f : S → Prog (Turn S A)) (s : List ℕ) where
       → (n m : ℕ) (d e : A) (x : S) (a : ℕ) → μ x a < n → μ x a < m → run (loop n f d x) s a ≡ run (loop m f e x) s a
   loop-enough-fuel μ falls n m d e x a h k =
       run-loop n d x a
-      ∙ enough-fuel step (λ w. Unit {0}) (λ w. μ (w .value) (w .at)) (λ w u p q. (tt, less w u (run (f (w .value)) s (w .at) .value) refl q)) n m _ _ (record { value = x; at = a }) tt h k
+      ∙ enough-fuel step (λ w. Unit {0}) (λ w. μ (w .value) (w .at)) (λ w u p q. (tt, less w u (run (f (w .value)) s (w .at) .value) refl q)) n m _ _
+      (record { value = x; at = a }) tt h k
       ∙ sym (run-loop m e x a)
     where
       state : Out S → Turn (Out S) (Out A) → Out S

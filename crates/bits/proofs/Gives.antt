@@ -1,9 +1,10 @@
 -- What holds of a program's value wherever in a stream it runs: one rule for each form of a program. Assumes nothing.
-use mathlib.Core.Path.{_≡_, refl}
+use mathlib.Core.Path.{_≡_, refl, subst}
 use mathlib.Core.Bool.{Bool, true, false, cond}
 use mathlib.Core.List.{List}
 use Prim.Native.Nat.{ℕ, zero, suc, _+_, _^_, _<_}
 use native.Mathlib.Omega.{arith}
+use lib.Dec.{leb}
 use lib.ListN.{getD}
 use lib.IntN.{pos, negsuc}
 use lib.Pow.{pow-pos}
@@ -12,7 +13,8 @@ use borrow.Author.Tests.{le-leb}
 use Rattle.laws.specs.Turns.{Turn, again, stop}
 use Rattle.laws.proofs.Tests.{by-case}
 use Rattle.bits.specs.Bits.{Found, has, got, found, boundary}
-use Rattle.bits.specs.Programs.{Prog, done, run, bind, bits, nextStartCode, turn, loop}
+use Rattle.bits.specs.Programs.{Prog, Out, done, run, bind, bits, reads, nextStartCode, turn, loop}
+use Rattle.bits.specs.Runs.{Runs}
 use Rattle.bits.proofs.Bits.{bits-lt}
 use Rattle.bits.proofs.Programs.{run-bind}
 use Rattle.bits.proofs.Start.{Searched, first, none, found-is-first}
@@ -20,6 +22,10 @@ use Rattle.bits.proofs.Start.{Searched, first, none, found-is-first}
 -- run from any place of s on, p gives a value of which P holds
 pub record Gives {A : Type 0} (s : List ℕ) (P : A → Type 0) (p : Prog A) : Type 0 where
   pub value : (a : ℕ) → P (run p s a .value)
+
+-- so it holds of the value of each run
+pub given-by : {A : Type 0} {s : List ℕ} {P : A → Type 0} {p : Prog A} {a : ℕ} {v : A} {e : ℕ} → Gives s P p → Runs p s a v e → P v
+given-by {A} {P = P} {a = a} g r = subst (λ (o : Out A). P (o .value)) (r .is) (g .value a)
 
 -- what a turn that ended at the place e leaves: I of its state, or P of its answer
 abbrev pub Leaves : {S A : Type 0} → (S → ℕ → Type 0) → (A → Type 0) → Turn S A → ℕ → Type 0
@@ -40,7 +46,8 @@ module _ {S A : Type 0} (s : List ℕ) (I : S → ℕ → Type 0) (P : A → Typ
   loop-value (suc n) x a i =
       rw (run-bind (f x) (turn (loop n f d)) s a) (go (run (f x) s a .value) (run (f x) s a .at) (keeps x a i) (λ y e. loop-value n y e))
     where
-      go : (t : Turn S A) (e : ℕ) → Leaves I P t e → ((y : S) (e : ℕ) → I y e → P (run (loop n f d y) s e .value)) → P (run (turn (loop n f d) t) s e .value)
+      go : (t : Turn S A) (e : ℕ) → Leaves I P t e → ((y : S) (e : ℕ) → I y e → P (run (loop n f d y) s e .value))
+          → P (run (turn (loop n f d) t) s e .value)
       go (again y) e h k = k y e h
       go (stop v) e h k = h
 
@@ -59,10 +66,12 @@ module _ {s : List ℕ} where
   pub g-when : {A : Type 0} (H : Type 0) {P : A → Type 0} {p : Prog A} → (H → Gives s P p) → Gives s (λ x. H → P x) p
   g-when H g = record { value = λ a h. g h .value a }
 
-  pub g-bind : {A B : Type 0} {P : A → Type 0} {Q : B → Type 0} {p : Prog A} (f : A → Prog B) → Gives s P p → ((x : A) → P x → Gives s Q (f x)) → Gives s Q (bind p f)
+  pub g-bind : {A B : Type 0} {P : A → Type 0} {Q : B → Type 0} {p : Prog A} (f : A → Prog B) → Gives s P p
+      → ((x : A) → P x → Gives s Q (f x)) → Gives s Q (bind p f)
   g-bind {p = p} f g k = record { value = λ a. rw (run-bind p f s a) (k (run p s a .value) (g .value a) .value (run p s a .at)) }
 
-  pub g-if : {A : Type 0} {P : A → Type 0} (b : Bool) {p q : Prog A} → (b ≡ true → Gives s P p) → (b ≡ false → Gives s P q) → Gives s P (cond b p q)
+  pub g-if : {A : Type 0} {P : A → Type 0} (b : Bool) {p q : Prog A} → (b ≡ true → Gives s P p) → (b ≡ false → Gives s P q)
+      → Gives s P (cond b p q)
   g-if {P = P} b g h = by-case (Gives s P) b g h
 
   pub g-loop : {S A : Type 0} {P : A → Type 0} (I : S → Type 0) (n : ℕ) (f : S → Prog (Turn S A)) (d : A)
@@ -78,6 +87,10 @@ module _ {s : List ℕ} where
   pub g-bits : (n : ℕ) → Gives s (λ v. v < 2 ^ n) (bits n)
   unfolding run got
   g-bits n = record { value = λ a. by-case (λ v. v < 2 ^ n) (has s a n) (λ e. bits-lt s a n) (λ e. pow-pos n) }
+
+  -- the same of a read, which refuses more than 32 bits
+  pub g-reads : (n : ℕ) → Gives s (λ v. v < 2 ^ n) (reads n)
+  g-reads n = g-if (leb n 32) (λ e. g-bits n) (λ e. g-done (pow-pos n))
 
   -- a start code of a stream of bytes, or -1
   pub g-start : ((k : ℕ) → getD s k 0 < 256) → Gives s (λ c. (leZ (negsuc 0) c ≡ true) × (leZ c (pos 255) ≡ true)) nextStartCode

@@ -139,7 +139,8 @@ module _ (s : List ℕ) (x : ℕ) (t : List ℕ) (y m : ℕ) (w : Alike s x t y 
       rw (has-alike o n (omega arith), got-alike o n (omega arith)) (moved (k (has s (x * 8 + o) n) (got s (x * 8 + o) n)) o sh (omega arith))
   moved (start k) o sh f =
       let hit = saw-code s (found s (x * 8 + o)) ((x + m) * 8) (omega arith) (omega arith) in
-      let sm = search-moved (length s - 4 - boundary (x * 8 + o)) (length t - 4 - boundary (y * 8 + o)) (boundary (x * 8 + o)) (boundary (y * 8 + o)) (omega arith) (omega arith) refl (hit .0) (hit .1) in
+      let sm = search-moved (length s - 4 - boundary (x * 8 + o)) (length t - 4 - boundary (y * 8 + o)) (boundary (x * 8 + o)) (boundary (y * 8 + o))
+      (omega arith) (omega arith) refl (hit .0) (hit .1) in
       let q = found s (x * 8 + o) .at - x * 8 in
       let es : found s (x * 8 + o) .at ≡ x * 8 + q = omega (arith, found-on s (x * 8 + o)) in
       let et : found t (y * 8 + o) .at ≡ y * 8 + q = omega (arith, found-on s (x * 8 + o), sm .1) in
@@ -164,5 +165,6 @@ joined s t p o sh f =
     let r′ : Moved (run p t o) 0 (run p (s ++ t) (length s * 8 + o)) (length s) = rw z at r in
     λ i. record { value = r′ .value i; at = at-is (r′ .at) i }
   where
-    at-is : run p (s ++ t) (length s * 8 + o) .at + 0 * 8 ≡ run p t o .at + length s * 8 → run p (s ++ t) (length s * 8 + o) .at ≡ length s * 8 + run p t o .at
+    at-is : run p (s ++ t) (length s * 8 + o) .at + 0 * 8 ≡ run p t o .at + length s * 8
+        → run p (s ++ t) (length s * 8 + o) .at ≡ length s * 8 + run p t o .at
     at-is h = omega arith

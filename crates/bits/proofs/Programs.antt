@@ -83,7 +83,8 @@ got-served s a zero g = absurd (g (same (has s a 0)))
     same false = refl
 got-served s a (suc n) g = go (has s a (suc n)) refl g
   where
-    go : (b : Bool) → has s a (suc n) ≡ b → (cond b (bitsAt s a (suc n)) 0 ≡ 0 → ⊥) → (cond b (a + suc n) a ≡ a + suc n) × (a + suc n ≤ length s * 8)
+    go : (b : Bool) → has s a (suc n) ≡ b → (cond b (bitsAt s a (suc n)) 0 ≡ 0 → ⊥) → (cond b (a + suc n) a ≡ a + suc n)
+        × (a + suc n ≤ length s * 8)
     go true e g = (refl, omega (arith, leb-true (suc n) (length s * 8 - a) e))
     go false e g = absurd (g refl)
 

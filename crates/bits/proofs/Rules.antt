@@ -13,7 +13,8 @@ use lib.Dec.{leb, eqb}
 use Rattle.laws.specs.Turns.{Turn, again, stop}
 use Rattle.bits.specs.Bits.{Found, bitsAt, has, got, next, found, boundary}
 use Rattle.bits.specs.Programs.{Prog, done, look, Out, run, bind, bits, skips, reads, nonZero, nextStartCode, turn, loop}
-use Rattle.bits.specs.Runs.{Runs}
+use Rattle.bits.specs.Runs.{Runs, Inside, Reading}
+use Rattle.bits.specs.declared.reader.Reader.{Reader}
 use Rattle.bits.proofs.Start.{Searched, first, none, found-is-first}
 use Rattle.bits.proofs.Programs.{run-bind, run-most}
 
@@ -26,10 +27,12 @@ pub r-call : {A B : Type 0} {s : List ℕ} {a : ℕ} {p : Prog A} (f : A → Pro
 r-call {s = s} {a} {p} f {v} {e} q r =
     record { is = run-bind p f s a ∙ ap (λ (o : Out _). run (f (o .value)) s (o .at)) (q .is) ∙ r .is }
 
-pub r-yes : {A : Type 0} {s : List ℕ} {a : ℕ} {t : Bool} {p : Prog A} (q : Prog A) {v : A} {e : ℕ} → t ≡ true → Runs p s a v e → Runs (cond t p q) s a v e
+pub r-yes : {A : Type 0} {s : List ℕ} {a : ℕ} {t : Bool} {p : Prog A} (q : Prog A) {v : A} {e : ℕ} → t ≡ true → Runs p s a v e
+    → Runs (cond t p q) s a v e
 r-yes {s = s} {a} {t} {p} q {v} {e} h r = rw h r
 
-pub r-no : {A : Type 0} {s : List ℕ} {a : ℕ} {t : Bool} (p : Prog A) {q : Prog A} {v : A} {e : ℕ} → t ≡ false → Runs q s a v e → Runs (cond t p q) s a v e
+pub r-no : {A : Type 0} {s : List ℕ} {a : ℕ} {t : Bool} (p : Prog A) {q : Prog A} {v : A} {e : ℕ} → t ≡ false → Runs q s a v e
+    → Runs (cond t p q) s a v e
 r-no {s = s} {a} {t} p {q} {v} {e} h r = rw h r
 
 -- what the reader's own proofs show
@@ -67,7 +70,8 @@ refused s a v e r =
 pub is-nonZero : {s : List ℕ} {a v e : ℕ} (n : ℕ) → Runs (reads n) s a v e → Runs (nonZero n) s a (not (eqb v 0)) a
 is-nonZero {s} {a} {v} {e} n = go (leb n 32)
   where
-    go : (t : Bool) → Runs (cond t (bits n) (done 0)) s a v e → Runs (cond t (look n (λ h x. done (h && not (eqb x 0)))) (done false)) s a (not (eqb v 0)) a
+    go : (t : Bool) → Runs (cond t (bits n) (done 0)) s a v e → Runs (cond t (look n (λ h x. done (h && not (eqb x 0)))) (done false)) s a
+        (not (eqb v 0)) a
     go true r = looked s a n v e r
     go false r = refused s a v e r
 
@@ -81,8 +85,14 @@ r-start-past {s} {a} {e} {k} r g = go (found s a) (found-is-first s a) (ap (λ (
     go f (none w q) x y = absurd (g (sym x ∙ ap (λ (h : Found). h .code) q))
 
 -- a run stays within the bounds of the position
-pub r-most : {A : Type 0} {p : Prog A} {s : List ℕ} {a : ℕ} {v : A} {e : ℕ} → Runs p s a v e → a ≤ 134217728 → length s ≤ 16777216 → e ≤ 134217728
+pub r-most : {A : Type 0} {p : Prog A} {s : List ℕ} {a : ℕ} {v : A} {e : ℕ} → Runs p s a v e → a ≤ 134217728 → length s ≤ 16777216
+    → e ≤ 134217728
 r-most {p = p} {s} {a} r h l = rw (r .is) at (run-most p s a 16777216 h l)
+
+-- so what began inside ends inside
+pub reading : {A : Type 0} {p : Prog A} {s : List ℕ} {from to : Reader} {v : A} → Inside s from → Runs p s (from .at .0) v (to .at .0)
+    → Reading p s from v to
+reading i r = record { runs = r; inside = record { place = r-most r (i .place) (i .stream); stream = i .stream } }
 
 -- a loop in the middle: with the state x at the place a it still gives what the whole loop gives, and has fuel for `left` turns more
 pub record Loops {S A : Type 0} (n : ℕ) (f : S → Prog (Turn S A)) (d : A) (x₀ : S) (s : List ℕ) (a₀ : ℕ) (x : S) (a left : ℕ) : Type 0 where
@@ -98,13 +108,15 @@ pub loop-suc : {S A : Type 0} (n m : ℕ) (f : S → Prog (Turn S A)) (d : A) (x
 unfolding loop
 loop-suc n m f d x s a h = rw h (run-bind (f x) (turn (loop m f d)) s a)
 
-unfoldable pub loop-on : {S A : Type 0} {n : ℕ} {f : S → Prog (Turn S A)} {d : A} {x₀ : S} {s : List ℕ} {a₀ : ℕ} {x : S} {a left : ℕ} {y : S} {e less : ℕ}
+unfoldable pub loop-on : {S A : Type 0} {n : ℕ} {f : S → Prog (Turn S A)} {d : A} {x₀ : S} {s : List ℕ} {a₀ : ℕ} {x : S} {a left : ℕ}
+    {y : S} {e less : ℕ}
     → Loops n f d x₀ s a₀ x a left → Runs (f x) s a (again y) e → less < left → Loops n f d x₀ s a₀ y e less
 loop-on {f = f} {d} {s = s} {x = x} {a} l r h =
     record {
       fuel = l .fuel - 1;
       enough = omega arith;
-      same = l .same ∙ loop-suc (l .fuel) (l .fuel - 1) f d x s a (omega arith) ∙ ap (λ (o : Out _). run (turn (loop (l .fuel - 1) f d) (o .value)) s (o .at)) (r .is);
+      same = l .same ∙ loop-suc (l .fuel) (l .fuel - 1) f d x s a (omega arith)
+          ∙ ap (λ (o : Out _). run (turn (loop (l .fuel - 1) f d) (o .value)) s (o .at)) (r .is);
     }
 
 pub loop-end : {S A : Type 0} {n : ℕ} {f : S → Prog (Turn S A)} {d : A} {x₀ : S} {s : List ℕ} {a₀ : ℕ} {x : S} {a left : ℕ} {v : A} {e : ℕ}
@@ -112,7 +124,8 @@ pub loop-end : {S A : Type 0} {n : ℕ} {f : S → Prog (Turn S A)} {d : A} {x�
 unfolding run
 loop-end {f = f} {d} {s = s} {x = x} {a} l r =
     record {
-      is = l .same ∙ loop-suc (l .fuel) (l .fuel - 1) f d x s a (omega arith) ∙ ap (λ (o : Out _). run (turn (loop (l .fuel - 1) f d) (o .value)) s (o .at)) (r .is);
+      is = l .same ∙ loop-suc (l .fuel) (l .fuel - 1) f d x s a (omega arith)
+          ∙ ap (λ (o : Out _). run (turn (loop (l .fuel - 1) f d) (o .value)) s (o .at)) (r .is);
     }
 
 -- tests joined by and

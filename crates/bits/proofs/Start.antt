@@ -97,7 +97,8 @@ pub record First (s : List ℕ) (b p : ℕ) : Type 0 where
 -- stream, or at the boundary where that is further on
 pub data Searched (s : List ℕ) (b : ℕ) (f : Found) : Type 0 where
   first : (p : ℕ) → First s b p → f ≡ record { code = pos (getD s (p + 3) 0); at = (p + 4) * 8 } → Searched s b f
-  none : ((j : ℕ) → b ≤ j → j + 5 ≤ length s → codePrefix s j ≡ false) → f ≡ record { code = negsuc 0; at = max b (length s - 4) * 8 } → Searched s b f
+  none : ((j : ℕ) → b ≤ j → j + 5 ≤ length s → codePrefix s j ≡ false) → f ≡ record { code = negsuc 0; at = max b (length s - 4) * 8 }
+      → Searched s b f
 
 at-or-on : (P : ℕ → Type 0) (b j : ℕ) → b ≤ j → P b → (b + 1 ≤ j → P j) → P j
 at-or-on P b j h x f = ⊎-elim (λ (e : b ≡ j). subst P e x) (λ (l : b < j). f (omega arith)) (eq-or-lt-of-le h)

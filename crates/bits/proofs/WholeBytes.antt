@@ -12,7 +12,8 @@ left : (l b : ℕ) → b < l → l - b ≡ suc (l - (b + 1))
 left l b h = omega arith
 
 -- one byte of a run of equal ones
-pub equal-on : (s : List ℕ) (v b : ℕ) → b < length s → getD s b 0 ≡ v → equalBytes s v b (length s - b) ≡ 1 + equalBytes s v (b + 1) (length s - (b + 1))
+pub equal-on : (s : List ℕ) (v b : ℕ) → b < length s → getD s b 0 ≡ v → equalBytes s v b (length s - b) ≡ 1 + equalBytes s v (b + 1)
+    (length s - (b + 1))
 unfolding equalBytes
 equal-on s v b h e = rw (left (length s) b h) (simp (eq-eqb _ _ e) (omega arith))
 

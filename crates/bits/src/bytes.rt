@@ -6,6 +6,7 @@ ghost use mathlib.Core.Path.{_≡_};
 ghost use Prim.Native.Nat.{_+_, _-_, _*_, _≤_};
 ghost use lib.ListN.{length};
 ghost use Rattle.bits.specs.Bits.{boundary, equalBytes, partAt, Within};
+ghost use Rattle.bits.specs.Runs.{Inside};
 
 pub struct SkippedBytes {
     pub reader: Reader,
@@ -26,11 +27,12 @@ pub struct PeekedBytes {
 impl Reader {
     // To the next byte boundary, and on past the bytes that equal v.
     pub fn skip_bytes(self, s: &[u8], v: u8) -> SkippedBytes
-        requires { ⌜ self .at .0 ≤ 134217728 ⌝ }
-        requires { ⌜ length (now s) ≤ 16777216 ⌝ }
-        ensures { λ r. ⌜ r .count ≡ equalBytes (now (s .entry)) v (boundary (self .at .0)) (length (now (s .entry)) - boundary (self .at .0)) ⌝ }
+        requires { ⌜ Inside (now s) self ⌝ }
+        ensures { λ r. ⌜
+            r .count ≡ equalBytes (now (s .entry)) v (boundary (self .at .0)) (length (now (s .entry)) - boundary (self .at .0))
+            ⌝ }
         ensures { λ r. ⌜ r .reader .at .0 ≡ (boundary (self .at .0) + r .count) * 8 ⌝ }
-        ensures { λ r. ⌜ r .reader .at .0 ≤ 134217728 ⌝ }
+        ensures { λ r. ⌜ Inside (now (s .entry)) (r .reader) ⌝ }
     {
         let from = self.align().tell().at.0;
         let mut b = from;
@@ -57,7 +59,7 @@ impl Reader {
 
     // Where the count bytes from the byte of the place on stand, if they lie inside.
     pub fn peek_bytes(self, s: &[u8], count: usize) -> PeekedBytes
-        ensures { λ r. ⌜ (r .part ≡ partAt (now (s .entry)) (self .at .0) count) × (r .reader .at .0 ≡ self .at .0) ⌝ }
+        ensures { λ r. ⌜ (r .part ≡ partAt (now (s .entry)) (self .at .0) count) × (r .reader ≡ self) ⌝ }
         ensures { λ r. ⌜ Within (r .part) (length (now (s .entry))) ⌝ }
     {
         let from = self.tell().at.0;

@@ -9,7 +9,7 @@ ghost use lib.ListN.{length, getD};
 ghost use lib.Dec.{leb};
 ghost use Rattle.bits.specs.Bits.{bitsAt, has, boundary};
 ghost use Rattle.bits.specs.Programs.{bits, reads, skips, nonZero};
-ghost use Rattle.bits.specs.Runs.{Runs};
+ghost use Rattle.bits.specs.Runs.{Inside, Reading};
 
 // `at` is the Rust's `bit_index`.
 pub struct Reader {
@@ -87,7 +87,7 @@ impl Reader {
     // Whether count more bits are there.
     pub fn has(self, s: &[u8], count: usize) -> Peeked
         requires { ⌜ length (now s) ≤ 16777216 ⌝ }
-        ensures { λ r. ⌜ (r .value ≡ has (now (s .entry)) (self .at .0) count) × (r .reader .at .0 ≡ self .at .0) ⌝ }
+        ensures { λ r. ⌜ (r .value ≡ has (now (s .entry)) (self .at .0) count) × (r .reader ≡ self) ⌝ }
     {
         let at = self.at.0;
         let end = s.len() * 8;
@@ -107,7 +107,7 @@ impl Reader {
     // Whether no bit is left.
     pub fn has_ended(self, s: &[u8]) -> Peeked
         requires { ⌜ length (now s) ≤ 16777216 ⌝ }
-        ensures { λ r. ⌜ (r .value ≡ leb (length (now (s .entry)) * 8) (self .at .0)) × (r .reader .at .0 ≡ self .at .0) ⌝ }
+        ensures { λ r. ⌜ (r .value ≡ leb (length (now (s .entry)) * 8) (self .at .0)) × (r .reader ≡ self) ⌝ }
     {
         let at = self.at.0;
         let end = s.len() * 8;
@@ -119,10 +119,8 @@ impl Reader {
 
     // Up to 32 bits, the highest first; 0 and no advance where fewer are left.
     pub fn read(self, s: &[u8], count: usize) -> ReadBits
-        requires { ⌜ self .at .0 ≤ 134217728 ⌝ }
-        requires { ⌜ length (now s) ≤ 16777216 ⌝ }
-        ensures { λ r. ⌜ Runs (reads count) (now (s .entry)) (self .at .0) (r .value) (r .reader .at .0) ⌝ }
-        ensures { λ r. ⌜ (r .value < 2 ^ count) × (r .reader .at .0 ≤ 134217728) ⌝ }
+        requires { ⌜ Inside (now s) self ⌝ }
+        ensures { λ r. ⌜ Reading (reads count) (now (s .entry)) self (r .value) (r .reader) ⌝ }
     {
         if 32 < count {
             return ReadBits {
@@ -150,10 +148,8 @@ impl Reader {
 
     // One bit, as `read` gives it for a count of 1.
     pub fn read_bit(self, s: &[u8]) -> ReadBits
-        requires { ⌜ self .at .0 ≤ 134217728 ⌝ }
-        requires { ⌜ length (now s) ≤ 16777216 ⌝ }
-        ensures { λ r. ⌜ Runs (bits 1) (now (s .entry)) (self .at .0) (r .value) (r .reader .at .0) ⌝ }
-        ensures { λ r. ⌜ (r .value < 2) × (r .reader .at .0 ≤ 134217728) ⌝ }
+        requires { ⌜ Inside (now s) self ⌝ }
+        ensures { λ r. ⌜ Reading (bits 1) (now (s .entry)) self (r .value) (r .reader) ⌝ }
     {
         let at = self.at.0;
         let b = at / 8;
@@ -174,10 +170,8 @@ impl Reader {
 
     // count bits on, or none where fewer are left.
     pub fn skip(self, s: &[u8], count: usize) -> Reader
-        requires { ⌜ self .at .0 ≤ 134217728 ⌝ }
-        requires { ⌜ length (now s) ≤ 16777216 ⌝ }
-        ensures { λ r. ⌜ Runs (skips count) (now (s .entry)) (self .at .0) tt (r .at .0) ⌝ }
-        ensures { λ r. ⌜ r .at .0 ≤ 134217728 ⌝ }
+        requires { ⌜ Inside (now s) self ⌝ }
+        ensures { λ r. ⌜ Reading (skips count) (now (s .entry)) self tt r ⌝ }
     {
         if self.has(s, count).value {
             let at = self.at.0;
@@ -190,10 +184,9 @@ impl Reader {
 
     // Whether count bits are there and not all 0, with no advance.
     pub fn peek_non_zero(self, s: &[u8], count: usize) -> Peeked
-        requires { ⌜ self .at .0 ≤ 134217728 ⌝ }
-        requires { ⌜ length (now s) ≤ 16777216 ⌝ }
-        ensures { λ r. ⌜ Runs (nonZero count) (now (s .entry)) (self .at .0) (r .value) (r .reader .at .0) ⌝ }
-        ensures { λ r. ⌜ r .reader .at .0 ≡ self .at .0 ⌝ }
+        requires { ⌜ Inside (now s) self ⌝ }
+        ensures { λ r. ⌜ Reading (nonZero count) (now (s .entry)) self (r .value) (r .reader) ⌝ }
+        ensures { λ r. ⌜ r .reader ≡ self ⌝ }
     {
         let peeked = self.read(s, count);
         Peeked {
@@ -215,7 +208,7 @@ impl Reader {
 
     // The byte of the place.
     pub fn tell(self) -> Told
-        ensures { λ r. ⌜ (r .at .0 ≡ self .at .0 / 8) × (r .reader .at .0 ≡ self .at .0) ⌝ }
+        ensures { λ r. ⌜ (r .at .0 ≡ self .at .0 / 8) × (r .reader ≡ self) ⌝ }
     {
         let at = byte_of(self.at);
         Told {

@@ -8,7 +8,7 @@ ghost use lib.ListN.{length};
 ghost use lib.IntN.{natAbs};
 ghost use Rattle.bits.specs.Bits.{codePrefix};
 ghost use Rattle.bits.specs.Programs.{nextStartCode, findStartCode, run};
-ghost use Rattle.bits.specs.Runs.{Runs};
+ghost use Rattle.bits.specs.Runs.{Inside, Reading};
 
 // code: the byte behind 00 00 01, or -1.
 pub struct StartCode {
@@ -27,10 +27,9 @@ fn has_prefix(s: &[u8], b: usize) -> bool
 impl Reader {
     // To behind the next start code.
     pub fn next_start_code(self, s: &[u8]) -> StartCode
-        requires { ⌜ self .at .0 ≤ 134217728 ⌝ }
-        requires { ⌜ length (now s) ≤ 16777216 ⌝ }
-        ensures { λ r. ⌜ Runs nextStartCode (now (s .entry)) (self .at .0) (r .code) (r .reader .at .0) ⌝ }
-        ensures { λ r. ⌜ (r .reader .at .0 ≤ 134217728) × (natAbs (r .code) ≤ 255) ⌝ }
+        requires { ⌜ Inside (now s) self ⌝ }
+        ensures { λ r. ⌜ Reading nextStartCode (now (s .entry)) self (r .code) (r .reader) ⌝ }
+        ensures { λ r. ⌜ natAbs (r .code) ≤ 255 ⌝ }
     {
         let mut b = self.align().tell().at.0;
         while b + 5 <= s.len() {
@@ -54,10 +53,9 @@ impl Reader {
 
     // To behind the next start code that is `code`; where there is none, to the end.
     pub fn find_start_code(self, s: &[u8], code: i32) -> StartCode
-        requires { ⌜ self .at .0 ≤ 134217728 ⌝ }
-        requires { ⌜ length (now s) ≤ 16777216 ⌝ }
-        ensures { λ r. ⌜ Runs (findStartCode code) (now (s .entry)) (self .at .0) (r .code) (r .reader .at .0) ⌝ }
-        ensures { λ r. ⌜ (r .reader .at .0 ≤ 134217728) × (natAbs (r .code) ≤ 255) ⌝ }
+        requires { ⌜ Inside (now s) self ⌝ }
+        ensures { λ r. ⌜ Reading (findStartCode code) (now (s .entry)) self (r .code) (r .reader) ⌝ }
+        ensures { λ r. ⌜ natAbs (r .code) ≤ 255 ⌝ }
     {
         let mut reader = self;
         loop {
@@ -75,9 +73,8 @@ impl Reader {
 
     // Whether the start code `code` lies ahead: the code, or -1, with no advance.
     pub fn has_start_code(self, s: &[u8], code: i32) -> StartCode
-        requires { ⌜ self .at .0 ≤ 134217728 ⌝ }
-        requires { ⌜ length (now s) ≤ 16777216 ⌝ }
-        ensures { λ r. ⌜ (r .code ≡ run (findStartCode code) (now (s .entry)) (self .at .0) .value) × (r .reader .at .0 ≡ self .at .0) ⌝ }
+        requires { ⌜ Inside (now s) self ⌝ }
+        ensures { λ r. ⌜ (r .code ≡ run (findStartCode code) (now (s .entry)) (self .at .0) .value) × (r .reader ≡ self) ⌝ }
         ensures { λ r. ⌜ natAbs (r .code) ≤ 255 ⌝ }
     {
         let found = self.find_start_code(s, code);

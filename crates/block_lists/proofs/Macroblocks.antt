@@ -67,7 +67,8 @@ pub record Reads (m : Macroblock) (from to : ℕ) (h v : ℤ) (interpolate : ℕ
   pub v-is : v ≡ toZ w32 (numberAt l 28)
   pub interpolate-is : interpolate ≡ numberAt l 32
 
-module _ (m : Macroblock) (from to : ℕ) (h v : ℤ) (interpolate : ℕ) {t : Bool} (is : t ≡ possible m from to h v interpolate) {l : List ℕ} (r : Reads m from to h v interpolate l) where
+module _ (m : Macroblock) (from to : ℕ) (h v : ℤ) (interpolate : ℕ) {t : Bool} (is : t ≡ possible m from to h v interpolate) {l : List ℕ}
+    (r : Reads m from to h v interpolate l) where
   pub compared : t ≡ true → endsAs m from to h v (eqb interpolate 1) l ≡ macroblockAgrees l
   unfolding macroblockAgrees
   compared e = rw (← r .macroblock, ← r .from-is, ← r .to-is, ← r .h-is, ← r .v-is, ← r .interpolate-is, ← is, e)

@@ -9,8 +9,10 @@ use mir.Syntax.{w32}
 use mir.Val.{ofZ, toZ}
 use Rattle.bits.specs.Programs.{Prog, run}
 use Rattle.codes.specs.Matrices.{bounded}
-use Rattle.coefficients.specs.Blocks.{Read, quantiser, block, leftOver}
+use Rattle.coefficients.specs.Blocks.{Read, block, leftOver}
 use Rattle.coefficients.specs.Dcs.{dcInside}
+use Rattle.coefficients.specs.Dequantise.{quantiser}
+use Rattle.coefficients.specs.declared.quantiser.Quantiser.{Quantiser}
 use Rattle.coefficients.specs.declared.block.BlockEnd.the-variants.{Whole, Dropped, Outside}
 use Rattle.lists.specs.Blocks.{blockOf, holdsBlock}
 use Rattle.lists.specs.Bytes.{part, sameBytes}
@@ -32,17 +34,17 @@ abbrev pub matrixAt : List ℕ → List ℕ
 matrixAt l = laidOver 0 8 8 (part l 40 64) (replicate 64 0)
 
 -- RULES 3.9, 6.13: the plane d after a block that was read; only a whole block is written
-unfoldable pub written : Bool → ℕ → ℕ → Read → List ℕ → List ℕ
-written intra di dw r d = elim (r .end) [ Whole ↦ results intra (r .filled .n) (r .filled .coefficients) di dw d | Dropped ↦ d | Outside ↦ d ]
+unfoldable pub written : Quantiser → ℕ → ℕ → Read → List ℕ → List ℕ
+written q di dw r d = elim (r .end) [ Whole ↦ results q (r .filled) di dw d | Dropped ↦ d | Outside ↦ d ]
 
 -- p, from the place a of the case's stream on, ends at the Rust's place, with its predictor, and leaves its coefficients over; and the plane of noise
 -- has the block's bytes, and all others, as the Rust left them
-unfoldable pub endsAs : Prog Read → Bool → ℕ → ℕ → ℕ → List ℕ → Bool
-endsAs p intra di dw a l =
+unfoldable pub endsAs : Prog Read → Quantiser → ℕ → ℕ → ℕ → List ℕ → Bool
+endsAs p q di dw a l =
     let o = run p (part l 360 64) a in
     let before = noisy (numberAt l 32) 2560 in
-    eqb (o .at) (numberAt l 424) && eqb (ofZ w32 (o .value .predictor)) (numberAt l 428) && holdsBlock (part l 432 256) (leftOver (o .value))
-    && sameBytes (written intra di dw (o .value) before) (laidOver di dw 8 (part l 688 64) before)
+    eqb (o .at) (numberAt l 424) && eqb (ofZ w32 (o .value .predictor)) (numberAt l 428) && holdsBlock (part l 432 256) (leftOver q (o .value))
+    && sameBytes (written q di dw (o .value) before) (laidOver di dw 8 (part l 688 64) before)
 
 -- a case: a macroblock, the block's number, intra or not, the predictor, the scale, the seed, the place in the stream; the matrix, the coefficients
 -- left over, the stream; and what the Rust left
@@ -55,6 +57,6 @@ blockAgrees l =
     let scale = numberAt l 28 in
     let start = numberAt l 36 in
     let left = blockOf (part l 104 256) in
+    let q = quantiser (eqb intra 1) scale in
     possible m number intra predictor scale start
-    && (bounded left
-    && endsAs (block (quantiser (eqb intra 1) scale (matrixAt l)) (ltb number 4) predictor left) (eqb intra 1) (blockPlace m number) (blockWidth m number) start l)
+    && (bounded left && endsAs (block q (matrixAt l) (ltb number 4) predictor left) q (blockPlace m number) (blockWidth m number) start l)

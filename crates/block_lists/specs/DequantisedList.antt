@@ -7,7 +7,8 @@ use lib.IntN.{pos, _-ℤ_}
 use lib.ListN.{getD}
 use mir.Syntax.{w32}
 use mir.Val.{ofZ}
-use Rattle.coefficients.specs.Dequantise.{dequantised}
+use Rattle.coefficients.specs.declared.quantiser.Quantiser.{Quantiser}
+use Rattle.coefficients.specs.Dequantise.{quantiser, dequantised}
 use Rattle.laws.specs.Each.{allBelow}
 use Rattle.lists.specs.Numbers.{numberAt}
 
@@ -16,13 +17,13 @@ unfoldable pub possible : ℕ → ℕ → ℕ → Bool
 possible intra scale entry = leb intra 1 && leb scale 31 && leb entry 255
 
 -- the level k - 256 becomes the Rust's coefficient, of which a case has the lowest 16 bits
-unfoldable pub sameLevel : Bool → ℕ → ℕ → List ℕ → ℕ → Bool
-sameLevel intra scale entry l k =
-    eqb (ofZ w32 (dequantised intra (pos k -ℤ pos 256) scale entry) % 65536) (getD l (12 + 2 * k) 0 * 256 + getD l (13 + 2 * k) 0)
+unfoldable pub sameLevel : Quantiser → ℕ → List ℕ → ℕ → Bool
+sameLevel q entry l k =
+    eqb (ofZ w32 (dequantised q (pos k -ℤ pos 256) entry) % 65536) (getD l (12 + 2 * k) 0 * 256 + getD l (13 + 2 * k) 0)
 
 -- all levels that can be coded, from -256 to 255
-unfoldable pub sameLevels : Bool → ℕ → ℕ → List ℕ → Bool
-sameLevels intra scale entry l = allBelow 512 (sameLevel intra scale entry l)
+unfoldable pub sameLevels : Quantiser → ℕ → List ℕ → Bool
+sameLevels q entry l = allBelow 512 (sameLevel q entry l)
 
 -- a case: intra or not, a scale, an entry, and the coefficients
 unfoldable pub dequantisedAgrees : List ℕ → Bool
@@ -30,4 +31,4 @@ dequantisedAgrees l =
     let intra = numberAt l 0 in
     let scale = numberAt l 4 in
     let entry = numberAt l 8 in
-    possible intra scale entry && sameLevels (eqb intra 1) scale entry l
+    possible intra scale entry && sameLevels (quantiser (eqb intra 1) scale) entry l

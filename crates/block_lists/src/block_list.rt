@@ -10,15 +10,12 @@ use crate::planes::plane;
 use bits::position::BitPosition;
 use bits::reader::Reader;
 use codes::matrices::bounded;
-use codes::matrices::premultiplier_matrix;
-use codes::matrices::zig_zag;
-use codes::tables::DCT_COEFF_INDEX;
-use codes::tables::DCT_COEFF_VALUE;
 use coefficients::block::Block;
 use coefficients::block::BlockEnd;
 use coefficients::block::left_over;
 use coefficients::block::read_block;
 use coefficients::dc::dc_inside;
+use coefficients::quantiser::Quantiser;
 use laws::clamp_u8;
 use lists::block::block_of;
 use lists::block::holds_block;
@@ -34,6 +31,7 @@ use prediction::writers::block_set_add_const;
 use prediction::writers::block_set_const;
 use prediction::writers::block_set_overwrite;
 use prediction::writers::block_width;
+use tables::tables::tables_with;
 use transform::idct::dc_only;
 use transform::idct::idct;
 ghost use mathlib.Core.Path.{_≡_};
@@ -41,9 +39,9 @@ ghost use mathlib.Core.Bool.{true};
 ghost use Prim.Native.Nat.{_+_, _*_, _≤_};
 ghost use lib.ListN.{length};
 ghost use Rattle.bits.specs.Runs.{Runs};
-ghost use Rattle.coefficients.specs.Dcs.{dcInside};
 ghost use Rattle.codes.specs.Matrices.{Bounded};
-ghost use Rattle.coefficients.specs.Blocks.{quantiser, block, readOf};
+ghost use Rattle.coefficients.specs.Blocks.{filled, block, readOf};
+ghost use Rattle.coefficients.specs.Dcs.{dcInside};
 ghost use Rattle.lists.specs.Bytes.{part};
 ghost use Rattle.picture.specs.Blocks.{results};
 ghost use Rattle.block_lists.specs.BlockList.{possible, matrixAt, written, endsAs, blockAgrees};
@@ -68,51 +66,45 @@ fn matrix_at(case: &[u8]) -> [u8; 64]
     matrix
 }
 
-// The block of a case.
+// The block of a case. Its matrix is lent as that of both kinds.
 fn read(
     case: &[u8],
     start: usize,
-    intra: bool,
+    q: Quantiser,
     luminance: bool,
     predictor: i32,
-    scale: u32,
     values: &mut [i32; 64],
 ) -> Block
-    requires { ⌜ (start ≤ 512) × (scale ≤ 31) × (dcInside predictor ≡ true) ⌝ }
-    ensures { λ r. ⌜ Runs (block (quantiser intra scale (matrixAt (now (case .entry)))) luminance predictor (now (values .entry))) (part (now (case .entry)) 360 64) start (readOf (now (values .exit)) r) (r .reader .at .0) ⌝ }
-    ensures { λ r. ⌜ (Bounded (now (values .entry)) → Bounded (now (values .exit))) × (dcInside (r .predictor) ≡ true) ⌝ }
+    requires { ⌜ (start ≤ 512) × (q .scale ≤ 31) × (dcInside predictor ≡ true) ⌝ }
+    ensures { λ r. ⌜
+        Runs (block q (matrixAt (now (case .entry))) luminance predictor (now (values .entry)))
+        (part (now (case .entry)) 360 64) start (readOf (now (values .exit)) r) (r .reader .at .0)
+        ⌝ }
 {
-    let index = DCT_COEFF_INDEX;
-    let value = DCT_COEFF_VALUE;
-    let places = zig_zag();
-    let premultipliers = premultiplier_matrix();
     let matrix = matrix_at(case);
+    let tables = tables_with(&matrix, &matrix);
     let reader = Reader {
         at: BitPosition(start),
     };
     read_block(
         part(case, 360, 64),
         reader,
-        &index,
-        &value,
-        &places,
-        &premultipliers,
+        &tables,
         values,
-        &matrix,
-        scale,
-        intra,
+        q,
         luminance,
         predictor,
     )
 }
 
 // The results of coefficients, n places of which are used (RULES 4.3, 6.13).
-fn write_results(d: &mut [u8], di: usize, dw: usize, values: &[i32; 64], n: usize, intra: bool)
+fn write_results(d: &mut [u8], di: usize, dw: usize, values: &[i32; 64], n: usize, q: Quantiser)
     requires { ⌜ 8 ≤ dw ⌝ }
     requires { ⌜ di + 7 * dw + 8 ≤ length (now d) ⌝ }
     requires { ⌜ Bounded (now values) ⌝ }
-    ensures { λ _. ⌜ now (d .exit) ≡ results intra n (now (values .entry)) di dw (now (d .entry)) ⌝ }
+    ensures { λ _. ⌜ now (d .exit) ≡ results q (filled (now (values .entry)) n) di dw (now (d .entry)) ⌝ }
 {
+    let intra = q.intra;
     if n == 1 {
         let first = dc_only(values[0]);
         if intra {
@@ -132,15 +124,15 @@ fn write_results(d: &mut [u8], di: usize, dw: usize, values: &[i32; 64], n: usiz
 }
 
 // What a block that was read does to its plane: only a whole one is written.
-fn write_block(d: &mut [u8], di: usize, dw: usize, values: &[i32; 64], read: Block, intra: bool)
+fn write_block(d: &mut [u8], di: usize, dw: usize, values: &[i32; 64], read: Block, q: Quantiser)
     requires { ⌜ 8 ≤ dw ⌝ }
     requires { ⌜ di + 7 * dw + 8 ≤ length (now d) ⌝ }
     requires { ⌜ Bounded (now values) ⌝ }
-    ensures { λ _. ⌜ now (d .exit) ≡ written intra di dw (readOf (now (values .entry)) read) (now (d .entry)) ⌝ }
+    ensures { λ _. ⌜ now (d .exit) ≡ written q di dw (readOf (now (values .entry)) read) (now (d .entry)) ⌝ }
 {
     let end = read.end;
     if let BlockEnd::Whole = end {
-        write_results(d, di, dw, values, read.n, intra);
+        write_results(d, di, dw, values, read.n, q);
     }
 }
 
@@ -150,27 +142,26 @@ fn ends_as(
     di: usize,
     dw: usize,
     start: usize,
-    intra: bool,
+    q: Quantiser,
     luminance: bool,
     predictor: i32,
-    scale: u32,
     left: [i32; 64],
 ) -> bool
     requires { ⌜ (8 ≤ dw) × (di + 7 * dw + 8 ≤ 2560) ⌝ }
-    requires { ⌜ (start ≤ 512) × (scale ≤ 31) × (dcInside predictor ≡ true) ⌝ }
+    requires { ⌜ (start ≤ 512) × (q .scale ≤ 31) × (dcInside predictor ≡ true) ⌝ }
     requires { ⌜ Bounded left ⌝ }
-    ensures { λ r. ⌜ r ≡ endsAs (block (quantiser intra scale (matrixAt (now (case .entry)))) luminance predictor left) intra di dw start (now (case .entry)) ⌝ }
+    ensures { λ r. ⌜ r ≡ endsAs (block q (matrixAt (now (case .entry))) luminance predictor left) q di dw start (now (case .entry)) ⌝ }
 {
     let seed = number_at(case, 32);
     let mut values = left;
-    let read = read(case, start, intra, luminance, predictor, scale, &mut values);
+    let read = read(case, start, q, luminance, predictor, &mut values);
     let mut ours = plane(seed);
-    write_block(&mut ours, di, dw, &values, read, intra);
+    write_block(&mut ours, di, dw, &values, read, q);
     let mut rust = plane(seed);
     lay_over(&mut rust, di, dw, 8, part(case, 688, 64));
     let after = read.reader.at.0;
     let next = read.predictor;
-    left_over(&mut values, read);
+    left_over(&mut values, q, read);
     (after == number_at(case, 424) as usize)
         & (held(next) == number_at(case, 428))
         & holds_block(part(case, 432, 256), &values)
@@ -191,17 +182,11 @@ pub fn blocks_agree(case: &[u8]) -> bool
         if bounded(&left) {
             let di = block_place(m, number as usize);
             let dw = block_width(m, number as usize);
-            return ends_as(
-                case,
-                di,
-                dw,
-                start as usize,
-                intra == 1,
-                number < 4,
-                predictor,
+            let q = Quantiser {
+                intra: intra == 1,
                 scale,
-                left,
-            );
+            };
+            return ends_as(case, di, dw, start as usize, q, number < 4, predictor, left);
         }
     }
     false

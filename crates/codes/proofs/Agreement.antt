@@ -14,7 +14,8 @@ use Rattle.codes.specs.Standard.{Code, _∈_, Stands, Begins, Possible, 
 pub record Agrees {A : Type 0} (ix : List ℤ) (vs : List A) (d idle : A) (codes : List (Code A)) : Type 0 where
   -- RULES 2.13: where a printed code stands, the walk gives its value and takes its bits
   pub reads : (c : Code A) → c ∈ codes → (s : List ℕ) (a : ℕ) → Stands c s a → Runs (vlc ix vs d) s a (c .value) (taken s a (c .bits))
-  -- RULES 2.13: there are no other codes. Where the walk ends at an entry with index 0, a printed code stands: its value is that of the entry, and the walk took its bits
+  -- RULES 2.13: there are no other codes. Where the walk ends at an entry with index 0, a printed code stands: its value is that of the entry, and the walk
+  -- took its bits
   pub only : (s : List ℕ) (a k e : ℕ) → Runs (walk ix) s a k e → getD ix k (pos 0) ≡ pos 0
       → (c : Code A) × (c ∈ codes) × Stands c s a × (c .value ≡ getD vs k d) × (taken s a (c .bits) ≡ e)
   -- RULES 2.4, 2.5: where no printed code stands, the walk gives d and takes n + 1 bits: after n of them a code is still possible, after n + 1 none is

@@ -2,9 +2,9 @@
 use mathlib.Core.Path.{_≡_, ap, _∙_}
 use mathlib.Core.Bool.{true, _&&_}
 use mathlib.Core.List.{List}
-use Prim.Native.Nat.{ℕ, _≤_}
+use Prim.Native.Nat.{ℕ, _≤_, _<_}
 use borrow.Author.Tests.{leb-true, le-leb}
-use lib.Dec.{T, leb, leb→le}
+use lib.Dec.{T, leb, ltb, leb→le, ltb→lt}
 use lib.IntN.{ℤ, pos, natAbs}
 use lib.ListN.{getD}
 use lib.Signed.{nonNeg}
@@ -14,7 +14,11 @@ use Rattle.laws.proofs.Each.{all-at, all-by}
 use Rattle.laws.proofs.Ints.{reread}
 use Rattle.laws.proofs.Nums.{num, rd}
 use Rattle.laws.proofs.Tables.{anywhere}
-use Rattle.codes.specs.Matrices.{premultiplierMatrix, Bounded, bounded}
+use Rattle.codes.specs.Matrices.{zigZag, downFrom, diagonals, premultiplierMatrix, Bounded, bounded}
+
+pub zig-zag-inside : (k : ℕ) → getD zigZag k 0 < 64
+unfolding zigZag downFrom diagonals
+zig-zag-inside k = ltb→lt _ _ (anywhere (λ x. ltb x 64) zigZag 0 tt tt k)
 
 premultiplier-in : (k : ℕ) → let p = getD premultiplierMatrix k (pos 0) in T (nonNeg p && leb (natAbs p) 62)
 unfolding premultiplierMatrix

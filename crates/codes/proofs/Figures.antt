@@ -4,8 +4,11 @@ use mathlib.Core.List.{List, [], _∷_}
 use Prim.Native.Nat.{ℕ, max, _+_}
 use lib.ListN.{length}
 use lib.IntN.{ℤ, pos, negsuc}
-use Rattle.codes.specs.Tables.{macroblockAddressIncrementIndex, macroblockTypeIntraIndex, macroblockTypePredictiveIndex, macroblockTypeBIndex, codeBlockPatternIndex, motionIndex, dctSizeLuminanceIndex, dctSizeChrominanceIndex, dctCoeffIndex}
-use Rattle.codes.specs.Standard.{Code, macroblockAddressIncrementCodes, macroblockTypeIntraCodes, macroblockTypePredictiveCodes, macroblockTypeBCodes, codeBlockPatternCodes, motionCodes, dctSizeLuminanceCodes, dctSizeChrominanceCodes, dctCoeffCodes}
+use Rattle.codes.specs.Tables.{macroblockAddressIncrementIndex, macroblockTypeIntraIndex, macroblockTypePredictiveIndex, macroblockTypeBIndex}
+use Rattle.codes.specs.Tables.{codeBlockPatternIndex, motionIndex, dctSizeLuminanceIndex, dctSizeChrominanceIndex, dctCoeffIndex}
+use Rattle.codes.specs.Standard.{Code, macroblockAddressIncrementCodes, macroblockTypeIntraCodes, macroblockTypePredictiveCodes}
+use Rattle.codes.specs.Standard.{macroblockTypeBCodes, codeBlockPatternCodes, motionCodes, dctSizeLuminanceCodes, dctSizeChrominanceCodes}
+use Rattle.codes.specs.Standard.{dctCoeffCodes}
 
 pub record Figures : Type 0 where
   pub entries : ℕ
@@ -61,7 +64,9 @@ pub the-figures :
     figures 224 112 1 16 ∷
     []
     )
-unfolding macroblockAddressIncrementIndex macroblockTypeIntraIndex macroblockTypePredictiveIndex macroblockTypeBIndex codeBlockPatternIndex motionIndex dctSizeLuminanceIndex dctSizeChrominanceIndex dctCoeffIndex macroblockAddressIncrementCodes macroblockTypeIntraCodes macroblockTypePredictiveCodes macroblockTypeBCodes codeBlockPatternCodes motionCodes dctSizeLuminanceCodes dctSizeChrominanceCodes dctCoeffCodes
+unfolding macroblockAddressIncrementIndex macroblockTypeIntraIndex macroblockTypePredictiveIndex macroblockTypeBIndex codeBlockPatternIndex motionIndex
+    dctSizeLuminanceIndex dctSizeChrominanceIndex dctCoeffIndex macroblockAddressIncrementCodes macroblockTypeIntraCodes macroblockTypePredictiveCodes
+    macroblockTypeBCodes codeBlockPatternCodes motionCodes dctSizeLuminanceCodes dctSizeChrominanceCodes dctCoeffCodes
 the-figures = refl
 
 pub codes-281 : allCodes allFigures ≡ 281

@@ -10,7 +10,8 @@ use lib.IntN.{ℤ, pos, negsuc}
 use mir.Facts.{and-yes}
 use Rattle.laws.proofs.Tables.{every, at}
 use Rattle.codes.specs.Rule.{Good}
-use Rattle.codes.specs.Tables.{macroblockAddressIncrementIndex, macroblockTypeIntraIndex, macroblockTypePredictiveIndex, macroblockTypeBIndex, codeBlockPatternIndex, motionIndex, dctSizeLuminanceIndex, dctSizeChrominanceIndex, dctCoeffIndex}
+use Rattle.codes.specs.Tables.{macroblockAddressIncrementIndex, macroblockTypeIntraIndex, macroblockTypePredictiveIndex, macroblockTypeBIndex}
+use Rattle.codes.specs.Tables.{codeBlockPatternIndex, motionIndex, dctSizeLuminanceIndex, dctSizeChrominanceIndex, dctCoeffIndex}
 
 -- the rule at the entry k of a table of l entries
 abbrev pub entry : ℕ → ℕ → ℤ → Bool

@@ -10,8 +10,13 @@ use lib.IntN.{ℤ, pos, negsuc}
 use Rattle.bits.specs.Programs.{eqZ}
 use Rattle.bits.specs.Runs.{Runs}
 use Rattle.codes.specs.Walk.{vlc}
-use Rattle.codes.specs.Tables.{macroblockAddressIncrementIndex, macroblockAddressIncrementValue, macroblockTypeIntraIndex, macroblockTypeIntraValue, macroblockTypePredictiveIndex, macroblockTypePredictiveValue, macroblockTypeBIndex, macroblockTypeBValue, codeBlockPatternIndex, codeBlockPatternValue, motionIndex, motionValue, dctSizeLuminanceIndex, dctSizeLuminanceValue, dctSizeChrominanceIndex, dctSizeChrominanceValue, dctCoeffIndex, dctCoeffValue}
-use Rattle.codes.specs.Standard.{Code, _∈_, Stands, macroblockAddressIncrementCodes, macroblockTypeIntraCodes, macroblockTypePredictiveCodes, macroblockTypeBCodes, codeBlockPatternCodes, motionCodes, dctSizeLuminanceCodes, dctSizeChrominanceCodes, dctCoeffCodes}
+use Rattle.codes.specs.Tables.{macroblockAddressIncrementIndex, macroblockAddressIncrementValue, macroblockTypeIntraIndex, macroblockTypeIntraValue}
+use Rattle.codes.specs.Tables.{macroblockTypePredictiveIndex, macroblockTypePredictiveValue, macroblockTypeBIndex, macroblockTypeBValue}
+use Rattle.codes.specs.Tables.{codeBlockPatternIndex, codeBlockPatternValue, motionIndex, motionValue, dctSizeLuminanceIndex, dctSizeLuminanceValue}
+use Rattle.codes.specs.Tables.{dctSizeChrominanceIndex, dctSizeChrominanceValue, dctCoeffIndex, dctCoeffValue}
+use Rattle.codes.specs.Standard.{Code, _∈_, Stands, macroblockAddressIncrementCodes, macroblockTypeIntraCodes, macroblockTypePredictiveCodes}
+use Rattle.codes.specs.Standard.{macroblockTypeBCodes, codeBlockPatternCodes, motionCodes, dctSizeLuminanceCodes, dctSizeChrominanceCodes}
+use Rattle.codes.specs.Standard.{dctCoeffCodes}
 use Rattle.codes.proofs.Agreement.{Agrees}
 use Rattle.codes.proofs.Follow.{runs-as}
 use Rattle.codes.proofs.Tested.{agrees-of}
@@ -31,27 +36,27 @@ unsigned : {ix : List ℤ} {vs : List ℕ} {idle : ℕ} {codes : List (Code ℕ)
 unsigned {ix} {vs} {idle} {codes} t = agrees-of eqb eqb→eq ix vs 0 idle codes t
 
 -- Table B.1
-pub agrees-macroblock-address-increment : Agrees macroblockAddressIncrementIndex macroblockAddressIncrementValue (pos 0) (pos 0) macroblockAddressIncrementCodes
+pub agrees-macroblock-address-increment : Agrees macroblockAddressIncrementIndex macroblockAddressIncrementValue 0 0 macroblockAddressIncrementCodes
 unfolding macroblockAddressIncrementIndex macroblockAddressIncrementValue macroblockAddressIncrementCodes
-agrees-macroblock-address-increment = signed tt
+agrees-macroblock-address-increment = unsigned tt
 
 -- Table B.2
-pub agrees-macroblock-type-intra : Agrees macroblockTypeIntraIndex macroblockTypeIntraValue (pos 0) (pos 0) macroblockTypeIntraCodes
+pub agrees-macroblock-type-intra : Agrees macroblockTypeIntraIndex macroblockTypeIntraValue 0 0 macroblockTypeIntraCodes
 unfolding macroblockTypeIntraIndex macroblockTypeIntraValue macroblockTypeIntraCodes
-agrees-macroblock-type-intra = signed tt
+agrees-macroblock-type-intra = unsigned tt
 
-pub agrees-macroblock-type-predictive : Agrees macroblockTypePredictiveIndex macroblockTypePredictiveValue (pos 0) (pos 0) macroblockTypePredictiveCodes
+pub agrees-macroblock-type-predictive : Agrees macroblockTypePredictiveIndex macroblockTypePredictiveValue 0 0 macroblockTypePredictiveCodes
 unfolding macroblockTypePredictiveIndex macroblockTypePredictiveValue macroblockTypePredictiveCodes
-agrees-macroblock-type-predictive = signed tt
+agrees-macroblock-type-predictive = unsigned tt
 
-pub agrees-macroblock-type-b : Agrees macroblockTypeBIndex macroblockTypeBValue (pos 0) (pos 0) macroblockTypeBCodes
+pub agrees-macroblock-type-b : Agrees macroblockTypeBIndex macroblockTypeBValue 0 0 macroblockTypeBCodes
 unfolding macroblockTypeBIndex macroblockTypeBValue macroblockTypeBCodes
-agrees-macroblock-type-b = signed tt
+agrees-macroblock-type-b = unsigned tt
 
 -- Table B.3
-pub agrees-code-block-pattern : Agrees codeBlockPatternIndex codeBlockPatternValue (pos 0) (pos 0) codeBlockPatternCodes
+pub agrees-code-block-pattern : Agrees codeBlockPatternIndex codeBlockPatternValue 0 0 codeBlockPatternCodes
 unfolding codeBlockPatternIndex codeBlockPatternValue codeBlockPatternCodes
-agrees-code-block-pattern = signed tt
+agrees-code-block-pattern = unsigned tt
 
 -- Table B.4
 pub agrees-motion : Agrees motionIndex motionValue (pos 0) (pos 0) motionCodes
@@ -59,13 +64,13 @@ unfolding motionIndex motionValue motionCodes
 agrees-motion = signed tt
 
 -- Table B.5; at the end of the stream the luminance size is 1 (RULES 2.6)
-pub agrees-dct-size-luminance : Agrees dctSizeLuminanceIndex dctSizeLuminanceValue (pos 0) (pos 1) dctSizeLuminanceCodes
+pub agrees-dct-size-luminance : Agrees dctSizeLuminanceIndex dctSizeLuminanceValue 0 1 dctSizeLuminanceCodes
 unfolding dctSizeLuminanceIndex dctSizeLuminanceValue dctSizeLuminanceCodes
-agrees-dct-size-luminance = signed tt
+agrees-dct-size-luminance = unsigned tt
 
-pub agrees-dct-size-chrominance : Agrees dctSizeChrominanceIndex dctSizeChrominanceValue (pos 0) (pos 0) dctSizeChrominanceCodes
+pub agrees-dct-size-chrominance : Agrees dctSizeChrominanceIndex dctSizeChrominanceValue 0 0 dctSizeChrominanceCodes
 unfolding dctSizeChrominanceIndex dctSizeChrominanceValue dctSizeChrominanceCodes
-agrees-dct-size-chrominance = signed tt
+agrees-dct-size-chrominance = unsigned tt
 
 pub agrees-dct-coeff : Agrees dctCoeffIndex dctCoeffValue 0 0 dctCoeffCodes
 unfolding dctCoeffIndex dctCoeffValue dctCoeffCodes
@@ -82,5 +87,6 @@ module _ {A : Type 0} where
 
   -- a code that lies inside the stream takes all its bits
   pub reads-inside : {ix : List ℤ} {vs : List A} {d idle : A} {codes : List (Code A)} → Agrees ix vs d idle codes
-      → (c : Code A) → c ∈ codes → (s : List ℕ) (a : ℕ) → Stands c s a → a + c .bits ≤ length s * 8 → Runs (vlc ix vs d) s a (c .value) (a + c .bits)
+      → (c : Code A) → c ∈ codes → (s : List ℕ) (a : ℕ) → Stands c s a → a + c .bits ≤ length s * 8
+      → Runs (vlc ix vs d) s a (c .value) (a + c .bits)
   reads-inside g c m s a h l = runs-as (g .reads c m s a h) refl (omega arith)

@@ -44,7 +44,8 @@ module _ {A : Type 0} (eq : A → A → Bool) (eq-yes : (x y : A) → T (eq x y)
         ⊎-elim
         (λ v.
         let e : v .code ≡ c = sym (v .single c m h) in
-        runs-as (vlc-end ix s a vs d) (sym (v .value) ∙ ap (λ (x : Code A). x .value) e) (ap (taken s a) (sym (v .bits) ∙ ap (λ (x : Code A). x .bits) e)))
+        runs-as (vlc-end ix s a vs d) (sym (v .value) ∙ ap (λ (x : Code A). x .value) e)
+        (ap (taken s a) (sym (v .bits) ∙ ap (λ (x : Code A). x .bits) e)))
         (λ v. absurd (v .no-code c m h))
         here
 
@@ -64,7 +65,8 @@ module _ {A : Type 0} (eq : A → A → Bool) (eq-yes : (x y : A) → T (eq x y)
         here
 
     none : ((c : Code A) → c ∈ codes → Stands c s a → ⊥)
-        → (n : ℕ) × Possible codes n (bitsAt s a n) × (Possible codes (n + 1) (bitsAt s a (n + 1)) → ⊥) × Runs (vlc ix vs d) s a d (taken s a (n + 1))
+        → (n : ℕ) × Possible codes n (bitsAt s a n) × (Possible codes (n + 1) (bitsAt s a (n + 1)) → ⊥)
+        × Runs (vlc ix vs d) s a d (taken s a (n + 1))
     none h =
         ⊎-elim
         (λ v. absurd (h (v .code) (v .printed) (ap (bitsAt s a) (v .bits) ∙ v .word)))

@@ -60,7 +60,8 @@ module _ {A : Type 0} where
   kept n w [] o m = absurd (List·Memᴰ·not-nil m)
   kept n w (c ∷ cs) o m = go (begins n w c) refl m (kept n w cs o)
     where
-      go : (t : Bool) → begins n w c ≡ t → o ∈ cond t (c ∷ keep n w cs) (keep n w cs) → (o ∈ keep n w cs → (o ∈ cs) × Begins o n w) → (o ∈ c ∷ cs) × Begins o n w
+      go : (t : Bool) → begins n w c ≡ t → o ∈ cond t (c ∷ keep n w cs) (keep n w cs) → (o ∈ keep n w cs → (o ∈ cs) × Begins o n w)
+          → (o ∈ c ∷ cs) × Begins o n w
       go true e m r =
           ⊎-elim
           (λ (q : o ≡ c). (List·Memᴰ·head q, subst (λ (x : Code A). Begins x n w) (sym q) (begins-yes n w c (subst T (sym e) tt))))
@@ -72,7 +73,8 @@ module _ {A : Type 0} where
   keeps n w [] o m b = absurd (List·Memᴰ·not-nil m)
   keeps n w (c ∷ cs) o m b = go (begins n w c) refl (List·Memᴰ·cases-cons m) (λ l. keeps n w cs o l b)
     where
-      go : (t : Bool) → begins n w c ≡ t → (o ≡ c) ⊎ (o ∈ cs) → (o ∈ cs → o ∈ keep n w cs) → o ∈ cond t (c ∷ keep n w cs) (keep n w cs)
+      go : (t : Bool) → begins n w c ≡ t → (o ≡ c) ⊎ (o ∈ cs) → (o ∈ cs → o ∈ keep n w cs)
+          → o ∈ cond t (c ∷ keep n w cs) (keep n w cs)
       go true e (inl q) r = List·Memᴰ·head q
       go true e (inr l) r = List·Memᴰ·tail (r l)
       go false e (inl q) r = absurd (subst T e (yes-begins n w c (subst (λ (x : Code A). Begins x n w) q b)))
@@ -165,7 +167,8 @@ module _ {A : Type 0} (eq : A → A → Bool) (ix : List ℤ) (vs : List A) (d :
       stands o l e = stays (o .bits) (inner .long o l) o l (begins-whole o e)
 
       -- the walk ends there
-      ended : (k : ℕ) (z : ℤ) → getD ix k (pos 0) ≡ z → leZ z (pos 0) ≡ true → (ds : List (Code A)) → next ≡ ds → T (ends (getD vs k d) z (suc n) ds)
+      ended : (k : ℕ) (z : ℤ) → getD ix k (pos 0) ≡ z → leZ z (pos 0) ≡ true → (ds : List (Code A)) → next ≡ ds
+          → T (ends (getD vs k d) z (suc n) ds)
           → Fits ix vs d f cs (record { place = k; bits = suc n })
       ended k (pos m) i h [] q t = absurd t
       ended k (pos m) i h (c ∷ []) q t =
@@ -192,7 +195,8 @@ module _ {A : Type 0} (eq : A → A → Bool) (ix : List ℤ) (vs : List A) (d :
             index = λ e. true≢false (ap nonNeg (sym e ∙ i));
             value = eq-yes (getD vs k d) d t;
             possible = inner .some;
-            impossible = λ p. List·Memᴰ·not-nil (subst (λ (x : List (Code A)). p .some ∈ x) q (keeps (suc n) (f (suc n)) cs (p .some) (p .printed) (p .begins)));
+            impossible =
+                λ p. List·Memᴰ·not-nil (subst (λ (x : List (Code A)). p .some ∈ x) q (keeps (suc n) (f (suc n)) cs (p .some) (p .printed) (p .begins)));
             no-code = λ o l e. List·Memᴰ·not-nil (subst (λ (x : List (Code A)). o ∈ x) q (stands o l e));
           }
       ended k (negsuc m) i h (c ∷ ds) q t = absurd t

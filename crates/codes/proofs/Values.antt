@@ -1,27 +1,62 @@
--- A bound on every value of a table bounds every code read from it. Assumes nothing.
-use mathlib.Core.Path.{_≡_}
+-- What every value of a table passes, each code read from it passes; so the bounds of the codes. Assumes nothing.
+use mathlib.Core.Path.{refl}
+use mathlib.Core.Bool.{Bool}
 use mathlib.Core.List.{List}
-use Prim.Native.Nat.{ℕ, _≤_, zero-le}
-use lib.Dec.{T, leb, leb→le, le→leb}
+use Prim.Native.Nat.{ℕ, _≤_}
+use lib.Dec.{T, leb, leb→le}
 use lib.IntN.{ℤ, pos, natAbs}
 use Rattle.laws.proofs.Tables.{every}
-use Rattle.bits.specs.Runs.{Runs}
-use Rattle.codes.specs.Codes.{motion}
-use Rattle.codes.specs.Tables.{motionIndex, motionValue}
+use Rattle.bits.proofs.Gives.{Gives}
+use Rattle.codes.specs.Codes.{macroblockAddressIncrement, macroblockTypeIntra, macroblockTypePredictive, macroblockTypeB, codeBlockPattern}
+use Rattle.codes.specs.Codes.{motion, dctSizeLuminance, dctSizeChrominance, dctCoeff}
+use Rattle.codes.specs.Tables.{macroblockAddressIncrementIndex, macroblockAddressIncrementValue, macroblockTypeIntraIndex, macroblockTypeIntraValue}
+use Rattle.codes.specs.Tables.{macroblockTypePredictiveIndex, macroblockTypePredictiveValue, macroblockTypeBIndex, macroblockTypeBValue}
+use Rattle.codes.specs.Tables.{codeBlockPatternIndex, codeBlockPatternValue, motionIndex, motionValue}
+use Rattle.codes.specs.Tables.{dctSizeLuminanceIndex, dctSizeLuminanceValue, dctSizeChrominanceIndex, dctSizeChrominanceValue, dctCoeffIndex}
+use Rattle.codes.specs.Tables.{dctCoeffValue}
 use Rattle.codes.specs.Walk.{vlc}
 use Rattle.codes.proofs.Vlc.{vlc-passes}
 
-pub at-most : (n : ℕ) (ix vs : List ℤ) → T (every (λ k z. leb (natAbs z) n) 0 vs) → {s : List ℕ} {a e : ℕ} {v : ℤ}
-    → Runs (vlc ix vs (pos 0)) s a v e → natAbs v ≤ n
-at-most n ix vs all r = leb→le _ _ (vlc-passes ix vs (pos 0) r (λ z. leb (natAbs z) n) (le→leb 0 n zero-le) all)
+module _ {s : List ℕ} where
+  g-vlc : {A : Type 0} (ix : List ℤ) (vs : List A) (d : A) (p : A → Bool) → T (p d) → T (every (λ k. p) 0 vs) → Gives s (λ v. T (p v)) (vlc ix vs d)
+  g-vlc ix vs d p t u = record { value = λ a. vlc-passes ix vs d {s = s} {a = a} (record { is = refl }) p t u }
 
--- so what `read_vlc` ensures gives what the functions of the tables ensure
-pub bounded : (n : ℕ) (ix vs : List ℤ) → T (every (λ k z. leb (natAbs z) n) 0 vs) → {s : List ℕ} {a e : ℕ} {v : ℤ}
-    → Runs (vlc ix vs (pos 0)) s a v e × (e ≤ 134217728) → Runs (vlc ix vs (pos 0)) s a v e × ((e ≤ 134217728) × (natAbs v ≤ n))
-bounded n ix vs all r = (r .0, (r .1, at-most n ix vs all (r .0)))
+  -- a table of natural numbers up to n, and one of numbers of at most this size
+  most : (n : ℕ) (ix : List ℤ) (vs : List ℕ) → T (leb 0 n) → T (every (λ k v. leb v n) 0 vs) → Gives s (λ v. v ≤ n) (vlc ix vs 0)
+  most n ix vs t u = record { value = λ a. leb→le _ n (g-vlc ix vs 0 (λ v. leb v n) t u .value a) }
 
--- a motion code, by its table or by one that is lent in its place
-pub motion-bounded : {ix vs : List ℤ} → ix ≡ motionIndex → vs ≡ motionValue → {s : List ℕ} {a e : ℕ} {v : ℤ}
-    → Runs (vlc ix vs (pos 0)) s a v e × (e ≤ 134217728) → Runs motion s a v e × ((e ≤ 134217728) × (natAbs v ≤ 16))
-unfolding motion motionValue
-motion-bounded p q r = bounded 16 motionIndex motionValue tt (rw (p, q) at r)
+  pub increment-most : Gives s (λ v. v ≤ 35) macroblockAddressIncrement
+  unfolding macroblockAddressIncrement macroblockAddressIncrementValue
+  increment-most = most 35 macroblockAddressIncrementIndex macroblockAddressIncrementValue tt tt
+
+  pub type-intra-most : Gives s (λ v. v ≤ 31) macroblockTypeIntra
+  unfolding macroblockTypeIntra macroblockTypeIntraValue
+  type-intra-most = most 31 macroblockTypeIntraIndex macroblockTypeIntraValue tt tt
+
+  pub type-predictive-most : Gives s (λ v. v ≤ 31) macroblockTypePredictive
+  unfolding macroblockTypePredictive macroblockTypePredictiveValue
+  type-predictive-most = most 31 macroblockTypePredictiveIndex macroblockTypePredictiveValue tt tt
+
+  pub type-b-most : Gives s (λ v. v ≤ 31) macroblockTypeB
+  unfolding macroblockTypeB macroblockTypeBValue
+  type-b-most = most 31 macroblockTypeBIndex macroblockTypeBValue tt tt
+
+  pub pattern-most : Gives s (λ v. v ≤ 63) codeBlockPattern
+  unfolding codeBlockPattern codeBlockPatternValue
+  pattern-most = most 63 codeBlockPatternIndex codeBlockPatternValue tt tt
+
+  pub motion-most : Gives s (λ v. natAbs v ≤ 16) motion
+  unfolding motion motionValue
+  motion-most = record { value = λ a. leb→le _ 16 (g-vlc motionIndex motionValue (pos 0) (λ v. leb (natAbs v) 16) tt tt .value a) }
+
+  pub size-luminance-most : Gives s (λ v. v ≤ 8) dctSizeLuminance
+  unfolding dctSizeLuminance dctSizeLuminanceValue
+  size-luminance-most = most 8 dctSizeLuminanceIndex dctSizeLuminanceValue tt tt
+
+  pub size-chrominance-most : Gives s (λ v. v ≤ 8) dctSizeChrominance
+  unfolding dctSizeChrominance dctSizeChrominanceValue
+  size-chrominance-most = most 8 dctSizeChrominanceIndex dctSizeChrominanceValue tt tt
+
+  pub coefficient-most : Gives s (λ v. v ≤ 65535) dctCoeff
+  unfolding dctCoeff dctCoeffValue
+  coefficient-most = most 65535 dctCoeffIndex dctCoeffValue tt tt

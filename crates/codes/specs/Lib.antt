@@ -1,4 +1,5 @@
 pub mod Codes
+pub mod Lent
 pub mod Matrices
 pub mod Rates
 pub mod Rule

@@ -20,8 +20,8 @@ minus v = negℤ (pos v)
 
 -- a macroblock_type by the five columns of its row: macroblock_quant, macroblock_motion_forward, macroblock_motion_backward, macroblock_pattern,
 -- macroblock_intra; its value is the sum of the flags (RULES 2.12)
-abbrev pub kind : ℕ → ℕ → ℕ → ℕ → ℕ → ℕ → ℕ → Code ℤ
-kind n w quant forward backward pattern intra = code n w (pos (quant * 16 + forward * 8 + backward * 4 + pattern * 2 + intra))
+abbrev pub kind : ℕ → ℕ → ℕ → ℕ → ℕ → ℕ → ℕ → Code ℕ
+kind n w quant forward backward pattern intra = code n w (quant * 16 + forward * 8 + backward * 4 + pattern * 2 + intra)
 
 -- a code of dct_coeff_first: run and level as one number (RULES 2.10)
 abbrev pub pair : ℕ → ℕ → ℕ → ℕ → Code ℕ
@@ -52,54 +52,54 @@ abbrev pub taken : List ℕ → ℕ → ℕ → ℕ
 taken s a n = min (a + n) (max a (length s * 8))
 
 -- Table B.1: macroblock_address_increment 1 to 33, macroblock_stuffing (34), macroblock_escape (35)
-unfoldable pub macroblockAddressIncrementCodes : List (Code ℤ)
+unfoldable pub macroblockAddressIncrementCodes : List (Code ℕ)
 macroblockAddressIncrementCodes =
-    code 1 0b1 (pos 1) ∷
-    code 3 0b011 (pos 2) ∷
-    code 3 0b010 (pos 3) ∷
-    code 4 0b0011 (pos 4) ∷
-    code 4 0b0010 (pos 5) ∷
-    code 5 0b0001_1 (pos 6) ∷
-    code 5 0b0001_0 (pos 7) ∷
-    code 7 0b0000_111 (pos 8) ∷
-    code 7 0b0000_110 (pos 9) ∷
-    code 8 0b0000_1011 (pos 10) ∷
-    code 8 0b0000_1010 (pos 11) ∷
-    code 8 0b0000_1001 (pos 12) ∷
-    code 8 0b0000_1000 (pos 13) ∷
-    code 8 0b0000_0111 (pos 14) ∷
-    code 8 0b0000_0110 (pos 15) ∷
-    code 10 0b0000_0101_11 (pos 16) ∷
-    code 10 0b0000_0101_10 (pos 17) ∷
-    code 10 0b0000_0101_01 (pos 18) ∷
-    code 10 0b0000_0101_00 (pos 19) ∷
-    code 10 0b0000_0100_11 (pos 20) ∷
-    code 10 0b0000_0100_10 (pos 21) ∷
-    code 11 0b0000_0100_011 (pos 22) ∷
-    code 11 0b0000_0100_010 (pos 23) ∷
-    code 11 0b0000_0100_001 (pos 24) ∷
-    code 11 0b0000_0100_000 (pos 25) ∷
-    code 11 0b0000_0011_111 (pos 26) ∷
-    code 11 0b0000_0011_110 (pos 27) ∷
-    code 11 0b0000_0011_101 (pos 28) ∷
-    code 11 0b0000_0011_100 (pos 29) ∷
-    code 11 0b0000_0011_011 (pos 30) ∷
-    code 11 0b0000_0011_010 (pos 31) ∷
-    code 11 0b0000_0011_001 (pos 32) ∷
-    code 11 0b0000_0011_000 (pos 33) ∷
-    code 11 0b0000_0001_111 (pos 34) ∷
-    code 11 0b0000_0001_000 (pos 35) ∷
+    code 1 0b1 1 ∷
+    code 3 0b011 2 ∷
+    code 3 0b010 3 ∷
+    code 4 0b0011 4 ∷
+    code 4 0b0010 5 ∷
+    code 5 0b0001_1 6 ∷
+    code 5 0b0001_0 7 ∷
+    code 7 0b0000_111 8 ∷
+    code 7 0b0000_110 9 ∷
+    code 8 0b0000_1011 10 ∷
+    code 8 0b0000_1010 11 ∷
+    code 8 0b0000_1001 12 ∷
+    code 8 0b0000_1000 13 ∷
+    code 8 0b0000_0111 14 ∷
+    code 8 0b0000_0110 15 ∷
+    code 10 0b0000_0101_11 16 ∷
+    code 10 0b0000_0101_10 17 ∷
+    code 10 0b0000_0101_01 18 ∷
+    code 10 0b0000_0101_00 19 ∷
+    code 10 0b0000_0100_11 20 ∷
+    code 10 0b0000_0100_10 21 ∷
+    code 11 0b0000_0100_011 22 ∷
+    code 11 0b0000_0100_010 23 ∷
+    code 11 0b0000_0100_001 24 ∷
+    code 11 0b0000_0100_000 25 ∷
+    code 11 0b0000_0011_111 26 ∷
+    code 11 0b0000_0011_110 27 ∷
+    code 11 0b0000_0011_101 28 ∷
+    code 11 0b0000_0011_100 29 ∷
+    code 11 0b0000_0011_011 30 ∷
+    code 11 0b0000_0011_010 31 ∷
+    code 11 0b0000_0011_001 32 ∷
+    code 11 0b0000_0011_000 33 ∷
+    code 11 0b0000_0001_111 34 ∷
+    code 11 0b0000_0001_000 35 ∷
     []
 
 -- Table B.2a: macroblock_type of I pictures
-unfoldable pub macroblockTypeIntraCodes : List (Code ℤ)
+unfoldable pub macroblockTypeIntraCodes : List (Code ℕ)
 macroblockTypeIntraCodes =
     kind 1 0b1 0 0 0 0 1 ∷
     kind 2 0b01 1 0 0 0 1 ∷
     []
 
 -- Table B.2b: macroblock_type of P pictures
-unfoldable pub macroblockTypePredictiveCodes : List (Code ℤ)
+unfoldable pub macroblockTypePredictiveCodes : List (Code ℕ)
 macroblockTypePredictiveCodes =
     kind 1 0b1 0 1 0 1 0 ∷
     kind 2 0b01 0 0 0 1 0 ∷
@@ -111,7 +111,7 @@ macroblockTypePredictiveCodes =
     []
 
 -- Table B.2c: macroblock_type of B pictures
-unfoldable pub macroblockTypeBCodes : List (Code ℤ)
+unfoldable pub macroblockTypeBCodes : List (Code ℕ)
 macroblockTypeBCodes =
     kind 2 0b10 0 1 1 0 0 ∷
     kind 2 0b11 0 1 1 1 0 ∷
@@ -127,71 +127,71 @@ macroblockTypeBCodes =
     []
 
 -- Table B.3: coded_block_pattern
-unfoldable pub codeBlockPatternCodes : List (Code ℤ)
+unfoldable pub codeBlockPatternCodes : List (Code ℕ)
 codeBlockPatternCodes =
-    code 3 0b111 (pos 60) ∷
-    code 4 0b1101 (pos 4) ∷
-    code 4 0b1100 (pos 8) ∷
-    code 4 0b1011 (pos 16) ∷
-    code 4 0b1010 (pos 32) ∷
-    code 5 0b1001_1 (pos 12) ∷
-    code 5 0b1001_0 (pos 48) ∷
-    code 5 0b1000_1 (pos 20) ∷
-    code 5 0b1000_0 (pos 40) ∷
-    code 5 0b0111_1 (pos 28) ∷
-    code 5 0b0111_0 (pos 44) ∷
-    code 5 0b0110_1 (pos 52) ∷
-    code 5 0b0110_0 (pos 56) ∷
-    code 5 0b0101_1 (pos 1) ∷
-    code 5 0b0101_0 (pos 61) ∷
-    code 5 0b0100_1 (pos 2) ∷
-    code 5 0b0100_0 (pos 62) ∷
-    code 6 0b0011_11 (pos 24) ∷
-    code 6 0b0011_10 (pos 36) ∷
-    code 6 0b0011_01 (pos 3) ∷
-    code 6 0b0011_00 (pos 63) ∷
-    code 7 0b0010_111 (pos 5) ∷
-    code 7 0b0010_110 (pos 9) ∷
-    code 7 0b0010_101 (pos 17) ∷
-    code 7 0b0010_100 (pos 33) ∷
-    code 7 0b0010_011 (pos 6) ∷
-    code 7 0b0010_010 (pos 10) ∷
-    code 7 0b0010_001 (pos 18) ∷
-    code 7 0b0010_000 (pos 34) ∷
-    code 8 0b0001_1111 (pos 7) ∷
-    code 8 0b0001_1110 (pos 11) ∷
-    code 8 0b0001_1101 (pos 19) ∷
-    code 8 0b0001_1100 (pos 35) ∷
-    code 8 0b0001_1011 (pos 13) ∷
-    code 8 0b0001_1010 (pos 49) ∷
-    code 8 0b0001_1001 (pos 21) ∷
-    code 8 0b0001_1000 (pos 41) ∷
-    code 8 0b0001_0111 (pos 14) ∷
-    code 8 0b0001_0110 (pos 50) ∷
-    code 8 0b0001_0101 (pos 22) ∷
-    code 8 0b0001_0100 (pos 42) ∷
-    code 8 0b0001_0011 (pos 15) ∷
-    code 8 0b0001_0010 (pos 51) ∷
-    code 8 0b0001_0001 (pos 23) ∷
-    code 8 0b0001_0000 (pos 43) ∷
-    code 8 0b0000_1111 (pos 25) ∷
-    code 8 0b0000_1110 (pos 37) ∷
-    code 8 0b0000_1101 (pos 26) ∷
-    code 8 0b0000_1100 (pos 38) ∷
-    code 8 0b0000_1011 (pos 29) ∷
-    code 8 0b0000_1010 (pos 45) ∷
-    code 8 0b0000_1001 (pos 53) ∷
-    code 8 0b0000_1000 (pos 57) ∷
-    code 8 0b0000_0111 (pos 30) ∷
-    code 8 0b0000_0110 (pos 46) ∷
-    code 8 0b0000_0101 (pos 54) ∷
-    code 8 0b0000_0100 (pos 58) ∷
-    code 9 0b0000_0011_1 (pos 31) ∷
-    code 9 0b0000_0011_0 (pos 47) ∷
-    code 9 0b0000_0010_1 (pos 55) ∷
-    code 9 0b0000_0010_0 (pos 59) ∷
-    code 9 0b0000_0001_1 (pos 27) ∷
-    code 9 0b0000_0001_0 (pos 39) ∷
+    code 3 0b111 60 ∷
+    code 4 0b1101 4 ∷
+    code 4 0b1100 8 ∷
+    code 4 0b1011 16 ∷
+    code 4 0b1010 32 ∷
+    code 5 0b1001_1 12 ∷
+    code 5 0b1001_0 48 ∷
+    code 5 0b1000_1 20 ∷
+    code 5 0b1000_0 40 ∷
+    code 5 0b0111_1 28 ∷
+    code 5 0b0111_0 44 ∷
+    code 5 0b0110_1 52 ∷
+    code 5 0b0110_0 56 ∷
+    code 5 0b0101_1 1 ∷
+    code 5 0b0101_0 61 ∷
+    code 5 0b0100_1 2 ∷
+    code 5 0b0100_0 62 ∷
+    code 6 0b0011_11 24 ∷
+    code 6 0b0011_10 36 ∷
+    code 6 0b0011_01 3 ∷
+    code 6 0b0011_00 63 ∷
+    code 7 0b0010_111 5 ∷
+    code 7 0b0010_110 9 ∷
+    code 7 0b0010_101 17 ∷
+    code 7 0b0010_100 33 ∷
+    code 7 0b0010_011 6 ∷
+    code 7 0b0010_010 10 ∷
+    code 7 0b0010_001 18 ∷
+    code 7 0b0010_000 34 ∷
+    code 8 0b0001_1111 7 ∷
+    code 8 0b0001_1110 11 ∷
+    code 8 0b0001_1101 19 ∷
+    code 8 0b0001_1100 35 ∷
+    code 8 0b0001_1011 13 ∷
+    code 8 0b0001_1010 49 ∷
+    code 8 0b0001_1001 21 ∷
+    code 8 0b0001_1000 41 ∷
+    code 8 0b0001_0111 14 ∷
+    code 8 0b0001_0110 50 ∷
+    code 8 0b0001_0101 22 ∷
+    code 8 0b0001_0100 42 ∷
+    code 8 0b0001_0011 15 ∷
+    code 8 0b0001_0010 51 ∷
+    code 8 0b0001_0001 23 ∷
+    code 8 0b0001_0000 43 ∷
+    code 8 0b0000_1111 25 ∷
+    code 8 0b0000_1110 37 ∷
+    code 8 0b0000_1101 26 ∷
+    code 8 0b0000_1100 38 ∷
+    code 8 0b0000_1011 29 ∷
+    code 8 0b0000_1010 45 ∷
+    code 8 0b0000_1001 53 ∷
+    code 8 0b0000_1000 57 ∷
+    code 8 0b0000_0111 30 ∷
+    code 8 0b0000_0110 46 ∷
+    code 8 0b0000_0101 54 ∷
+    code 8 0b0000_0100 58 ∷
+    code 9 0b0000_0011_1 31 ∷
+    code 9 0b0000_0011_0 47 ∷
+    code 9 0b0000_0010_1 55 ∷
+    code 9 0b0000_0010_0 59 ∷
+    code 9 0b0000_0001_1 27 ∷
+    code 9 0b0000_0001_0 39 ∷
     []
 
 -- Table B.4: motion_horizontal_forward_code and the three others
@@ -233,31 +233,31 @@ motionCodes =
     []
 
 -- Table B.5a: dct_dc_size_luminance
-unfoldable pub dctSizeLuminanceCodes : List (Code ℤ)
+unfoldable pub dctSizeLuminanceCodes : List (Code ℕ)
 dctSizeLuminanceCodes =
-    code 3 0b100 (pos 0) ∷
-    code 2 0b00 (pos 1) ∷
-    code 2 0b01 (pos 2) ∷
-    code 3 0b101 (pos 3) ∷
-    code 3 0b110 (pos 4) ∷
-    code 4 0b1110 (pos 5) ∷
-    code 5 0b1111_0 (pos 6) ∷
-    code 6 0b1111_10 (pos 7) ∷
-    code 7 0b1111_110 (pos 8) ∷
+    code 3 0b100 0 ∷
+    code 2 0b00 1 ∷
+    code 2 0b01 2 ∷
+    code 3 0b101 3 ∷
+    code 3 0b110 4 ∷
+    code 4 0b1110 5 ∷
+    code 5 0b1111_0 6 ∷
+    code 6 0b1111_10 7 ∷
+    code 7 0b1111_110 8 ∷
     []
 
 -- Table B.5b: dct_dc_size_chrominance
-unfoldable pub dctSizeChrominanceCodes : List (Code ℤ)
+unfoldable pub dctSizeChrominanceCodes : List (Code ℕ)
 dctSizeChrominanceCodes =
-    code 2 0b00 (pos 0) ∷
-    code 2 0b01 (pos 1) ∷
-    code 2 0b10 (pos 2) ∷
-    code 3 0b110 (pos 3) ∷
-    code 4 0b1110 (pos 4) ∷
-    code 5 0b1111_0 (pos 5) ∷
-    code 6 0b1111_10 (pos 6) ∷
-    code 7 0b1111_110 (pos 7) ∷
-    code 8 0b1111_1110 (pos 8) ∷
+    code 2 0b00 0 ∷
+    code 2 0b01 1 ∷
+    code 2 0b10 2 ∷
+    code 3 0b110 3 ∷
+    code 4 0b1110 4 ∷
+    code 5 0b1111_0 5 ∷
+    code 6 0b1111_10 6 ∷
+    code 7 0b1111_110 7 ∷
+    code 8 0b1111_1110 8 ∷
     []
 
 -- Table B.5c and those behind it: dct_coeff_first, run and level, without the sign bit; and the escape. By length, run and level

@@ -1,6 +1,6 @@
 // Code tables, the walk through them, and the other tables of the decoder.
 pub mod codes;
+pub mod lent;
 pub mod matrices;
 pub mod rates;
-pub mod tables;
 pub mod walk;

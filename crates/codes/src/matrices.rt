@@ -6,7 +6,7 @@ ghost use lib.IntN.{natAbs};
 ghost use lib.Signed.{nonNeg};
 ghost use Rattle.codes.specs.Matrices.{zigZag, intraQuantMatrix, nonIntraQuantMatrix, premultiplierMatrix, bounded};
 
-pub const ZIG_ZAG: [usize; 64] = [
+pub const ZIG_ZAG: [u8; 64] = [
     0,
     1,
     8,
@@ -209,7 +209,7 @@ pub const PREMULTIPLIER_MATRIX: [i32; 64] = [
     2,
 ];
 
-pub fn zig_zag() -> [usize; 64]
+pub fn zig_zag() -> [u8; 64]
     ensures { λ r. ⌜ r ≡ zigZag ⌝ }
 {
     ZIG_ZAG

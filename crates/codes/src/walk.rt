@@ -1,12 +1,13 @@
-// The walk through a code table. The tables are lent, since a constant array is built anew at each use.
+// The walk through a code table.
 use bits::reader::Reader;
 ghost use mathlib.Core.Path.{_≡_};
-ghost use Prim.Native.Nat.{_≤_, _<_};
+ghost use mathlib.Core.List.{map};
+ghost use Prim.Native.Nat.{_<_};
 ghost use lib.ListN.{length};
-ghost use lib.IntN.{pos};
-ghost use Rattle.bits.specs.Runs.{Runs};
+ghost use lib.IntN.{pos, natAbs};
+ghost use Rattle.bits.specs.Runs.{Inside, Reading};
 ghost use Rattle.codes.specs.Rule.{Good};
-ghost use Rattle.codes.specs.Walk.{walk, vlc};
+ghost use Rattle.codes.specs.Walk.{Naturals, walk, vlc};
 
 // The entry at which a walk ends.
 pub struct Leaf {
@@ -16,20 +17,19 @@ pub struct Leaf {
 
 pub struct Vlc {
     pub reader: Reader,
-    pub value: i16,
+    pub value: i32,
 }
 
 pub struct VlcUint {
     pub reader: Reader,
-    pub value: u16,
+    pub value: u32,
 }
 
-pub fn walk(s: &[u8], reader: Reader, index: &[i16]) -> Leaf
-    requires { ⌜ reader .at .0 ≤ 134217728 ⌝ }
-    requires { ⌜ length (now s) ≤ 16777216 ⌝ }
+pub fn walk(s: &[u8], reader: Reader, index: &[i32]) -> Leaf
+    requires { ⌜ Inside (now s) reader ⌝ }
     requires { ⌜ Good (now index) ⌝ }
-    ensures { λ r. ⌜ Runs (walk (now (index .entry))) (now (s .entry)) (reader .at .0) (r .place) (r .reader .at .0) ⌝ }
-    ensures { λ r. ⌜ (r .place < length (now (index .entry))) × (r .reader .at .0 ≤ 134217728) ⌝ }
+    ensures { λ r. ⌜ Reading (walk (now (index .entry))) (now (s .entry)) reader (r .place) (r .reader) ⌝ }
+    ensures { λ r. ⌜ r .place < length (now (index .entry)) ⌝ }
 {
     let mut from = reader;
     let mut at: usize = 0;
@@ -49,13 +49,11 @@ pub fn walk(s: &[u8], reader: Reader, index: &[i16]) -> Leaf
 }
 
 // The value at the end of the walk.
-pub fn read_vlc(s: &[u8], reader: Reader, index: &[i16], value: &[i16]) -> Vlc
-    requires { ⌜ reader .at .0 ≤ 134217728 ⌝ }
-    requires { ⌜ length (now s) ≤ 16777216 ⌝ }
+pub fn read_vlc(s: &[u8], reader: Reader, index: &[i32], value: &[i32]) -> Vlc
+    requires { ⌜ Inside (now s) reader ⌝ }
     requires { ⌜ Good (now index) ⌝ }
     requires { ⌜ length (now value) ≡ length (now index) ⌝ }
-    ensures { λ r. ⌜ Runs (vlc (now (index .entry)) (now (value .entry)) (pos 0)) (now (s .entry)) (reader .at .0) (r .value) (r .reader .at .0) ⌝ }
-    ensures { λ r. ⌜ r .reader .at .0 ≤ 134217728 ⌝ }
+    ensures { λ r. ⌜ Reading (vlc (now (index .entry)) (now (value .entry)) (pos 0)) (now (s .entry)) reader (r .value) (r .reader) ⌝ }
 {
     let leaf = walk(s, reader, index);
     let after = leaf.reader;
@@ -67,19 +65,18 @@ pub fn read_vlc(s: &[u8], reader: Reader, index: &[i16], value: &[i16]) -> Vlc
     }
 }
 
-// The same for a table of unsigned values.
-pub fn read_vlc_uint(s: &[u8], reader: Reader, index: &[i16], value: &[u16]) -> VlcUint
-    requires { ⌜ reader .at .0 ≤ 134217728 ⌝ }
-    requires { ⌜ length (now s) ≤ 16777216 ⌝ }
+// The same for a table whose values are natural numbers.
+pub fn read_vlc_uint(s: &[u8], reader: Reader, index: &[i32], value: &[i32]) -> VlcUint
+    requires { ⌜ Inside (now s) reader ⌝ }
     requires { ⌜ Good (now index) ⌝ }
     requires { ⌜ length (now value) ≡ length (now index) ⌝ }
-    ensures { λ r. ⌜ Runs (vlc (now (index .entry)) (now (value .entry)) 0) (now (s .entry)) (reader .at .0) (r .value) (r .reader .at .0) ⌝ }
-    ensures { λ r. ⌜ r .reader .at .0 ≤ 134217728 ⌝ }
+    requires { ⌜ Naturals (now value) ⌝ }
+    ensures { λ r. ⌜ Reading (vlc (now (index .entry)) (map natAbs (now (value .entry))) 0) (now (s .entry)) reader (r .value) (r .reader) ⌝ }
 {
     let leaf = walk(s, reader, index);
     let after = leaf.reader;
     let place = leaf.place;
-    let found = value[place];
+    let found = value[place] as u32;
     VlcUint {
         reader: after,
         value: found,

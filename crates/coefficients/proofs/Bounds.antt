@@ -6,19 +6,14 @@ use Prim.Native.Nat.{ℕ, _*_, _≤_, _<_, zero-le}
 use native.Mathlib.Decide.{decLt}
 use native.Mathlib.Omega.{arith}
 use borrow.Author.Tests.{eqb-true, eqb-false}
-use lib.Dec.{eqb, ltb, ltb→lt}
+use lib.Dec.{eqb}
 use lib.IntN.{ℤ, pos, natAbs, _*ℤ_}
 use lib.ListN.{length, getD, set, replicate, getD-replicate}
 use lib.Seq.{set-out, getD-set-same, getD-set-other}
 use Rattle.laws.proofs.Nums.{mul-abs}
-use Rattle.laws.proofs.Tables.{anywhere}
-use Rattle.codes.specs.Matrices.{zigZag, downFrom, diagonals, premultiplierMatrix, Bounded}
+use Rattle.codes.specs.Matrices.{premultiplierMatrix, Bounded}
 use Rattle.coefficients.specs.Dcs.{dcInside}
 use Rattle.coefficients.proofs.Sizes.{inside-small}
-
-pub zig-zag-inside : (k : ℕ) → getD zigZag k 0 < 64
-unfolding zigZag downFrom diagonals
-zig-zag-inside k = ltb→lt _ _ (anywhere (λ x. ltb x 64) zigZag 0 tt tt k)
 
 -- a store that keeps to the bound at its place
 module _ {xs : List ℤ} (p : ℕ) (v : ℤ) (h : natAbs v ≤ 2048 * natAbs (getD premultiplierMatrix p (pos 0))) (b : Bounded xs) where

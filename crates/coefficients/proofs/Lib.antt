@@ -1,4 +1,6 @@
 pub mod Bounds
 pub mod Cases
+pub mod Kept
+pub mod Placing
 pub mod Sizes
 pub mod Standard

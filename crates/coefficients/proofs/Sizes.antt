@@ -1,36 +1,75 @@
--- Sizes of DC differentials, and the range of DC values. Assumes nothing.
-use mathlib.Core.Path.{_≡_, refl}
-use mathlib.Core.Bool.{Bool, true, false}
+-- How large what is read can be: runs, levels, DC differences; and the range of DC values. Assumes nothing.
+use mathlib.Core.Path.{_≡_}
+use mathlib.Core.Bool.{Bool, true, _&&_}
 use mathlib.Core.List.{List}
-use Prim.Native.Nat.{ℕ, _≤_}
+use Prim.Native.Nat.{ℕ, _+_, _-_, _/_, _%_, _^_, _≤_, _<_}
 use native.Mathlib.Omega.{arith}
-use lib.Dec.{T}
-use lib.IntN.{ℤ, pos, negsuc, negℤ, natAbs}
-use lib.Signed.{nonNeg, leZ}
-use Rattle.laws.proofs.Ints.{v, lit, neg, le-yes, abs-by}
-use Rattle.laws.proofs.Tables.{every}
-use Rattle.laws.proofs.Tests.{both}
-use Rattle.bits.specs.Runs.{Runs}
-use Rattle.codes.specs.Codes.{dctSizeLuminance, dctSizeChrominance}
-use Rattle.codes.specs.Tables.{dctSizeLuminanceIndex, dctSizeLuminanceValue, dctSizeChrominanceIndex, dctSizeChrominanceValue}
-use Rattle.codes.specs.Walk.{vlc}
-use Rattle.codes.proofs.Vlc.{vlc-passes}
-use Rattle.coefficients.specs.Dcs.{dcInside, dcSizeCode}
+use lib.Dec.{eqb, ltb}
+use lib.IntN.{ℤ, pos, negℤ, natAbs, _-ℤ_}
+use lib.Pow.{pow-mono}
+use lib.Signed.{leZ}
+use Rattle.laws.proofs.Ints.{v, lit, neg, _⊖_, le-yes, abs-by}
+use Rattle.laws.proofs.Nums.{neg-abs}
+use Rattle.laws.proofs.Tests.{both, by-case}
+use Rattle.bits.proofs.Gives.{Gives, g-done, g-bind, g-if, g-bits}
+use Rattle.codes.proofs.Values.{coefficient-most, size-luminance-most, size-chrominance-most}
+use Rattle.coefficients.specs.declared.coefficient.Coefficient.{Coefficient}
+use Rattle.coefficients.specs.declared.coefficient.Coefficient.the-variants.{EndOfBlock, RunLevel}
+use Rattle.coefficients.specs.Coefficients.{escapeLevel, escape, runLevel, coefficient}
+use Rattle.coefficients.specs.Dcs.{added, dcInside, dcSize, dcDifference}
 
-natural : (z : ℤ) → T (nonNeg z) → z ≡ pos (natAbs z)
-natural (pos n) t = refl
-natural (negsuc n) t = absurd t
+-- a run and a level that can be read
+abbrev pub Small : Coefficient → Type 0
+Small EndOfBlock = Unit {0}
+Small (RunLevel run level) = (run ≤ 255) × (natAbs level ≤ 256)
 
--- a code of a table whose values are from 0 on
-from-0 : (index value : List ℤ) {s : List ℕ} {a e : ℕ} {v : ℤ} → T (every (λ k. nonNeg) 0 value)
-    → Runs (vlc index value (pos 0)) s a v e → v ≡ pos (natAbs v)
-from-0 index value {v = v} t r = natural v (vlc-passes index value (pos 0) r nonNeg tt t)
+pub less-256 : (n : ℕ) → n ≤ 255 → natAbs (pos n -ℤ pos 256) ≤ 256
+less-256 n h = abs-by 256 (lit n ⊖ lit 256) (omega arith) (omega arith)
 
--- the tables of sizes are such
-pub size-natural : (luminance : Bool) {s : List ℕ} {a e : ℕ} {v : ℤ} → Runs (dcSizeCode luminance) s a v e → v ≡ pos (natAbs v)
-unfolding dctSizeLuminance dctSizeChrominance dctSizeLuminanceValue dctSizeChrominanceValue
-size-natural true r = from-0 dctSizeLuminanceIndex dctSizeLuminanceValue tt r
-size-natural false r = from-0 dctSizeChrominanceIndex dctSizeChrominanceValue tt r
+module _ {s : List ℕ} where
+  pub escape-level-small : Gives s (λ z. natAbs z ≤ 256) escapeLevel
+  unfolding escapeLevel
+  escape-level-small =
+      g-bind _ (g-bits 8) (λ field h. g-if (eqb field 0)
+      (λ e. g-bind _ (g-bits 8) (λ level k. g-done (omega arith)))
+      (λ e. g-if (eqb field 128)
+      (λ e. g-bind _ (g-bits 8) (λ level k. g-done (less-256 level (omega arith))))
+      (λ e. g-if (ltb 128 field) (λ e. g-done (less-256 field (omega arith))) (λ e. g-done (omega arith)))))
+
+  escape-small : Gives s Small escape
+  unfolding escape
+  escape-small = g-bind _ (g-bits 6) (λ run h. g-bind _ escape-level-small (λ level k. g-done (omega arith, k)))
+
+  run-level-small : (code : ℕ) → code ≤ 65535 → Gives s Small (runLevel code)
+  unfolding runLevel
+  run-level-small code h =
+      g-if (eqb code 0xffff) (λ e. escape-small) (λ e.
+      g-bind _ (g-bits 1)
+      (λ sign k. g-if (eqb sign 0) (λ e. g-done (omega arith, omega arith)) (λ e. g-done (omega arith, omega (arith, neg-abs (pos (code % 256)))))))
+
+  pub coefficient-small : (n : ℕ) → Gives s Small (coefficient n)
+  unfolding coefficient
+  coefficient-small n =
+      g-bind _ coefficient-most (λ code h. g-if (eqb code 1 && ltb 0 n)
+      (λ e. g-bind _ (g-bits 1) (λ more k. g-if (eqb more 0) (λ e. g-done tt) (λ e. run-level-small code h)))
+      (λ e. run-level-small code h))
+
+pub added-small : (s d : ℕ) → s ≤ 8 → d < 2 ^ s → natAbs (added s d) ≤ 255
+unfolding added
+added-small s d h l =
+    let most : 2 ^ s ≤ 256 = pow-mono h in
+    by-case (λ z. natAbs z ≤ 255) (eqb (d / 2 ^ (s - 1) % 2) 1) (λ e. omega arith)
+    (λ e. abs-by 255 (lit (d + 1) ⊖ lit (2 ^ s)) (omega arith) (omega arith))
+
+module _ {s : List ℕ} where
+  pub size-most : (luminance : Bool) → Gives s (λ n. n ≤ 8) (dcSize luminance)
+  unfolding dcSize
+  size-most luminance = g-if luminance (λ e. size-luminance-most) (λ e. size-chrominance-most)
+
+  pub difference-small : (luminance : Bool) → Gives s (λ z. natAbs z ≤ 255) (dcDifference luminance)
+  unfolding dcDifference
+  difference-small luminance =
+      g-bind _ (size-most luminance) (λ n h. g-if (eqb n 0) (λ e. g-done (omega arith)) (λ e. g-bind _ (g-bits n) (λ d l. g-done (added-small n d h l))))
 
 -- a DC value that question 8 admits
 pub inside-small : (x : ℤ) → dcInside x ≡ true → natAbs x ≤ 256

@@ -27,13 +27,14 @@ use Rattle.codes.specs.Standard.{code, Stands}
 use Rattle.coefficients.specs.Coefficients.{escapeLevel}
 use Rattle.coefficients.specs.Dcs.{added}
 use Rattle.coefficients.specs.Dequantise as ours
-use Rattle.coefficients.specs.Dequantise.{dequantised, madeOdd}
+use Rattle.coefficients.specs.Dequantise.{quantiser, dequantised, madeOdd}
 use Rattle.coefficients.specs.Standard.{or32, dctZZ0, levelCode, oddified, clipped, dctRecon}
 
 -- ---- the DC differential
 
 -- -(2 ^ s) | b is a sum where b is below 2 ^ s: m is 2 ^ s - 1, and r is 2 ^ (32 - s) - 1
-or-is : (s b m r : ℕ) → s ≤ 31 → 0 < b → b < 2 ^ s → 2 ^ s ≡ suc m → 2 ^ (32 - s) ≡ suc r → or32 (negsuc m) (pos b) ≡ pos b -ℤ pos (2 ^ s)
+or-is : (s b m r : ℕ) → s ≤ 31 → 0 < b → b < 2 ^ s → 2 ^ s ≡ suc m → 2 ^ (32 - s) ≡ suc r
+    → or32 (negsuc m) (pos b) ≡ pos b -ℤ pos (2 ^ s)
 unfolding or32
 or-is s b m r h q l e f =
     let k : 32 ≡ 32 - s + s = omega arith in
@@ -97,16 +98,19 @@ unfolding levelCode
 rows = (refl, refl, refl, refl, refl, refl, refl, refl)
 
 -- each code of the table is read as its level, wherever it stands
-pub escape-as-printed : (level : ℤ) → 0 < natAbs level → natAbs level ≤ 255 → (s : List ℕ) (a : ℕ) → Stands (levelCode level) s a → a + levelCode level .bits ≤ length s * 8
+pub escape-as-printed : (level : ℤ) → 0 < natAbs level → natAbs level ≤ 255 → (s : List ℕ) (a : ℕ) → Stands (levelCode level) s a
+    → a + levelCode level .bits ≤ length s * 8
     → Runs escapeLevel s a level (a + levelCode level .bits)
 unfolding levelCode escapeLevel
 escape-as-printed (pos n) l m s a = go (ltb n 128) refl
   where
-    go : (t : Bool) → ltb n 128 ≡ t → Stands (cond t (code 8 n (pos n)) (code 16 n (pos n))) s a → a + cond t (code 8 n (pos n)) (code 16 n (pos n)) .bits ≤ length s * 8
+    go : (t : Bool) → ltb n 128 ≡ t → Stands (cond t (code 8 n (pos n)) (code 16 n (pos n))) s a
+        → a + cond t (code 8 n (pos n)) (code 16 n (pos n)) .bits ≤ length s * 8
         → Runs escapeLevel s a (pos n) (a + cond t (code 8 n (pos n)) (code 16 n (pos n)) .bits)
     go true e w h =
         let b = ltb-true n 128 e in
-        r-call _ (there s a 8 n h w) (r-no _ (ne-eqb n 0 (λ z. omega arith)) (r-no _ (ne-eqb n 128 (λ z. omega arith)) (r-no _ (le-ltb 128 n (omega arith)) r-done)))
+        r-call _ (there s a 8 n h w)
+        (r-no _ (ne-eqb n 0 (λ z. omega arith)) (r-no _ (ne-eqb n 128 (λ z. omega arith)) (r-no _ (le-ltb 128 n (omega arith)) r-done)))
     go false e w h =
         r-call _ (first s a 0 n h (omega arith) (w ∙ omega arith)) (r-call _ (second s a 0 n h (omega arith) (w ∙ omega arith)) r-done)
 escape-as-printed (negsuc n) l m s a = go (ltb n 127) refl
@@ -122,7 +126,8 @@ escape-as-printed (negsuc n) l m s a = go (ltb n 127) refl
         let b = ltb-true n 127 e in
         rw (← less)
         (r-call _ (there s a 8 (255 - n) h w)
-        (r-no _ (ne-eqb (255 - n) 0 (λ z. omega arith)) (r-no _ (ne-eqb (255 - n) 128 (λ z. omega arith)) (r-yes _ (lt-ltb 128 (255 - n) (omega arith)) r-done))))
+        (r-no _ (ne-eqb (255 - n) 0 (λ z. omega arith))
+        (r-no _ (ne-eqb (255 - n) 128 (λ z. omega arith)) (r-yes _ (lt-ltb 128 (255 - n) (omega arith)) r-done))))
     go false e w h =
         let b = ltb-false n 127 e in
         rw (← less)
@@ -141,27 +146,29 @@ same-odd (suc q) h = rw (lt-ltb 0 (suc q) h)
 
 -- equal for every level above 0 whose product before the division is at least 16
 pub recon-as-printed : (intra : Bool) (n scale entry : ℕ) → 0 < n → 16 ≤ (n * 2 + cond intra 0 1) * scale * entry
-    → dequantised intra (pos n) scale entry ≡ dctRecon intra (pos n) scale entry
+    → dequantised (quantiser intra scale) (pos n) entry ≡ dctRecon intra (pos n) scale entry
 unfolding dequantised dctRecon
 recon-as-printed true n scale entry h l =
     let P = n * 2 * scale * entry in
-    same-clip (madeOdd (pos (P / 16))) ∙ ap clipped (same-odd (P / 16) (omega arith) ∙ ap (λ (m : ℕ). oddified (pos (m * scale * entry / 16))) (mul-comm n 2))
+    same-clip (madeOdd (pos (P / 16)))
+    ∙ ap clipped (same-odd (P / 16) (omega arith) ∙ ap (λ (m : ℕ). oddified (pos (m * scale * entry / 16))) (mul-comm n 2))
 recon-as-printed false zero scale entry h l = let z : ⊥ = omega arith in absurd z
 recon-as-printed false (suc n) scale entry h l =
     let P = (suc n * 2 + 1) * scale * entry in
     rw (le-ltb (suc n * 2) 0 (omega arith))
-    (same-clip (madeOdd (pos (P / 16))) ∙ ap clipped (same-odd (P / 16) (omega arith) ∙ ap (λ (m : ℕ). oddified (pos ((m + 1) * scale * entry / 16))) (mul-comm (suc n) 2)))
+    (same-clip (madeOdd (pos (P / 16)))
+    ∙ ap clipped (same-odd (P / 16) (omega arith) ∙ ap (λ (m : ℕ). oddified (pos ((m + 1) * scale * entry / 16))) (mul-comm (suc n) 2)))
 
 -- ---- the smallest numbers at which they differ: a level below 0, since the quotient rounds down; a level of 0; a product below 16
 
-pub level-below-0 : (dequantised true (negsuc 0) 1 19 ≡ negsuc 2) × (dctRecon true (negsuc 0) 1 19 ≡ negsuc 0)
+pub level-below-0 : (dequantised (quantiser true 1) (negsuc 0) 19 ≡ negsuc 2) × (dctRecon true (negsuc 0) 1 19 ≡ negsuc 0)
 unfolding dequantised dctRecon odd
 level-below-0 = (refl, refl)
 
-pub level-0 : (dequantised true (pos 0) 1 1 ≡ pos 1) × (dctRecon true (pos 0) 1 1 ≡ pos 0)
+pub level-0 : (dequantised (quantiser true 1) (pos 0) 1 ≡ pos 1) × (dctRecon true (pos 0) 1 1 ≡ pos 0)
 unfolding dequantised dctRecon odd
 level-0 = (refl, refl)
 
-pub product-below-16 : (dequantised true (pos 1) 1 1 ≡ pos 1) × (dctRecon true (pos 1) 1 1 ≡ pos 0)
+pub product-below-16 : (dequantised (quantiser true 1) (pos 1) 1 ≡ pos 1) × (dctRecon true (pos 1) 1 1 ≡ pos 0)
 unfolding dequantised dctRecon odd
 product-below-16 = (refl, refl)

@@ -1,39 +1,19 @@
--- RULES 3.3 to 3.12: the coefficients of a block.
-use mathlib.Core.Path.{_≡_}
-use mathlib.Core.Bool.{Bool}
-use mathlib.Core.List.{List}
+-- RULES 3.3, 3.7 to 3.12: the coefficients of a block, from what it says and what was left over.
+use mathlib.Core.Bool.{Bool, not, _&&_}
+use mathlib.Core.List.{List, [], _∷_}
 use Prim.Native.Nat.{ℕ, _+_}
-use lib.Dec.{ltb}
-use lib.IntN.{ℤ, pos, _*ℤ_}
+use lib.Dec.{eqb}
+use lib.IntN.{ℤ, pos, _+ℤ_, _*ℤ_}
 use lib.ListN.{getD, set, replicate}
-use Rattle.laws.specs.Turns.{Turn, again, stop}
-use Rattle.bits.specs.Programs.{Prog, done, loop, _>>=_, _>>_, if_then_else_}
-use Rattle.codes.specs.Tables.{dctCoeffIndex, dctCoeffValue}
+use Rattle.bits.specs.Programs.{Prog, done, _>>=_, _>>_, if_then_else_}
 use Rattle.codes.specs.Matrices.{zigZag, premultiplierMatrix}
-use Rattle.coefficients.specs.declared.coefficient.Coefficient.{Coefficient}
-use Rattle.coefficients.specs.declared.coefficient.Coefficient.the-variants.{EndOfBlock, RunLevel}
 use Rattle.coefficients.specs.declared.block.Block.{Block}
 use Rattle.coefficients.specs.declared.block.BlockEnd.{BlockEnd}
 use Rattle.coefficients.specs.declared.block.BlockEnd.the-variants.{Whole, Dropped, Outside}
-use Rattle.coefficients.specs.Coefficients.{coefficient}
-use Rattle.coefficients.specs.Dcs.{dc, dcInside}
+use Rattle.coefficients.specs.declared.quantiser.Quantiser.{Quantiser}
+use Rattle.coefficients.specs.Dcs.{dcInside}
 use Rattle.coefficients.specs.Dequantise.{dequantised}
-
--- the four tables that the code is lent: the codes of coefficients, the zig-zag order, the premultiplier
-pub record Tables (index : List ℤ) (value places : List ℕ) (premultipliers : List ℤ) : Type 0 where
-  pub is-index : index ≡ dctCoeffIndex
-  pub is-value : value ≡ dctCoeffValue
-  pub is-zig-zag : places ≡ zigZag
-  pub is-premultiplier : premultipliers ≡ premultiplierMatrix
-
--- what stays the same while a block is read
-pub record Quantiser : Type 0 where
-  pub intra : Bool
-  pub scale : ℕ
-  pub matrix : List ℕ
-
-abbrev pub quantiser : Bool → ℕ → List ℕ → Quantiser
-quantiser intra scale matrix = record { intra = intra; scale = scale; matrix = matrix }
+use Rattle.coefficients.specs.Syntax.{Pair, Coded, pairs, codedBlock}
 
 -- the coefficients so far, and the places used
 pub record Filled : Type 0 where
@@ -43,69 +23,70 @@ pub record Filled : Type 0 where
 abbrev pub filled : List ℤ → ℕ → Filled
 filled coefficients n = record { coefficients = coefficients; n = n }
 
--- the coefficients at the end, and how it came
-pub record Coded : Type 0 where
+-- RULES 3.7, 3.8: the level of a pair, at its place in zig-zag order; its coefficient replaces the one there
+abbrev pub placed : Quantiser → List ℕ → Filled → Pair → Filled
+placed q matrix f p =
+    let n = f .n + p .run in
+    let place = getD zigZag n 0 in
+    filled (set (f .coefficients) place (dequantised q (p .level) (getD matrix place 0) *ℤ getD premultiplierMatrix place (pos 0))) (n + 1)
+
+-- all pairs, one after the other
+unfoldable pub allPlaced : Quantiser → List ℕ → Filled → List Pair → Filled
+allPlaced q matrix f [] = f
+allPlaced q matrix f (p ∷ ps) = allPlaced q matrix (placed q matrix f p) ps
+
+-- the coefficients of some pairs, and how the block ended
+pub record Fill : Type 0 where
   pub filled : Filled
   pub end : BlockEnd
 
-abbrev pub coded : Filled → BlockEnd → Coded
-coded f end = record { filled = f; end = end }
+abbrev pub fill : Filled → BlockEnd → Fill
+fill f end = record { filled = f; end = end }
 
--- RULES 3.3, 3.9: what a block leaves
+-- RULES 3.5, 3.7, 3.8: the pairs behind f, up to the end of the block: read, then placed
+unfoldable pub coefficients : Quantiser → List ℕ → Filled → Prog Fill
+coefficients q matrix f = do
+  p ← pairs (f .n)
+  done (fill (allPlaced q matrix f (p .pairs)) (p .end))
+
+-- RULES 3.3, 3.9: what a block leaves: coefficients, the predictor from now on, and how it ended
 pub record Read : Type 0 where
   pub filled : Filled
   pub predictor : ℤ
   pub end : BlockEnd
 
--- RULES 3.7, 3.8: the level at place n of the zig-zag order; its coefficient replaces the one there
-abbrev pub placed : Quantiser → Filled → ℕ → ℤ → Filled
-placed q f n level =
-    let place = getD zigZag n 0 in
-    filled (set (f .coefficients) place (dequantised (q .intra) level (q .scale) (getD (q .matrix) place 0) *ℤ getD premultiplierMatrix place (pos 0))) (n + 1)
+-- RULES 3.3: the DC value x is the first coefficient of an intra block
+abbrev pub withDc : ℤ → List ℤ → Filled
+withDc x left = filled (set left 0 (x *ℤ pos 256)) 1
 
--- RULES 3.5, 3.7: a coefficient ends the block, drops it where its run leads past the last place, or takes one place more
-abbrev pub taken : Quantiser → Filled → Coefficient → Prog (Turn Filled Coded)
-taken q f EndOfBlock = done (stop (coded f Whole))
-taken q f (RunLevel run level) =
-    if ltb (f .n + run) 64 then done (again (placed q f (f .n + run) level)) else done (stop (coded f Dropped))
+-- RULES 3.3, 3.4: the predictor behind the block: the DC value of an intra block
+abbrev pub dcOf : Quantiser → ℤ → Coded → ℤ
+dcOf q predictor c = if q .intra then predictor +ℤ c .difference else predictor
 
--- RULES 3.5, 3.7: one coefficient
-unfoldable pub coefficientTurn : Quantiser → Filled → Prog (Turn Filled Coded)
-coefficientTurn q f = do
-  c ← coefficient (f .n)
-  taken q f c
+-- RULES 3.3, 3.4: what the pairs are placed behind
+abbrev pub begun : Quantiser → ℤ → List ℤ → Coded → Filled
+begun q predictor left c = if q .intra then withDc (dcOf q predictor c) left else filled left 0
 
--- coefficients up to the end of the block: at most 64, and one turn that ends it
-unfoldable pub coefficients : Quantiser → Filled → Prog Coded
-coefficients q f = loop 65 (coefficientTurn q) (coded f Dropped) f
+-- RULES Q8, 3.3, 3.4, 3.7, 3.8: a block from what it says, the predictor and the coefficients left over; a DC value outside changes neither of them
+unfoldable pub reconstructed : Quantiser → List ℕ → ℤ → List ℤ → Coded → Read
+reconstructed q matrix predictor left c =
+    if q .intra && not (dcInside (predictor +ℤ c .difference)) then record { filled = filled left 0; predictor = predictor; end = c .end }
+    else record { filled = allPlaced q matrix (begun q predictor left c) (c .pairs); predictor = dcOf q predictor c; end = c .end }
 
--- what was read, with the predictor from now on
-abbrev pub readAs : Coded → ℤ → Read
-readAs c predictor = record { filled = c .filled; predictor = predictor; end = c .end }
-
--- RULES 3.3: an intra block begins with its DC value, after which question 8 is asked
-unfoldable pub intraBlock : Quantiser → Bool → ℤ → List ℤ → Prog Read
-intraBlock q luminance predictor left = do
-  x ← dc luminance predictor
-  if dcInside x then (do
-    c ← coefficients q (filled (set left 0 (x *ℤ pos 256)) 1)
-    done (readAs c x))
-      else done (record { filled = filled left 0; predictor = predictor; end = Outside })
-
--- RULES 3.4
-unfoldable pub nonIntraBlock : Quantiser → ℤ → List ℤ → Prog Read
-nonIntraBlock q predictor left = do
-  c ← coefficients q (filled left 0)
-  done (readAs c predictor)
-
--- a block, from the coefficients that are left over
-unfoldable pub block : Quantiser → Bool → ℤ → List ℤ → Prog Read
-block q luminance predictor left = if q .intra then intraBlock q luminance predictor left else nonIntraBlock q predictor left
+-- a block, from the coefficients that are left over: read, then reconstructed
+unfoldable pub block : Quantiser → List ℕ → Bool → ℤ → List ℤ → Prog Read
+block q matrix luminance predictor left = do
+  c ← codedBlock (q .intra) luminance predictor
+  done (reconstructed q matrix predictor left c)
 
 -- what the code gives beside the reader, with the coefficients as it leaves them
 abbrev pub readOf : List ℤ → Block → Read
 readOf coefficients r = record { filled = filled coefficients (r .n); predictor = r .predictor; end = r .end }
 
 -- RULES 3.9, 3.12: what is left over for the next block: nothing after a whole block, else its coefficients so far
-unfoldable pub leftOver : Read → List ℤ
-leftOver r = elim (r .end) [ Whole ↦ replicate 64 (pos 0) | Dropped ↦ r .filled .coefficients | Outside ↦ r .filled .coefficients ]
+unfoldable pub leftOver : Quantiser → Read → List ℤ
+leftOver q r = elim (r .end) [ Whole ↦ replicate 64 (pos 0) | Dropped ↦ r .filled .coefficients | Outside ↦ r .filled .coefficients ]
+
+-- RULES 4.3: a block that has its first coefficient and no other
+abbrev pub firstOnly : Quantiser → Filled → Bool
+firstOnly q f = eqb (f .n) 1

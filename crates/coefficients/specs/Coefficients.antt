@@ -1,8 +1,8 @@
 -- RULES 3.5, 3.6 (11172-2, 2.4.2.8): a coefficient as it is coded.
 use mathlib.Core.Bool.{_&&_}
-use Prim.Native.Nat.{ℕ, _/_, _%_, _≤_}
+use Prim.Native.Nat.{ℕ, _/_, _%_}
 use lib.Dec.{eqb, ltb}
-use lib.IntN.{ℤ, pos, negℤ, natAbs, _-ℤ_}
+use lib.IntN.{ℤ, pos, negℤ, _-ℤ_}
 use Rattle.bits.specs.Programs.{Prog, done, bits, _>>=_, _>>_, if_then_else_}
 use Rattle.codes.specs.Codes.{dctCoeff}
 use Rattle.coefficients.specs.declared.coefficient.Coefficient.{Coefficient}
@@ -42,8 +42,3 @@ coefficient n = do
     more ← bits 1
     if eqb more 0 then done EndOfBlock else runLevel code)
       else runLevel code
-
--- how large a run and a level that were read can be
-abbrev pub Small : Coefficient → Type 0
-Small EndOfBlock = Unit {0}
-Small (RunLevel run level) = (run ≤ 255) × (natAbs level ≤ 256)

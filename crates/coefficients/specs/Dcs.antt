@@ -2,31 +2,26 @@
 use mathlib.Core.Bool.{Bool, cond, _&&_}
 use Prim.Native.Nat.{ℕ, _+_, _-_, _/_, _%_, _^_}
 use lib.Dec.{eqb}
-use lib.IntN.{ℤ, pos, negℤ, natAbs, _+ℤ_, _-ℤ_}
+use lib.IntN.{ℤ, pos, negℤ, _-ℤ_}
 use lib.Signed.{leZ}
 use Rattle.bits.specs.Programs.{Prog, done, bits, _>>=_, _>>_, if_then_else_}
 use Rattle.codes.specs.Codes.{dctSizeLuminance, dctSizeChrominance}
 
--- RULES 3.1: the code of the differential's size, of the table for blocks of Y or of the one for Cb and Cr
-abbrev pub dcSizeCode : Bool → Prog ℤ
-dcSizeCode luminance = if luminance then dctSizeLuminance else dctSizeChrominance
-
+-- RULES 3.1: the differential's size, by the table for blocks of Y or by the one for Cb and Cr
 unfoldable pub dcSize : Bool → Prog ℕ
-dcSize luminance = do
-  size ← dcSizeCode luminance
-  done (natAbs size)
+dcSize luminance = if luminance then dctSizeLuminance else dctSizeChrominance
 
 -- RULES 3.2: what a differential of s bits adds: itself where its top bit is 1, else differential + 1 - 2 ^ s
 unfoldable pub added : ℕ → ℕ → ℤ
 added s d = cond (eqb (d / 2 ^ (s - 1) % 2) 1) (pos d) (pos (d + 1) -ℤ pos (2 ^ s))
 
--- RULES 3.2: the DC value: the predictor where the size is 0, else with what the differential adds
-unfoldable pub dc : Bool → ℤ → Prog ℤ
-dc luminance predictor = do
+-- RULES 3.2: what the DC value adds to the predictor: 0 where the size is 0, else what the differential adds
+unfoldable pub dcDifference : Bool → Prog ℤ
+dcDifference luminance = do
   s ← dcSize luminance
-  if eqb s 0 then done predictor else (do
+  if eqb s 0 then done (pos 0) else (do
     d ← bits s
-    done (predictor +ℤ added s d))
+    done (added s d))
 
 -- RULES Q8
 abbrev pub dcInside : ℤ → Bool

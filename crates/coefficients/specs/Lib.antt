@@ -3,3 +3,4 @@ pub mod Coefficients
 pub mod Dequantise
 pub mod Dcs
 pub mod Standard
+pub mod Syntax

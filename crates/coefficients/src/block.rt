@@ -2,19 +2,25 @@
 use crate::coefficient::Coefficient;
 use crate::coefficient::read_coefficient;
 use crate::dc::dc_inside;
-use crate::dc::read_dc;
+use crate::dc::read_dc_difference;
 use crate::dequantise::dequantise;
+use crate::quantiser::Quantiser;
 use bits::reader::Reader;
+use codes::lent::Tables;
+use codes::lent::entry;
+use codes::lent::place_of;
+use codes::lent::premultiplier;
 ghost use mathlib.Core.Path.{_≡_};
 ghost use mathlib.Core.Bool.{true};
-ghost use Prim.Native.Nat.{_≤_, _*_};
-ghost use lib.IntN.{natAbs, _*ℤ_};
-ghost use lib.ListN.{length};
-ghost use Rattle.bits.specs.Runs.{Runs};
-ghost use Rattle.codes.specs.Matrices.{Bounded};
+ghost use Prim.Native.Nat.{_≤_, _<_, _*_};
+ghost use lib.IntN.{pos, natAbs, _*ℤ_};
+ghost use lib.ListN.{getD};
+ghost use Rattle.bits.specs.Runs.{Inside, Reading};
+ghost use Rattle.codes.specs.Lent.{Lent, matrixOf};
+ghost use Rattle.codes.specs.Matrices.{premultiplierMatrix};
 ghost use Rattle.coefficients.specs.Dcs.{dcInside};
 ghost use Rattle.coefficients.specs.Dequantise.{dequantised};
-ghost use Rattle.coefficients.specs.Blocks.{Tables, quantiser, filled, coded, coefficients, intraBlock, block, readOf, leftOver};
+ghost use Rattle.coefficients.specs.Blocks.{filled, fill, coefficients, block, readOf, leftOver};
 
 // How a block ended: read to its end; dropped, its run having led past the last place; or its DC value outside -256..255 (number 8).
 pub enum BlockEnd {
@@ -38,39 +44,40 @@ struct CoefficientsEnd {
     pub end: BlockEnd,
 }
 
-// RULES 3.8 with its last step.
-fn premultiplied(intra: bool, level: i32, scale: u32, entry: u8, premultiplier: i32) -> i32
-    requires { ⌜ (natAbs level ≤ 256) × (scale ≤ 31) × (natAbs premultiplier ≤ 62) ⌝ }
-    ensures { λ r. ⌜ (r ≡ dequantised intra level scale entry *ℤ premultiplier) × (natAbs r ≤ 2048 * natAbs premultiplier) ⌝ }
+// RULES 3.8 with its last step: the coefficient at a place.
+fn premultiplied(tables: &Tables, q: Quantiser, level: i32, place: usize) -> i32
+    requires { ⌜ Lent (now tables) ⌝ }
+    requires { ⌜ (natAbs level ≤ 256) × (q .scale ≤ 31) × (place < 64) ⌝ }
+    ensures { λ r. ⌜
+        r ≡ dequantised q level (getD (matrixOf (now (tables .entry)) (q .intra)) place 0) *ℤ getD premultiplierMatrix place (pos 0)
+        ⌝ }
 {
-    dequantise(intra, level, scale, entry) * premultiplier
+    let weight = entry(tables, q.intra, place);
+    let factor = premultiplier(tables, place);
+    dequantise(q, level, weight) * factor
 }
 
 // The coefficients from the place `first` on, up to the end of the block.
 fn read_coefficients(
     s: &[u8],
     reader: Reader,
-    index: &[i16],
-    value: &[u16],
-    places: &[usize; 64],
-    premultipliers: &[i32; 64],
+    tables: &Tables,
     values: &mut [i32; 64],
+    q: Quantiser,
     first: usize,
-    matrix: &[u8; 64],
-    scale: u32,
-    intra: bool,
 ) -> CoefficientsEnd
-    requires { ⌜ reader .at .0 ≤ 134217728 ⌝ }
-    requires { ⌜ length (now s) ≤ 16777216 ⌝ }
-    requires { ⌜ Tables (now index) (now value) (now places) (now premultipliers) ⌝ }
-    requires { ⌜ (first ≤ 64) × (scale ≤ 31) ⌝ }
-    ensures { λ r. ⌜ Runs (coefficients (quantiser intra scale (now (matrix .entry))) (filled (now (values .entry)) first)) (now (s .entry)) (reader .at .0) (coded (filled (now (values .exit)) (r .n)) (r .end)) (r .reader .at .0) ⌝ }
-    ensures { λ r. ⌜ (Bounded (now (values .entry)) → Bounded (now (values .exit))) × (r .n ≤ 64) × (r .reader .at .0 ≤ 134217728) ⌝ }
+    requires { ⌜ Inside (now s) reader ⌝ }
+    requires { ⌜ Lent (now tables) ⌝ }
+    requires { ⌜ (first ≤ 64) × (q .scale ≤ 31) ⌝ }
+    ensures { λ r. ⌜
+        Reading (coefficients q (matrixOf (now (tables .entry)) (q .intra)) (filled (now (values .entry)) first))
+        (now (s .entry)) reader (fill (filled (now (values .exit)) (r .n)) (r .end)) (r .reader)
+        ⌝ }
 {
     let mut from = reader;
     let mut n = first;
     loop {
-        let read = read_coefficient(s, from, index, value, n);
+        let read = read_coefficient(s, from, tables, n);
         from = read.reader;
         let coefficient = read.coefficient;
         let Coefficient::RunLevel { run, level } = coefficient else {
@@ -88,8 +95,8 @@ fn read_coefficients(
                 end: BlockEnd::Dropped,
             };
         }
-        let place = places[at];
-        let v = premultiplied(intra, level, scale, matrix[place], premultipliers[place]);
+        let place = place_of(tables, at);
+        let v = premultiplied(tables, q, level, place);
         values[place] = v;
         n = at + 1;
     }
@@ -99,27 +106,24 @@ fn read_coefficients(
 fn read_intra_block(
     s: &[u8],
     reader: Reader,
-    index: &[i16],
-    value: &[u16],
-    places: &[usize; 64],
-    premultipliers: &[i32; 64],
+    tables: &Tables,
     values: &mut [i32; 64],
-    matrix: &[u8; 64],
-    scale: u32,
+    q: Quantiser,
     luminance: bool,
     predictor: i32,
 ) -> Block
-    requires { ⌜ reader .at .0 ≤ 134217728 ⌝ }
-    requires { ⌜ length (now s) ≤ 16777216 ⌝ }
-    requires { ⌜ Tables (now index) (now value) (now places) (now premultipliers) ⌝ }
-    requires { ⌜ (scale ≤ 31) × (dcInside predictor ≡ true) ⌝ }
-    ensures { λ r. ⌜ Runs (intraBlock (quantiser true scale (now (matrix .entry))) luminance predictor (now (values .entry))) (now (s .entry)) (reader .at .0) (readOf (now (values .exit)) r) (r .reader .at .0) ⌝ }
-    ensures { λ r. ⌜ (Bounded (now (values .entry)) → Bounded (now (values .exit))) × (r .n ≤ 64) × (dcInside (r .predictor) ≡ true) × (r .reader .at .0 ≤ 134217728) ⌝ }
+    requires { ⌜ Inside (now s) reader ⌝ }
+    requires { ⌜ Lent (now tables) ⌝ }
+    requires { ⌜ (q .intra ≡ true) × (q .scale ≤ 31) × (dcInside predictor ≡ true) ⌝ }
+    ensures { λ r. ⌜
+        Reading (block q (matrixOf (now (tables .entry)) (q .intra)) luminance predictor (now (values .entry)))
+        (now (s .entry)) reader (readOf (now (values .exit)) r) (r .reader)
+        ⌝ }
 {
-    let dc = read_dc(s, reader, luminance, predictor);
-    let level = dc.value;
-    let after = dc.reader;
-    if !dc_inside(level) {
+    let difference = read_dc_difference(s, reader, tables, luminance);
+    let after = difference.reader;
+    let dc = predictor + difference.value;
+    if !dc_inside(dc) {
         return Block {
             reader: after,
             n: 0,
@@ -127,26 +131,14 @@ fn read_intra_block(
             end: BlockEnd::Outside,
         };
     }
-    values[0] = level * 256;
-    let last = read_coefficients(
-        s,
-        after,
-        index,
-        value,
-        places,
-        premultipliers,
-        values,
-        1,
-        matrix,
-        scale,
-        true,
-    );
+    values[0] = dc * 256;
+    let last = read_coefficients(s, after, tables, values, q, 1);
     let from = last.reader;
     let end = last.end;
     Block {
         reader: from,
         n: last.n,
-        predictor: level,
+        predictor: dc,
         end,
     }
 }
@@ -155,52 +147,25 @@ fn read_intra_block(
 pub fn read_block(
     s: &[u8],
     reader: Reader,
-    index: &[i16],
-    value: &[u16],
-    places: &[usize; 64],
-    premultipliers: &[i32; 64],
+    tables: &Tables,
     values: &mut [i32; 64],
-    matrix: &[u8; 64],
-    scale: u32,
-    intra: bool,
+    q: Quantiser,
     luminance: bool,
     predictor: i32,
 ) -> Block
-    requires { ⌜ reader .at .0 ≤ 134217728 ⌝ }
-    requires { ⌜ length (now s) ≤ 16777216 ⌝ }
-    requires { ⌜ Tables (now index) (now value) (now places) (now premultipliers) ⌝ }
-    requires { ⌜ (scale ≤ 31) × (dcInside predictor ≡ true) ⌝ }
-    ensures { λ r. ⌜ Runs (block (quantiser intra scale (now (matrix .entry))) luminance predictor (now (values .entry))) (now (s .entry)) (reader .at .0) (readOf (now (values .exit)) r) (r .reader .at .0) ⌝ }
-    ensures { λ r. ⌜ (Bounded (now (values .entry)) → Bounded (now (values .exit))) × (r .n ≤ 64) × (dcInside (r .predictor) ≡ true) × (r .reader .at .0 ≤ 134217728) ⌝ }
+    requires { ⌜ Inside (now s) reader ⌝ }
+    requires { ⌜ Lent (now tables) ⌝ }
+    requires { ⌜ (q .scale ≤ 31) × (dcInside predictor ≡ true) ⌝ }
+    ensures { λ r. ⌜
+        Reading (block q (matrixOf (now (tables .entry)) (q .intra)) luminance predictor (now (values .entry)))
+        (now (s .entry)) reader (readOf (now (values .exit)) r) (r .reader)
+        ⌝ }
 {
+    let intra = q.intra;
     if intra {
-        return read_intra_block(
-            s,
-            reader,
-            index,
-            value,
-            places,
-            premultipliers,
-            values,
-            matrix,
-            scale,
-            luminance,
-            predictor,
-        );
+        return read_intra_block(s, reader, tables, values, q, luminance, predictor);
     }
-    let last = read_coefficients(
-        s,
-        reader,
-        index,
-        value,
-        places,
-        premultipliers,
-        values,
-        0,
-        matrix,
-        scale,
-        false,
-    );
+    let last = read_coefficients(s, reader, tables, values, q, 0);
     let from = last.reader;
     let end = last.end;
     Block {
@@ -212,9 +177,8 @@ pub fn read_block(
 }
 
 // Makes of a block's coefficients what the next block begins with.
-pub fn left_over(values: &mut [i32; 64], block: Block)
-    ensures { λ r. ⌜ now (values .exit) ≡ leftOver (readOf (now (values .entry)) block) ⌝ }
-    ensures { λ r. ⌜ (Bounded (now (values .entry)) → Bounded (now (values .exit))) ⌝ }
+pub fn left_over(values: &mut [i32; 64], q: Quantiser, block: Block)
+    ensures { λ r. ⌜ now (values .exit) ≡ leftOver q (readOf (now (values .entry)) block) ⌝ }
 {
     let end = block.end;
     if let BlockEnd::Whole = end {

@@ -1,13 +1,10 @@
 // A coefficient as it is coded.
 use bits::reader::Reader;
-use codes::walk::read_vlc_uint;
-ghost use mathlib.Core.Path.{_≡_};
-ghost use Prim.Native.Nat.{_≤_};
-ghost use lib.IntN.{natAbs};
-ghost use lib.ListN.{length};
-ghost use Rattle.bits.specs.Runs.{Runs};
-ghost use Rattle.codes.specs.Tables.{dctCoeffIndex, dctCoeffValue};
-ghost use Rattle.coefficients.specs.Coefficients.{escapeLevel, escape, runLevel, coefficient, Small};
+use codes::codes::read_dct_coeff;
+use codes::lent::Tables;
+ghost use Rattle.bits.specs.Runs.{Inside, Reading};
+ghost use Rattle.codes.specs.Lent.{Lent};
+ghost use Rattle.coefficients.specs.Coefficients.{escapeLevel, escape, runLevel, coefficient};
 
 // RULES 3.5
 pub enum Coefficient {
@@ -27,10 +24,8 @@ struct LevelRead {
 
 // The level behind an escape, in 8 bits or in 16.
 fn read_escape_level(s: &[u8], reader: Reader) -> LevelRead
-    requires { ⌜ reader .at .0 ≤ 134217728 ⌝ }
-    requires { ⌜ length (now s) ≤ 16777216 ⌝ }
-    ensures { λ r. ⌜ Runs escapeLevel (now (s .entry)) (reader .at .0) (r .level) (r .reader .at .0) ⌝ }
-    ensures { λ r. ⌜ (natAbs (r .level) ≤ 256) × (r .reader .at .0 ≤ 134217728) ⌝ }
+    requires { ⌜ Inside (now s) reader ⌝ }
+    ensures { λ r. ⌜ Reading escapeLevel (now (s .entry)) reader (r .level) (r .reader) ⌝ }
 {
     let first = reader.read(s, 8);
     let after = first.reader;
@@ -62,10 +57,8 @@ fn read_escape_level(s: &[u8], reader: Reader) -> LevelRead
 }
 
 fn read_escape(s: &[u8], reader: Reader) -> CoefficientRead
-    requires { ⌜ reader .at .0 ≤ 134217728 ⌝ }
-    requires { ⌜ length (now s) ≤ 16777216 ⌝ }
-    ensures { λ r. ⌜ Runs escape (now (s .entry)) (reader .at .0) (r .coefficient) (r .reader .at .0) ⌝ }
-    ensures { λ r. ⌜ Small (r .coefficient) × (r .reader .at .0 ≤ 134217728) ⌝ }
+    requires { ⌜ Inside (now s) reader ⌝ }
+    ensures { λ r. ⌜ Reading escape (now (s .entry)) reader (r .coefficient) (r .reader) ⌝ }
 {
     let first = reader.read(s, 6);
     let run = first.value as usize;
@@ -79,11 +72,9 @@ fn read_escape(s: &[u8], reader: Reader) -> CoefficientRead
 }
 
 // The pair of a code, 256 × run + level, and its sign bit; or of an escape.
-fn read_run_level(s: &[u8], reader: Reader, code: u16) -> CoefficientRead
-    requires { ⌜ reader .at .0 ≤ 134217728 ⌝ }
-    requires { ⌜ length (now s) ≤ 16777216 ⌝ }
-    ensures { λ r. ⌜ Runs (runLevel code) (now (s .entry)) (reader .at .0) (r .coefficient) (r .reader .at .0) ⌝ }
-    ensures { λ r. ⌜ Small (r .coefficient) × (r .reader .at .0 ≤ 134217728) ⌝ }
+fn read_run_level(s: &[u8], reader: Reader, code: u32) -> CoefficientRead
+    requires { ⌜ Inside (now s) reader ⌝ }
+    ensures { λ r. ⌜ Reading (runLevel code) (now (s .entry)) reader (r .coefficient) (r .reader) ⌝ }
 {
     if code == 0xffff {
         return read_escape(s, reader);
@@ -105,23 +96,13 @@ fn read_run_level(s: &[u8], reader: Reader, code: u16) -> CoefficientRead
     }
 }
 
-// A coefficient, or the end of a block that has n places used. The table of its codes is lent, since a constant array is built anew at
-// each use.
-pub fn read_coefficient(
-    s: &[u8],
-    reader: Reader,
-    index: &[i16],
-    value: &[u16],
-    n: usize,
-) -> CoefficientRead
-    requires { ⌜ reader .at .0 ≤ 134217728 ⌝ }
-    requires { ⌜ length (now s) ≤ 16777216 ⌝ }
-    requires { ⌜ now index ≡ dctCoeffIndex ⌝ }
-    requires { ⌜ now value ≡ dctCoeffValue ⌝ }
-    ensures { λ r. ⌜ Runs (coefficient n) (now (s .entry)) (reader .at .0) (r .coefficient) (r .reader .at .0) ⌝ }
-    ensures { λ r. ⌜ Small (r .coefficient) × (r .reader .at .0 ≤ 134217728) ⌝ }
+// A coefficient, or the end of a block that has n places used.
+pub fn read_coefficient(s: &[u8], reader: Reader, tables: &Tables, n: usize) -> CoefficientRead
+    requires { ⌜ Inside (now s) reader ⌝ }
+    requires { ⌜ Lent (now tables) ⌝ }
+    ensures { λ r. ⌜ Reading (coefficient n) (now (s .entry)) reader (r .coefficient) (r .reader) ⌝ }
 {
-    let code = read_vlc_uint(s, reader, index, value);
+    let code = read_dct_coeff(s, reader, tables);
     let after = code.reader;
     let found = code.value;
     if found == 1 && 0 < n {

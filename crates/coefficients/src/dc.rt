@@ -2,42 +2,30 @@
 use bits::reader::Reader;
 use codes::codes::read_dct_size_chrominance;
 use codes::codes::read_dct_size_luminance;
+use codes::lent::Tables;
+use codes::walk::VlcUint;
 ghost use mathlib.Core.Path.{_≡_};
-ghost use mathlib.Core.Bool.{true};
 ghost use Prim.Native.Nat.{_≤_, _<_, _^_};
 ghost use lib.IntN.{natAbs};
-ghost use lib.ListN.{length};
-ghost use Rattle.bits.specs.Runs.{Runs};
-ghost use Rattle.coefficients.specs.Dcs.{added, dc, dcInside, dcSize};
+ghost use Rattle.bits.specs.Runs.{Inside, Reading};
+ghost use Rattle.codes.specs.Lent.{Lent};
+ghost use Rattle.coefficients.specs.Dcs.{added, dcDifference, dcInside, dcSize};
 
-pub struct Dc {
+pub struct DcDifference {
     pub reader: Reader,
     pub value: i32,
 }
 
-struct DcSize {
-    pub reader: Reader,
-    pub size: usize,
-}
-
 // How many bits the differential has.
-fn read_dc_size(s: &[u8], reader: Reader, luminance: bool) -> DcSize
-    requires { ⌜ reader .at .0 ≤ 134217728 ⌝ }
-    requires { ⌜ length (now s) ≤ 16777216 ⌝ }
-    ensures { λ r. ⌜ Runs (dcSize luminance) (now (s .entry)) (reader .at .0) (r .size) (r .reader .at .0) ⌝ }
-    ensures { λ r. ⌜ (r .size ≤ 8) × (r .reader .at .0 ≤ 134217728) ⌝ }
+fn read_dc_size(s: &[u8], reader: Reader, tables: &Tables, luminance: bool) -> VlcUint
+    requires { ⌜ Inside (now s) reader ⌝ }
+    requires { ⌜ Lent (now tables) ⌝ }
+    ensures { λ r. ⌜ Reading (dcSize luminance) (now (s .entry)) reader (r .value) (r .reader) ⌝ }
 {
-    let code = if luminance {
-        read_dct_size_luminance(s, reader)
-    } else {
-        read_dct_size_chrominance(s, reader)
-    };
-    let after = code.reader;
-    let size = code.value as usize;
-    DcSize {
-        reader: after,
-        size,
+    if luminance {
+        return read_dct_size_luminance(s, reader, tables);
     }
+    read_dct_size_chrominance(s, reader, tables)
 }
 
 // What a differential adds to the predictor. The Rust's -(1 << size) | (differential + 1) is a sum: proofs/Standard.antt.
@@ -51,27 +39,30 @@ fn added(size: usize, differential: u32) -> i32
     differential as i32 + 1 - (1 << size)
 }
 
-pub fn read_dc(s: &[u8], reader: Reader, luminance: bool, predictor: i32) -> Dc
-    requires { ⌜ reader .at .0 ≤ 134217728 ⌝ }
-    requires { ⌜ length (now s) ≤ 16777216 ⌝ }
-    requires { ⌜ dcInside predictor ≡ true ⌝ }
-    ensures { λ r. ⌜ Runs (dc luminance predictor) (now (s .entry)) (reader .at .0) (r .value) (r .reader .at .0) ⌝ }
-    ensures { λ r. ⌜ (natAbs (r .value) ≤ 511) × (r .reader .at .0 ≤ 134217728) ⌝ }
+// What the DC value adds to the predictor.
+pub fn read_dc_difference(
+    s: &[u8],
+    reader: Reader,
+    tables: &Tables,
+    luminance: bool,
+) -> DcDifference
+    requires { ⌜ Inside (now s) reader ⌝ }
+    requires { ⌜ Lent (now tables) ⌝ }
+    ensures { λ r. ⌜ Reading (dcDifference luminance) (now (s .entry)) reader (r .value) (r .reader) ⌝ }
 {
-    let code = read_dc_size(s, reader, luminance);
+    let code = read_dc_size(s, reader, tables, luminance);
     let after = code.reader;
-    let size = code.size;
+    let size = code.value as usize;
     if size == 0 {
-        return Dc {
+        return DcDifference {
             reader: after,
-            value: predictor,
+            value: 0,
         };
     }
     let read = after.read(s, size);
     let end = read.reader;
-    let difference = added(size, read.value);
-    let value = predictor + difference;
-    Dc { reader: end, value }
+    let value = added(size, read.value);
+    DcDifference { reader: end, value }
 }
 
 // Question 8.

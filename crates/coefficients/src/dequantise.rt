@@ -1,4 +1,5 @@
 // RULES 3.8, steps 1 to 6: a level becomes a coefficient.
+use crate::quantiser::Quantiser;
 ghost use mathlib.Core.Path.{_≡_};
 ghost use Prim.Native.Nat.{_≤_};
 ghost use lib.IntN.{natAbs};
@@ -51,10 +52,12 @@ fn clipped(x: i32) -> i32
 }
 
 // The coefficient before it is multiplied by the premultiplier.
-pub fn dequantise(intra: bool, level: i32, scale: u32, entry: u8) -> i32
-    requires { ⌜ (natAbs level ≤ 256) × (scale ≤ 31) ⌝ }
-    ensures { λ r. ⌜ (r ≡ dequantised intra level scale entry) × (natAbs r ≤ 2048) ⌝ }
+pub fn dequantise(q: Quantiser, level: i32, entry: u8) -> i32
+    requires { ⌜ (natAbs level ≤ 256) × (q .scale ≤ 31) ⌝ }
+    ensures { λ r. ⌜ (r ≡ dequantised q level entry) × (natAbs r ≤ 2048) ⌝ }
 {
+    let intra = q.intra;
+    let scale = q.scale;
     let product = doubled(intra, level) * scale as i32 * entry as i32;
     clipped(made_odd(product >> 4))
 }

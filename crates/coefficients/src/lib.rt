@@ -3,3 +3,4 @@ pub mod block;
 pub mod coefficient;
 pub mod dc;
 pub mod dequantise;
+pub mod quantiser;

@@ -1,4 +1,4 @@
--- RULES C.4: two streams of an I, a P and a B picture: the definitions give the bytes that the Rust gives.
+-- RULES C.4: two streams of an I, a P and a B picture, and one whose last picture is flushed: the definitions give what the Rust gives.
 use mathlib.Core.Path.{_≡_, refl}
 use mathlib.Core.List.{List, [], _∷_, _++_}
 use Prim.Native.Nat.{ℕ}
@@ -10,7 +10,7 @@ use Rattle.laws.specs.Stores.{storeRow, storeRows}
 use Rattle.laws.specs.Turns.{turns}
 use Rattle.bits.specs.Bits.{bitAt, bitsAt, got, next, codePrefix, codeFrom, found}
 use Rattle.bits.specs.Programs.{run, bind, loop, findTurn, findStartCode}
-use Rattle.codes.specs.Tables.{macroblockAddressIncrementIndex, macroblockAddressIncrementValue, macroblockTypeIntraIndex, macroblockTypeIntraValue, macroblockTypePredictiveIndex, macroblockTypePredictiveValue, macroblockTypeBIndex, macroblockTypeBValue, motionIndex, motionValue, dctSizeLuminanceIndex, dctSizeLuminanceValue, dctSizeChrominanceIndex, dctSizeChrominanceValue, dctCoeffIndex, dctCoeffValue}
+use Rattle.codes.specs.Tables as Tables
 use Rattle.codes.specs.Walk.{walkTurn, walk, vlc}
 use Rattle.codes.specs.Codes as Codes
 use Rattle.codes.specs.Matrices.{downFrom, diagonals, zigZag, intraQuantMatrix, nonIntraQuantMatrix, premultiplierMatrix, bounded}
@@ -20,11 +20,12 @@ use Rattle.motion.specs.Displacement.{corrected}
 use Rattle.coefficients.specs.Dcs as Dcs
 use Rattle.coefficients.specs.Coefficients as Coefficients
 use Rattle.coefficients.specs.Dequantise.{dequantised}
+use Rattle.coefficients.specs.Syntax as Syntax
 use Rattle.coefficients.specs.Blocks as Block
 use Rattle.transform.specs.Butterfly.{butterfly}
 use Rattle.transform.specs.Idct.{columns, rows, idct, dcOnly}
 use Rattle.prediction.specs.Samples.{sample}
-use Rattle.prediction.specs.Predict.{way, predicted}
+use Rattle.prediction.specs.Predict.{fetch, predicted}
 use Rattle.prediction.specs.Planes.{follow, next as following, predictedPlanes}
 use Rattle.prediction.specs.Writers.{setConst, overwrite, blockPlace}
 use Rattle.picture.specs.Ways.{also, leave, onward, plain}
@@ -36,13 +37,13 @@ use Rattle.picture.specs.Macroblocks.{skipReset, advance, predictUnlessIntra, b
 use Rattle.picture.specs.Slices.{extraTurn, extra, pastMacroblock, sliceTurn, slice}
 use Rattle.picture.specs.Pictures as P
 use Rattle.decoder.specs.Record.{Left, fresh, cleared}
-use Rattle.decoder.specs.Answers.{picture, outcomeSays}
+use Rattle.decoder.specs.Answers.{picture, number, outcomeSays}
 use Rattle.laws.specs.Each.{allBelow}
 use Rattle.decoder.specs.Possible.{possible}
 use Rattle.decoder.specs.Sequences.{matrix, size, rest}
 use Rattle.decoder.specs.Headers.{findSequence, accepted, askSize, askHeader, askStore}
-use Rattle.decoder.specs.Opening.{opened, opening}
-use Rattle.decoder.specs.Turns.{nextPicture, isFollowed, timeOf, counted, handed, shown, pastPicture, decoded, searched, pictureTurn}
+use Rattle.decoder.specs.Opening.{opened, openingFrom, opening}
+use Rattle.decoder.specs.Turns.{nextPicture, isFollowed, timeOf, counted, handed, shown, flushed, pastPicture, decoded, searched, pictureTurn}
 use Rattle.decoder.specs.HandOut.{pictures, ended, askFirst, begun, goOn, handOut}
 use Rattle.decoder.specs.declared.answers.Opening.{Opening}
 use Rattle.decoder.specs.declared.answers.Outcome.{Outcome}
@@ -51,17 +52,31 @@ use Rattle.decoder.specs.declared.answers.Outcome.{Outcome}
 abbrev headerBytes : List ℕ
 headerBytes = 0x00 ∷ 0x00 ∷ 0x01 ∷ 0xb3 ∷ 0x02 ∷ 0x00 ∷ 0x10 ∷ 0x13 ∷ 0x00 ∷ 0x00 ∷ 0x00 ∷ 0x00 ∷ []
 
+-- the headers of an I, a P and a B picture
+abbrev typeI : List ℕ
+typeI = 0x00 ∷ 0x00 ∷ 0x01 ∷ 0x00 ∷ 0x00 ∷ 0x08 ∷ 0xff ∷ 0xf8 ∷ []
+
+abbrev typeP : List ℕ
+typeP = 0x00 ∷ 0x00 ∷ 0x01 ∷ 0x00 ∷ 0x00 ∷ 0x17 ∷ 0xff ∷ 0xf8 ∷ 0x80 ∷ []
+
+abbrev typeB : List ℕ
+typeB = 0x00 ∷ 0x00 ∷ 0x01 ∷ 0x00 ∷ 0x00 ∷ 0x1f ∷ 0xff ∷ 0xf8 ∷ 0x88 ∷ []
+
+-- the start code of the first slice
+abbrev sliceCode : List ℕ
+sliceCode = 0x00 ∷ 0x00 ∷ 0x01 ∷ 0x01 ∷ []
+
 -- an I picture with one slice: DC 133 in the first macroblock, 128 in the second, with one more coefficient in its block 1
 abbrev intraBytes : List ℕ
-intraBytes = 0x00 ∷ 0x00 ∷ 0x01 ∷ 0x00 ∷ 0x00 ∷ 0x08 ∷ 0xff ∷ 0xf8 ∷ 0x00 ∷ 0x00 ∷ 0x01 ∷ 0x01 ∷ 0x0b ∷ 0xb6 ∷ 0x94 ∷ 0xa4 ∷ 0x45 ∷ 0xd5 ∷ 0x4d ∷ 0x4a ∷ 0x44 ∷ 0x40 ∷ []
+intraBytes = typeI ++ (sliceCode ++ (0x0b ∷ 0xb6 ∷ 0x94 ∷ 0xa4 ∷ 0x45 ∷ 0xd5 ∷ 0x4d ∷ 0x4a ∷ 0x44 ∷ 0x40 ∷ []))
 
 -- a P picture with one slice: both macroblocks copied, the second by the vector (-1, 0) in half samples
 abbrev predictiveBytes : List ℕ
-predictiveBytes = 0x00 ∷ 0x00 ∷ 0x01 ∷ 0x00 ∷ 0x00 ∷ 0x17 ∷ 0xff ∷ 0xf8 ∷ 0x80 ∷ 0x00 ∷ 0x00 ∷ 0x01 ∷ 0x01 ∷ 0x0a ∷ 0x79 ∷ 0x70 ∷ []
+predictiveBytes = typeP ++ (sliceCode ++ (0x0a ∷ 0x79 ∷ 0x70 ∷ []))
 
 -- a B picture with one slice: the first macroblock by the vectors (1, 0) forward and (0, 0) backward, the second by (-1, 0) backward
 abbrev bothWaysBytes : List ℕ
-bothWaysBytes = 0x00 ∷ 0x00 ∷ 0x01 ∷ 0x00 ∷ 0x00 ∷ 0x1f ∷ 0xff ∷ 0xf8 ∷ 0x88 ∷ 0x00 ∷ 0x00 ∷ 0x01 ∷ 0x01 ∷ 0x0b ∷ 0x2f ∷ 0x4e ∷ []
+bothWaysBytes = typeB ++ (sliceCode ++ (0x0b ∷ 0x2f ∷ 0x4e ∷ []))
 
 -- a picture that is found behind the three, and one behind it
 abbrev laterBytes : List ℕ
@@ -85,21 +100,39 @@ wideBytes = 0x00 ∷ 0x00 ∷ 0x01 ∷ 0xb3 ∷ 0x03 ∷ 0x00 ∷ 0x10 ∷ 0x13 
 
 -- an I picture: DC 133, 128 and 138
 abbrev threeBytes : List ℕ
-threeBytes = 0x00 ∷ 0x00 ∷ 0x01 ∷ 0x00 ∷ 0x00 ∷ 0x08 ∷ 0xff ∷ 0xf8 ∷ 0x00 ∷ 0x00 ∷ 0x01 ∷ 0x01 ∷ 0x0b ∷ 0xb6 ∷ 0x94 ∷ 0xa4 ∷ 0x45 ∷ 0xd5 ∷ 0x4a ∷ 0x52 ∷ 0x22 ∷ 0xf5 ∷ 0x52 ∷ 0x94 ∷ 0x88 ∷ 0x80 ∷ []
+threeBytes = typeI ++ (sliceCode ++ (0x0b ∷ 0xb6 ∷ 0x94 ∷ 0xa4 ∷ 0x45 ∷ 0xd5 ∷ 0x4a ∷ 0x52 ∷ 0x22 ∷ 0xf5 ∷ 0x52 ∷ 0x94 ∷ 0x88 ∷
+    0x80 ∷ []))
 
 -- a P picture: the first macroblock by (1, 0), the second skipped, the third by (-1, 0)
 abbrev skippingBytes : List ℕ
-skippingBytes = 0x00 ∷ 0x00 ∷ 0x01 ∷ 0x00 ∷ 0x00 ∷ 0x17 ∷ 0xff ∷ 0xf8 ∷ 0x80 ∷ 0x00 ∷ 0x00 ∷ 0x01 ∷ 0x01 ∷ 0x0a ∷ 0x55 ∷ 0x97 ∷ []
+skippingBytes = typeP ++ (sliceCode ++ (0x0a ∷ 0x55 ∷ 0x97 ∷ []))
 
 -- a B picture: the first macroblock by (1, 0) forward, the second skipped, the third by (-1, 0) backward
 abbrev skippingBothBytes : List ℕ
-skippingBothBytes = 0x00 ∷ 0x00 ∷ 0x01 ∷ 0x00 ∷ 0x00 ∷ 0x1f ∷ 0xff ∷ 0xf8 ∷ 0x88 ∷ 0x00 ∷ 0x00 ∷ 0x01 ∷ 0x01 ∷ 0x0a ∷ 0x4a ∷ 0xd3 ∷ 0x80 ∷ []
+skippingBothBytes = typeB ++ (sliceCode ++ (0x0a ∷ 0x4a ∷ 0xd3 ∷ 0x80 ∷ []))
 
 abbrev skipping : List ℕ
 skipping = wideBytes ++ (replicate 104 0xff ++ (threeBytes ++ (skippingBytes ++ (skippingBothBytes ++ (laterBytes ++ laterBytes)))))
 
 abbrev skips : Left Outcome
 skips = let x = opening skipping (replicate 3456 7) in let y = handOut (x .decoder) skipping (x .store) in handOut (y .decoder) skipping (y .store)
+
+-- 16 × 16 samples
+abbrev smallBytes : List ℕ
+smallBytes = 0x00 ∷ 0x00 ∷ 0x01 ∷ 0xb3 ∷ 0x01 ∷ 0x00 ∷ 0x10 ∷ 0x13 ∷ 0x00 ∷ 0x00 ∷ 0x00 ∷ 0x00 ∷ []
+
+-- an I picture whose only macroblock is read over a picture start code and up to the last bit
+abbrev overBytes : List ℕ
+overBytes = typeI ++ (sliceCode ++ (0x0b ∷ 0x99 ∷ 0x81 ∷ 0x00 ∷ 0x00 ∷ 0x01 ∷ 0x00 ∷ 0x80 ∷ 0x03 ∷ 0x4a ∷ 0x52 ∷ 0x22 ∷ []))
+
+abbrev flushing : List ℕ
+flushing = smallBytes ++ (replicate 104 0xff ++ overBytes)
+
+abbrev flush : Left Outcome
+flush = let x = opening flushing (replicate 1152 7) in handOut (x .decoder) flushing (x .store)
+
+abbrev behindFlush : Left Outcome
+behindFlush = handOut (flush .decoder) flushing (flush .store)
 
 -- what the hand-outs give
 pub record Pictures : Type 0 where
@@ -117,7 +150,39 @@ pub record Pictures : Type 0 where
   pub skipped-row : take 48 (drop 1152 (skips .store)) ≡ replicate 15 133 ++ (131 ∷ replicate 16 128) ++ (133 ∷ replicate 15 138)
   -- and one in a B picture does not: the last of its samples is the average of 128 and 138
   pub skipped-both-row : take 48 (drop 2304 (skips .store)) ≡ replicate 15 133 ++ (131 ∷ replicate 15 128) ++ (133 ∷ 131 ∷ 136 ∷ replicate 14 138)
+  -- RULES 8.8, 8.11: the picture that is held at the exact end is flushed, with the time shown before
+  pub flushes : outcomeSays (flush .answer) ≡ picture 0 (ofInt binary64 (pos 0))
+  -- once
+  pub flushes-once : outcomeSays (behindFlush .answer) ≡ number 7
 
 pub shown-pictures : Pictures
-unfolding clamp255 half0 odd storeRow storeRows turns bitAt bitsAt got next codePrefix codeFrom found run bind loop findTurn findStartCode macroblockAddressIncrementIndex macroblockAddressIncrementValue macroblockTypeIntraIndex macroblockTypeIntraValue macroblockTypePredictiveIndex macroblockTypePredictiveValue macroblockTypeBIndex macroblockTypeBValue motionIndex motionValue dctSizeLuminanceIndex dctSizeLuminanceValue dctSizeChrominanceIndex dctSizeChrominanceValue dctCoeffIndex dctCoeffValue walkTurn walk vlc Codes.macroblockAddressIncrement Codes.macroblockTypeIntra Codes.macroblockTypePredictive Codes.macroblockTypeB Codes.motion Codes.dctSizeLuminance Codes.dctSizeChrominance Codes.dctCoeff downFrom diagonals zigZag intraQuantMatrix nonIntraQuantMatrix premultiplierMatrix bounded displacement motionVector corrected Dcs.dcSize Dcs.added Dcs.dc Coefficients.runLevel Coefficients.coefficient dequantised Block.coefficientTurn Block.coefficients Block.block Block.intraBlock Block.leftOver butterfly columns rows idct dcOnly sample way predicted setConst overwrite also leave onward plain incrementTurn increment follow following predictedPlanes unlessRefused predictFrom predictBoth predictSkipped predict macroblockType scale vector forward backward vectors head pattern blockPlace results written blockEnd oneBlock lastBlocks blocks skipReset advance predictUnlessIntra body firstOf laterOf macroblock extraTurn extra pastMacroblock sliceTurn slice P.direction P.backwardHeader P.forwardHeader P.pictureHeader P.pastSlice P.slicesTurn P.slices P.coded P.picture fresh cleared allBelow possible matrix size rest findSequence accepted askSize askHeader askStore opened opening nextPicture isFollowed timeOf counted handed shown pastPicture decoded searched pictureTurn pictures ended askFirst begun goOn handOut ofInt pixelAspectRatio pictureRate div
-shown-pictures = record { hands = refl; intra-row = refl; predictive-row = refl; hands-next = refl; both-ways-row = refl; skipped-row = refl; skipped-both-row = refl }
+unfolding clamp255 half0 odd storeRow storeRows turns allBelow ofInt div
+    bitAt bitsAt got next codePrefix codeFrom found run bind loop findTurn findStartCode
+    Tables.macroblockAddressIncrementIndex Tables.macroblockAddressIncrementValue Tables.macroblockTypeIntraIndex Tables.macroblockTypeIntraValue
+    Tables.macroblockTypePredictiveIndex Tables.macroblockTypePredictiveValue Tables.macroblockTypeBIndex Tables.macroblockTypeBValue
+    Tables.motionIndex Tables.motionValue Tables.dctSizeLuminanceIndex Tables.dctSizeLuminanceValue Tables.dctSizeChrominanceIndex
+    Tables.dctSizeChrominanceValue Tables.dctCoeffIndex Tables.dctCoeffValue
+    walkTurn walk vlc Codes.macroblockAddressIncrement Codes.macroblockTypeIntra Codes.macroblockTypePredictive Codes.macroblockTypeB Codes.motion
+    Codes.dctSizeLuminance Codes.dctSizeChrominance Codes.dctCoeff
+    downFrom diagonals zigZag intraQuantMatrix nonIntraQuantMatrix premultiplierMatrix bounded pixelAspectRatio pictureRate
+    displacement motionVector corrected Dcs.dcSize Dcs.added Dcs.dcDifference
+    Coefficients.escapeLevel Coefficients.escape Coefficients.runLevel Coefficients.coefficient dequantised
+    Syntax.pairTurn Syntax.pairs Syntax.intraCoded Syntax.codedBlock Block.allPlaced Block.reconstructed Block.block Block.leftOver
+    butterfly columns rows idct dcOnly sample fetch predicted setConst overwrite
+    also leave onward plain incrementTurn increment follow following predictedPlanes unlessRefused predictFrom predictBoth predictSkipped predict
+    macroblockType scale vector forward backward vectors head pattern blockPlace results written blockEnd oneBlock lastBlocks blocks skipReset
+    advance predictUnlessIntra body firstOf laterOf macroblock extraTurn extra pastMacroblock sliceTurn slice P.direction P.backwardHeader
+    P.forwardHeader P.pictureHeader P.pastSlice P.slicesTurn P.slices P.coded P.picture
+    fresh cleared possible matrix size rest findSequence accepted askSize askHeader askStore opened openingFrom opening nextPicture isFollowed timeOf
+    counted handed shown flushed pastPicture decoded searched pictureTurn pictures ended askFirst begun goOn handOut
+shown-pictures = record {
+  hands = refl;
+  intra-row = refl;
+  predictive-row = refl;
+  hands-next = refl;
+  both-ways-row = refl;
+  skipped-row = refl;
+  skipped-both-row = refl;
+  flushes = refl;
+  flushes-once = refl;
+}

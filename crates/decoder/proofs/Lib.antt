@@ -1,3 +1,4 @@
+pub mod Starts
 pub mod Listing
 pub mod HeaderEdge
 pub mod Rows

@@ -17,7 +17,7 @@ use Rattle.decoder.proofs.Run.{Between, call-on, few, first, short}
 
 -- the line of an answer, and those behind it
 abbrev lines : ℕ → Outcome → Decoder → List Line → List Line
-lines n o d t = elim o [ H.Picture store time ↦ line (n + 1) store (d .picture .«picture_type») 0 ∷ t | H.Refused a ↦ line n 0 0 a ∷ [] ]
+lines n o d t = elim o [ H.Picture p ↦ line (n + 1) (p .store) (d .picture .«picture_type») 0 ∷ t | H.Refused a ↦ line n 0 0 a ∷ [] ]
 
 module _ (s : List ℕ) (most : length s ≤ 16777216) (bytes : (k : ℕ) → getD s k 0 < 256) where
   enough : (j k n : ℕ) (x : Going) → Between s x n → 8 * length s / 29 + 1 < n + j → 8 * length s / 29 + 1 < n + k
@@ -25,12 +25,13 @@ module _ (s : List ℕ) (most : length s ≤ 16777216) (bytes : (k : ℕ) → ge
   unfolding linesFrom
   enough zero k n x b p q = let f = few s most bytes b in let no : ⊥ = omega arith in absurd no
   enough (suc j) zero n x b p q = let f = few s most bytes b in let no : ⊥ = omega arith in absurd no
-  enough (suc j) (suc k) n x b p q = go (call s x .answer) (call s x .decoder) (call s x .store) (call-on s most bytes b) (λ y c. enough j k (n + 1) y c (omega arith) (omega arith))
+  enough (suc j) (suc k) n x b p q =
+      go (call s x .answer) (call s x .decoder) (call s x .store) (call-on s most bytes b) (λ y c. enough j k (n + 1) y c (omega arith) (omega arith))
     where
       go : (o : Outcome) (d : Decoder) (l : List ℕ) → Between s (going d l) (n + pictureIn o)
           → ((y : Going) → Between s y (n + 1) → linesFrom j s (n + 1) (y .decoder) (y .store) ≡ linesFrom k s (n + 1) (y .decoder) (y .store))
           → lines n o d (linesFrom j s (n + 1) d l) ≡ lines n o d (linesFrom k s (n + 1) d l)
-      go (H.Picture store time) d l c r = ap (lines n (H.Picture store time) d) (r (going d l) c)
+      go (H.Picture i) d l c r = ap (lines n (H.Picture i) d) (r (going d l) c)
       go (H.Refused a) d l c r = refl
 
 -- more fuel changes nothing

@@ -17,7 +17,7 @@ use Rattle.laws.specs.Each.{allBelow}
 use Rattle.decoder.specs.Possible.{possible}
 use Rattle.decoder.specs.Sequences.{matrix, size, rest}
 use Rattle.decoder.specs.Headers.{findSequence, accepted, askSize, askHeader, askStore}
-use Rattle.decoder.specs.Opening.{opened, opening}
+use Rattle.decoder.specs.Opening.{opened, openingFrom, opening}
 use Rattle.decoder.specs.Turns.{nextPicture, isFollowed, timeOf, counted, handed, shown, pastPicture, decoded, searched, pictureTurn}
 use Rattle.decoder.specs.HandOut.{pictures, ended, askFirst, begun, goOn, handOut}
 use Rattle.decoder.specs.Listing.{line, linesFrom, linesOf, listing}
@@ -56,5 +56,9 @@ pub record Listed : Type 0 where
   pub lines : listing example ≡ line 1 0 1 0 ∷ line 1 0 0 7 ∷ []
 
 pub listed : Listed
-unfolding bitAt bitsAt got next codePrefix codeFrom found run bind loop findTurn findStartCode fresh matrix size rest findSequence accepted askSize askHeader askStore opened opening cleared turns intraQuantMatrix nonIntraQuantMatrix premultiplierMatrix bounded leave onward P.pictureHeader P.coded P.slicesTurn P.slices P.picture allBelow possible nextPicture isFollowed timeOf counted handed shown pastPicture decoded searched pictureTurn pictures ended askFirst begun goOn handOut ofInt linesFrom linesOf listing
+unfolding turns allBelow ofInt bitAt bitsAt got next codePrefix codeFrom found run bind loop findTurn findStartCode
+    intraQuantMatrix nonIntraQuantMatrix premultiplierMatrix bounded leave onward P.pictureHeader P.coded P.slicesTurn P.slices P.picture
+    fresh cleared possible matrix size rest findSequence accepted askSize askHeader askStore opened openingFrom opening
+    nextPicture isFollowed timeOf counted handed shown pastPicture decoded searched pictureTurn pictures ended askFirst begun goOn handOut linesFrom
+    linesOf listing
 listed = record { opens = refl; clears = refl; hands = refl; ends = refl; lines = refl }

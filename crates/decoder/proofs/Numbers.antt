@@ -1,6 +1,6 @@
 -- RULES D1.3, D1.5, QC, QG: the numbers that each call can answer, and what record and memory are after each.
 use mathlib.Core.Path.{_≡_, refl, sym, subst, _∙_}
-use mathlib.Core.Bool.{Bool, true, false, cond, not, or-true, _&&_, _||_}
+use mathlib.Core.Bool.{Bool, true, false, not, or-true, false≢true, _&&_, _||_}
 use mathlib.Core.List.{List, [], _∷_}
 use mathlib.Core.Logic.{inl, inr}
 use Prim.Native.Nat.{ℕ}
@@ -22,9 +22,9 @@ use Rattle.decoder.specs.declared.answers.Converted.{Converted}
 use Rattle.decoder.specs.declared.answers.Converted.the-variants as C
 use Rattle.decoder.specs.Record.{Left, left, fresh, place, startCode, stopAs, storeBytes}
 use Rattle.picture.specs.Possible.{possiblePicture}
-use Rattle.decoder.specs.Possible.{possibleSequence, possible}
+use Rattle.decoder.specs.Possible.{possibleSequence, possible, possibleWith}
 use Rattle.decoder.specs.Headers.{Asked, refused, passed, findSequence, askSize, askHeader, askStore}
-use Rattle.decoder.specs.Opening.{opened, opening}
+use Rattle.decoder.specs.Opening.{opened, openingFrom, opening}
 use Rattle.decoder.specs.Turns.{Ended, gave, stopped}
 use Rattle.decoder.specs.HandOut.{pictures, ended, askFirst, begun, goOn, handOut}
 use Rattle.decoder.specs.Conversion.{Area, area, fits, converted}
@@ -44,7 +44,7 @@ not-true true h = sym h
 not-true false h = refl
 
 never : {A : Type 0} → false ≡ true → A
-never {A} h = absurd (subst (λ (b : Bool). cond b ⊥ (Unit {0})) h tt)
+never h = absurd (false≢true h)
 
 -- what holds after a hand-out that d, l were given to, and that answered the number n and left x, m
 pub record Refusal (d : Decoder) (l : List ℕ) (n : ℕ) (x : Decoder) (m : List ℕ) : Type 0 where
@@ -54,7 +54,7 @@ pub record Refusal (d : Decoder) (l : List ℕ) (n : ℕ) (x : Decoder) (m : Lis
   pub mark : among n (8 ∷ 9 ∷ []) ≡ true → x ≡ stopAs n d
 
 abbrev Row : Decoder → List ℕ → Outcome → Decoder → List ℕ → Type 0
-Row d l (H.Picture k t) x m = Unit {0}
+Row d l (H.Picture i) x m = Unit {0}
 Row d l (H.Refused n) x m = Refusal d l n x m
 
 -- the questions 3 to 6
@@ -73,12 +73,14 @@ unfolding askHeader askSize among
 header-row s d =
     by-case (AskRow d) (eqZ (startCode (findSequence s d)) (negsuc 0)) (λ e. record { named = refl; nine = refl; same = λ h. never h; low = refl }) (λ e.
     by-case (AskRow d) (not (has s (place (findSequence s d)) 1088)) (λ e. record { named = refl; nine = refl; same = λ h. never h; low = refl }) (λ e.
-    by-case (AskRow d) (eqb (withSize s d .sequence .width) 0 || eqb (withSize s d .sequence .height) 0) (λ e. record { named = refl; nine = refl; same = λ h. never h; low = refl }) (λ e. tt)))
+    by-case (AskRow d) (eqb (withSize s d .sequence .width) 0 || eqb (withSize s d .sequence .height) 0)
+    (λ e. record { named = refl; nine = refl; same = λ h. never h; low = refl }) (λ e. tt)))
 
 store-row : (d : Decoder) (l : List ℕ) (a : Asked) → AskRow d a → AskRow d (askStore d l a)
 unfolding askStore among
 store-row d l (refused n x) h = h
-store-row d l (passed x) h = by-case (AskRow d) (leb (storeBytes x) (length l)) (λ e. tt) (λ e. record { named = refl; nine = refl; same = λ h. refl; low = refl })
+store-row d l (passed x) h =
+    by-case (AskRow d) (leb (storeBytes x) (length l)) (λ e. tt) (λ e. record { named = refl; nine = refl; same = λ h. refl; low = refl })
 
 first-row : (s : List ℕ) (d : Decoder) (l : List ℕ) → AskRow d (askFirst s d l)
 unfolding askFirst
@@ -102,7 +104,7 @@ LeftRow d l r = Row d l (r .answer) (r .decoder) (r .store)
 
 ended-row : (P : Decoder → List ℕ → Type 0) (d : Decoder) (l : List ℕ) (e : Ended) → End P e → LeftRow d l (ended d e)
 unfolding ended
-ended-row P d l (gave (H.Picture k t) x m) h = tt
+ended-row P d l (gave (H.Picture i) x m) h = tt
 ended-row P d l (gave (H.Refused n) x m) h = subst (λ (k : ℕ). Refusal d l k x m) (sym (h .0)) seven
 ended-row P d l (stopped n m) (inl h) = subst (λ (k : ℕ). Refusal d l k (stopAs k d) m) (sym h) eight
 ended-row P d l (stopped n m) (inr h) = subst (λ (k : ℕ). Refusal d l k (stopAs k d) m) (sym h) nine
@@ -117,7 +119,8 @@ and-last true y h = h
 and-last false y h = never h
 
 -- RULES QA: a stop mark other than 0 is 8 or 9
-marks : (n : ℕ) → (eqb n 0 || eqb n 8 || eqb n 9) ≡ true → eqb n 0 ≡ false → among n (1 ∷ 2 ∷ 3 ∷ 4 ∷ 5 ∷ 6 ∷ 7 ∷ 8 ∷ 9 ∷ []) ≡ true
+marks : (n : ℕ) → (eqb n 0 || eqb n 8 || eqb n 9) ≡ true → eqb n 0 ≡ false
+    → among n (1 ∷ 2 ∷ 3 ∷ 4 ∷ 5 ∷ 6 ∷ 7 ∷ 8 ∷ 9 ∷ []) ≡ true
 unfolding among
 marks n h z = go (eqb n 8) (eqb n 9) refl refl (rw z at h)
   where
@@ -140,11 +143,13 @@ hand-row : (d : Decoder) (s l : List ℕ) → LeftRow d l (handOut d s l)
 unfolding handOut among
 hand-row d s l =
     by-case (LeftRow d l) (not (leb (length s) 16777216)) (λ e. record { named = refl; store = λ k. refl; same = λ k. refl; mark = λ k. never k }) (λ e.
-    by-case (LeftRow d l) (not (possible d)) (λ e. record { named = refl; store = λ k. refl; same = λ k. refl; mark = λ k. never k }) (λ e.
-    by-case (LeftRow d l) (not (eqb (d .stop) 0)) (λ f. mark-row d l (not-false (possible d) e) (not-true (eqb (d .stop) 0) f)) (λ f. go-row s d l _ (first-row s d l))))
+    by-case (LeftRow d l) (not (possibleWith s d)) (λ e. record { named = refl; store = λ k. refl; same = λ k. refl; mark = λ k. never k }) (λ e.
+    by-case (LeftRow d l) (not (eqb (d .stop) 0)) (λ f. mark-row d l (not-false (possibleWith s d) e) (not-true (eqb (d .stop) 0) f))
+    (λ f. go-row s d l _ (first-row s d l))))
 
 -- RULES D1.3, QC, QG: the numbers of a hand-out, and what it leaves after each
-pub hand-number : (d : Decoder) (s l : List ℕ) (n : ℕ) → handOut d s l .answer ≡ H.Refused n → Refusal d l n (handOut d s l .decoder) (handOut d s l .store)
+pub hand-number : (d : Decoder) (s l : List ℕ) (n : ℕ) → handOut d s l .answer ≡ H.Refused n
+    → Refusal d l n (handOut d s l .decoder) (handOut d s l .store)
 hand-number d s l n e = subst (λ (o : Outcome). Row d l o (handOut d s l .decoder) (handOut d s l .store)) e (hand-row d s l)
 
 or-more : (x y z : Bool) → (x || z) ≡ true → (x || (y || z)) ≡ true
@@ -152,38 +157,51 @@ or-more true y z h = refl
 or-more false true z h = refl
 or-more false false z h = h
 
--- what holds after an opening that answered the number n and left x, m
-pub record OpeningRefusal (l : List ℕ) (n : ℕ) (x : Decoder) (m : List ℕ) : Type 0 where
+-- what holds after an opening that began with d, l, and that answered the number n and left x, m
+pub record OpeningRefusal (d : Decoder) (l : List ℕ) (n : ℕ) (x : Decoder) (m : List ℕ) : Type 0 where
   pub named : among n (1 ∷ 3 ∷ 4 ∷ 5 ∷ 6 ∷ []) ≡ true
   pub store : m ≡ l
-  pub same : among n (1 ∷ 6 ∷ []) ≡ true → x ≡ fresh
+  pub same : among n (1 ∷ 6 ∷ []) ≡ true → x ≡ d
 
-abbrev OpeningRow : List ℕ → Left Opening → Type 0
-OpeningRow l r = elim (r .answer) [ O.Ready ↦ Unit {0} | O.Refused n ↦ OpeningRefusal l n (r .decoder) (r .store) ]
+abbrev OpeningRow : Decoder → List ℕ → Opening → Decoder → List ℕ → Type 0
+OpeningRow d l o x m = elim o [ O.Ready ↦ Unit {0} | O.Refused n ↦ OpeningRefusal d l n x m ]
 
-opened-row : (l : List ℕ) (a : Asked) → AskRow fresh a → OpeningRow l (opened l a)
+abbrev OpenedRow : Decoder → List ℕ → Left Opening → Type 0
+OpenedRow d l r = OpeningRow d l (r .answer) (r .decoder) (r .store)
+
+opened-row : (d : Decoder) (l : List ℕ) (a : Asked) → AskRow d a → OpenedRow d l (opened l a)
 unfolding opened among
-opened-row l (refused n x) h = record { named = rw (h .named) (or-true (eqb n 1)); store = refl; same = λ k. h .same (or-more (eqb n 1) (eqb n 2) (eqb n 6 || false) k) }
-opened-row l (passed x) h = tt
+opened-row d l (refused n x) h = record {
+  named = rw (h .named) (or-true (eqb n 1));
+  store = refl;
+  same = λ k. h .same (or-more (eqb n 1) (eqb n 2) (eqb n 6 || false) k);
+}
+opened-row d l (passed x) h = tt
 
-opening-row : (s l : List ℕ) → OpeningRow l (opening s l)
+from-row : (d : Decoder) (s l : List ℕ) → OpenedRow d l (openingFrom d s l)
+unfolding openingFrom
+from-row d s l = opened-row d l _ (store-row d l _ (header-row s d))
+
+opening-row : (s l : List ℕ) → OpenedRow fresh l (opening s l)
 unfolding opening among
 opening-row s l =
-    by-case (OpeningRow l) (leb (length s) 16777216) (λ e. opened-row l _ (store-row fresh l _ (header-row s fresh)))
-    (λ e. record { named = refl; store = refl; same = λ k. refl })
+    by-case (OpenedRow fresh l) (leb (length s) 16777216) (λ e. from-row fresh s l) (λ e. record { named = refl; store = refl; same = λ k. refl })
 
 -- RULES D1.3, QC, QG: the same of opening
-pub opening-number : (s l : List ℕ) (n : ℕ) → opening s l .answer ≡ O.Refused n → OpeningRefusal l n (opening s l .decoder) (opening s l .store)
-opening-number s l n e =
-    subst (λ (o : Opening). elim o as (λ x. Type 0) [ O.Ready ↦ Unit {0} | O.Refused k ↦ OpeningRefusal l k (opening s l .decoder) (opening s l .store) ]) e (opening-row s l)
+pub opening-number : (s l : List ℕ) (n : ℕ) → opening s l .answer ≡ O.Refused n
+    → OpeningRefusal fresh l n (opening s l .decoder) (opening s l .store)
+opening-number s l n e = subst (λ (o : Opening). OpeningRow fresh l o (opening s l .decoder) (opening s l .store)) e (opening-row s l)
 
 -- what holds after a conversion that answered the number n and left the area b
 pub record ConversionRefusal (a : List ℕ) (n : ℕ) (b : List ℕ) : Type 0 where
   pub named : among n (2 ∷ 6 ∷ 10 ∷ 11 ∷ []) ≡ true
   pub area : b ≡ a
 
+abbrev ConvertedRow : List ℕ → Converted → List ℕ → Type 0
+ConvertedRow a o b = elim o [ C.Written ↦ Unit {0} | C.Refused n ↦ ConversionRefusal a n b ]
+
 abbrev AreaRow : List ℕ → Area → Type 0
-AreaRow a r = elim (r .answer) [ C.Written ↦ Unit {0} | C.Refused n ↦ ConversionRefusal a n (r .area) ]
+AreaRow a r = ConvertedRow a (r .answer) (r .area)
 
 area-row : (d : Decoder) (l : List ℕ) (k : ℕ) (a : List ℕ) (w h : ℕ) → AreaRow a (converted d l k a w h)
 unfolding converted among
@@ -194,6 +212,6 @@ area-row d l k a w h =
     by-case (AreaRow a) (not (fits w h a)) (λ e. record { named = refl; area = refl }) (λ e. tt))))
 
 -- RULES D1.3, QC: the same of the conversion, which has no record and no store to change
-pub conversion-number : (d : Decoder) (l : List ℕ) (k : ℕ) (a : List ℕ) (w h n : ℕ) → converted d l k a w h .answer ≡ C.Refused n → ConversionRefusal a n (converted d l k a w h .area)
-conversion-number d l k a w h n e =
-    subst (λ (o : Converted). elim o as (λ x. Type 0) [ C.Written ↦ Unit {0} | C.Refused m ↦ ConversionRefusal a m (converted d l k a w h .area) ]) e (area-row d l k a w h)
+pub conversion-number : (d : Decoder) (l : List ℕ) (k : ℕ) (a : List ℕ) (w h n : ℕ) → converted d l k a w h .answer ≡ C.Refused n
+    → ConversionRefusal a n (converted d l k a w h .area)
+conversion-number d l k a w h n e = subst (λ (o : Converted). ConvertedRow a o (converted d l k a w h .area)) e (area-row d l k a w h)

@@ -14,15 +14,15 @@ use Rattle.decoder.specs.declared.answers.Opening.the-variants as O
 use Rattle.decoder.specs.declared.answers.Outcome.{Outcome}
 use Rattle.decoder.specs.declared.answers.Outcome.the-variants as H
 use Rattle.decoder.specs.Record.{Left, left, place, stopAs, storeBytes, cleared}
-use Rattle.decoder.specs.Possible.{possible}
+use Rattle.decoder.specs.Possible.{possible, possibleWith}
 use Rattle.decoder.specs.Headers.{refused, passed, askHeader, askStore}
 use Rattle.decoder.specs.Opening.{opening}
 use Rattle.decoder.specs.Turns.{Going, going, Ended, gave, stopped, pictureTurn}
 use Rattle.decoder.specs.HandOut.{pictures, ended, askFirst, begun, handOut}
 use Rattle.decoder.specs.Run.{call, behind, begin, before, answer, pictureIn, handedOut}
-use Rattle.decoder.proofs.Rows.{hand-mark, hand-passed}
+use Rattle.decoder.proofs.Rows.{Begins, hand-mark, hand-passed}
 use Rattle.decoder.proofs.RunOpened.{ready-keeps}
-use Rattle.decoder.proofs.Seven.{numberOf, not-seven}
+use Rattle.decoder.proofs.Seven.{numberOf, not-picture, not-seven}
 use Rattle.decoder.proofs.RunTurns.{Keeps, Stuck, Ends, hands, flushes, seven, stops, pictures-row}
 
 -- ---- question 2
@@ -30,12 +30,14 @@ use Rattle.decoder.proofs.RunTurns.{Keeps, Stuck, Ends, hands, flushes,
 all-true : {a b c d e : Bool} → a ≡ true → b ≡ true → c ≡ true → d ≡ true → e ≡ true → (a && b && c && d && e) ≡ true
 all-true p q r t u = rw (p, q, r, t, u)
 
-keeps-possible : {s : List ℕ} {d : Decoder} {l : List ℕ} → length s ≤ 16777216 → Keeps s d l → possible d ≡ true
+keeps-possible : {s : List ℕ} {d : Decoder} {l : List ℕ} → length s ≤ 16777216 → Keeps s d l → possibleWith s d ≡ true
 unfolding possible
 keeps-possible {s} {d} {l} h k =
-    all-true (le-leb (place d) 134217728 (omega arith)) (k .sequence) (k .picture) (le-leb (d .«frames_decoded») 134217728 (omega arith)) (rw (k .mark) refl)
+    all-true (le-leb (place d) 134217728 (omega arith)) (k .sequence) (k .picture) (le-leb (d .«frames_decoded») 134217728 (omega arith))
+    (rw (k .mark) refl)
 
-marked-possible : {s : List ℕ} {d : Decoder} {l : List ℕ} (n : ℕ) → length s ≤ 16777216 → Keeps s d l → (n ≡ 8) ⊎ (n ≡ 9) → possible (stopAs n d) ≡ true
+marked-possible : {s : List ℕ} {d : Decoder} {l : List ℕ} (n : ℕ) → length s ≤ 16777216 → Keeps s d l → (n ≡ 8) ⊎ (n ≡ 9)
+    → possibleWith s (stopAs n d) ≡ true
 unfolding possible
 marked-possible {s} {d} {l} n h k m =
     all-true (le-leb (place d) 134217728 (omega arith)) (k .sequence) (k .picture) (le-leb (d .«frames_decoded») 134217728 (omega arith))
@@ -57,14 +59,15 @@ module _ (s : List ℕ) (short : length s ≤ 16777216) where
 
   keeps-call : (d : Decoder) (l : List ℕ) → Keeps s d l → handOut d s l ≡ ended d (pictures s (going d l))
   keeps-call d l k =
-      hand-passed l (record { short = le-leb (length s) 16777216 short; possible = keeps-possible short k; mark = eq-eqb (d .stop) 0 (k .mark) }) (keeps-asks d l k)
-      ∙ ap (λ (x : Going). ended d (pictures s x)) (keeps-begun d l k)
+      let b : Begins d s = record { short = le-leb (length s) 16777216 short; possible = keeps-possible short k; mark = eq-eqb (d .stop) 0 (k .mark) } in
+      hand-passed l b (keeps-asks d l k) ∙ ap (λ (x : Going). ended d (pictures s x)) (keeps-begun d l k)
 
   stuck-call : (d : Decoder) (l : List ℕ) → Keeps s d l → Stuck s d l → handOut d s l ≡ left (H.Refused 7) d l
   unfolding ended pictures
   stuck-call d l k t = keeps-call d l k ∙ ap (ended d) (turns-stop (pictureTurn s) 1 _ (going d l) (gave (H.Refused 7) d l) t)
 
-  marked-call : (d : Decoder) (l : List ℕ) → possible d ≡ true → (d .stop ≡ 8) ⊎ (d .stop ≡ 9) → handOut d s l ≡ left (H.Refused (d .stop)) d l
+  marked-call : (d : Decoder) (l : List ℕ) → possibleWith s d ≡ true → (d .stop ≡ 8) ⊎ (d .stop ≡ 9)
+      → handOut d s l ≡ left (H.Refused (d .stop)) d l
   marked-call d l p m =
       hand-mark d s l (le-leb (length s) 16777216 short) p (⊎-elim (λ (e : d .stop ≡ 8). rw e refl) (λ (e : d .stop ≡ 9). rw e refl) m)
 
@@ -74,7 +77,7 @@ module _ (s : List ℕ) (short : length s ≤ 16777216) where
 pub data Between (s : List ℕ) (x : Going) (n : ℕ) : Type 0 where
   live : Keeps s (x .decoder) (x .store) → n ≡ x .decoder .«frames_decoded» → Between s x n
   stuck : Keeps s (x .decoder) (x .store) → Stuck s (x .decoder) (x .store) → n ≤ x .decoder .«frames_decoded» + 1 → Between s x n
-  marked : possible (x .decoder) ≡ true → (x .decoder .stop ≡ 8) ⊎ (x .decoder .stop ≡ 9) → 29 * n ≤ length s * 8 + 29 → Between s x n
+  marked : possibleWith s (x .decoder) ≡ true → (x .decoder .stop ≡ 8) ⊎ (x .decoder .stop ≡ 9) → 29 * n ≤ length s * 8 + 29 → Between s x n
 
 abbrev Resting : List ℕ → Going → Type 0
 Resting s x = Keeps s (x .decoder) (x .store) × Stuck s (x .decoder) (x .store)
@@ -83,13 +86,15 @@ module _ (s : List ℕ) (short : length s ≤ 16777216) (bytes : (k : ℕ) → g
   ended-on : (d : Decoder) (l : List ℕ) (n : ℕ) (e : Ended) → Keeps s d l → n ≡ d .«frames_decoded» → Ends s (d .«frames_decoded») e
       → Between s (behind (ended d e)) (n + pictureIn (ended d e .answer))
   unfolding ended
-  ended-on d l n (gave (H.Picture i t) x m) k q (hands j e) = live j (omega arith)
-  ended-on d l n (gave (H.Picture i t) x m) k q (flushes j e u) = stuck j u (omega arith)
+  ended-on d l n (gave (H.Picture i) x m) k q (hands j e) = live j (omega arith)
+  ended-on d l n (gave (H.Picture i) x m) k q (flushes j e u) = stuck j u (omega arith)
   ended-on d l n (gave (H.Refused i) x m) k q (seven j e u) = stuck j u (omega arith)
   ended-on d l n (stopped i m) k q (stops e) = marked (marked-possible i short k e) e (omega arith)
 
   pub call-on : {x : Going} {n : ℕ} → Between s x n → Between s (behind (call s x)) (n + pictureIn (call s x .answer))
-  call-on {x} {n} (live k q) = rw (keeps-call s short (x .decoder) (x .store) k) (ended-on (x .decoder) (x .store) n _ k q (pictures-row s short bytes (x .decoder) (x .store) k))
+  call-on {x} {n} (live k q) =
+      rw (keeps-call s short (x .decoder) (x .store) k)
+      (ended-on (x .decoder) (x .store) n _ k q (pictures-row s short bytes (x .decoder) (x .store) k))
   call-on {x} {n} (stuck k t q) = rw (stuck-call s short (x .decoder) (x .store) k t) (stuck k t (omega arith))
   call-on {x} {n} (marked p m q) = rw (marked-call s short (x .decoder) (x .store) p m) (marked p m (omega arith))
 
@@ -105,7 +110,7 @@ module _ (s : List ℕ) (short : length s ≤ 16777216) (bytes : (k : ℕ) → g
   few (marked p m q) = omega arith
 
   -- R.3
-  admitted : {x : Going} {n : ℕ} → Between s x n → possible (x .decoder) ≡ true
+  admitted : {x : Going} {n : ℕ} → Between s x n → possibleWith s (x .decoder) ≡ true
   admitted (live k q) = keeps-possible short k
   admitted (stuck k t q) = keeps-possible short k
   admitted (marked p m q) = p
@@ -113,7 +118,7 @@ module _ (s : List ℕ) (short : length s ≤ 16777216) (bytes : (k : ℕ) → g
   -- R.2: a call that answers 7 leaves a record and a store at which every call answers 7
   ended-seven : (d : Decoder) (n : ℕ) (e : Ended) → Ends s n e → ended d e .answer ≡ H.Refused 7 → Resting s (behind (ended d e))
   unfolding ended
-  ended-seven d n (gave (H.Picture i t) x m) r h = let z : _≡_ {A = ℕ} 0 7 = ap numberOf h in let no : ⊥ = omega arith in absurd no
+  ended-seven d n (gave (H.Picture i) x m) r h = not-picture h
   ended-seven d n (gave (H.Refused i) x m) (seven j e u) h = (j, u)
   ended-seven d n (stopped i m) (stops e) h = not-seven e (ap numberOf h)
 
@@ -124,7 +129,8 @@ module _ (s : List ℕ) (short : length s ≤ 16777216) (bytes : (k : ℕ) → g
   seven-rests {x} (stuck k t q) =
       subst (λ (r : Left Outcome). r .answer ≡ H.Refused 7 → Resting s (behind r)) (sym (stuck-call s short (x .decoder) (x .store) k t)) (λ h. (k, t))
   seven-rests {x} (marked p m q) =
-      subst (λ (r : Left Outcome). r .answer ≡ H.Refused 7 → Resting s (behind r)) (sym (marked-call s short (x .decoder) (x .store) p m)) (λ h. not-seven m (ap numberOf h))
+      subst (λ (r : Left Outcome). r .answer ≡ H.Refused 7 → Resting s (behind r)) (sym (marked-call s short (x .decoder) (x .store) p m))
+      (λ h. not-seven m (ap numberOf h))
 
   rests-on : (x : Going) (n k : ℕ) → Resting s (before s x n) → Resting s (before s x (n + k))
   unfolding before
@@ -162,5 +168,5 @@ module _ (s l : List ℕ) (bytes : (k : ℕ) → getD s k 0 < 256) (ready : open
   seven-for-good n k h = seven-stays s short bytes (begin s l) n k first h
 
   -- R.3
-  pub always-possible : (n : ℕ) → possible (before s (begin s l) n .decoder) ≡ true
+  pub always-possible : (n : ℕ) → possibleWith s (before s (begin s l) n .decoder) ≡ true
   always-possible n = admitted s short bytes (run-on s short bytes first n)

@@ -7,7 +7,6 @@ use Prim.Native.Nat.{ℕ, _+_, _*_, _≤_, _<_}
 use native.Mathlib.Omega.{arith}
 use lib.Dec.{eqb, leb}
 use lib.IntN.{ℤ, pos, negsuc, negℤ}
-use lib.Ieee.{Float}
 use lib.ListN.{length, getD}
 use borrow.Author.Tests.{eqb-true, leb-true}
 use Rattle.laws.specs.Turns.{Turn, again, stop, turns}
@@ -26,10 +25,12 @@ use Rattle.picture.proofs.Kept as Kept
 use Rattle.picture.proofs.Places.{Ahead, picture-past, picture-ahead}
 use Rattle.decoder.specs.declared.record.Sequence.{Sequence}
 use Rattle.decoder.specs.declared.record.Decoder.{Decoder}
+use Rattle.decoder.specs.declared.answers.Shown.{Shown}
 use Rattle.decoder.specs.declared.answers.Outcome.the-variants as H
 use Rattle.decoder.specs.Record.{place, startCode, placeAs, pictureAs, heldAs, searchedAs, storeBytes}
 use Rattle.decoder.specs.Possible.{across, sizesOf, sameSizes, possibleSequence}
-use Rattle.decoder.specs.Turns.{Going, going, Ended, gave, stopped, nextPicture, hasEnded, isFollowed, isReference, counted, handed, shown, flushed, pastPicture, decoded, searched, pictureTurn}
+use Rattle.decoder.specs.Turns.{Going, going, Ended, gave, stopped, nextPicture, hasEnded, isFollowed, isReference}
+use Rattle.decoder.specs.Turns.{counted, handed, shown, flushed, pastPicture, decoded, searched, pictureTurn}
 use Rattle.decoder.specs.HandOut.{pictures}
 use Rattle.decoder.proofs.Searches.{Barren, Sought, hit, miss, sought, still-barren, eqZ-is}
 use Rattle.decoder.proofs.TwoTurns.{Holds, isStop, goes-held, held-stops}
@@ -100,8 +101,8 @@ last-stuck s d l c f = rw (next-has s d c) (rw c (rw f refl))
 
 -- a turn or a call that began with n pictures handed out
 pub data Ends (s : List ℕ) (n : ℕ) : Ended → Type 0 where
-  hands : {k : ℕ} {t : Float} {x : Decoder} {m : List ℕ} → Keeps s x m → x .«frames_decoded» ≡ n + 1 → Ends s n (gave (H.Picture k t) x m)
-  flushes : {k : ℕ} {t : Float} {x : Decoder} {m : List ℕ} → Keeps s x m → x .«frames_decoded» ≡ n → Stuck s x m → Ends s n (gave (H.Picture k t) x m)
+  hands : {i : Shown} {x : Decoder} {m : List ℕ} → Keeps s x m → x .«frames_decoded» ≡ n + 1 → Ends s n (gave (H.Picture i) x m)
+  flushes : {i : Shown} {x : Decoder} {m : List ℕ} → Keeps s x m → x .«frames_decoded» ≡ n → Stuck s x m → Ends s n (gave (H.Picture i) x m)
   seven : {x : Decoder} {m : List ℕ} → Keeps s x m → x .«frames_decoded» ≡ n → Stuck s x m → Ends s n (gave (H.Refused 7) x m)
   stops : {k : ℕ} {m : List ℕ} → (k ≡ 8) ⊎ (k ≡ 9) → Ends s n (stopped k m)
 
@@ -109,18 +110,63 @@ data Turns (s : List ℕ) (n : ℕ) : Turn Going Ended → Type 0 where
   goes : {y : Going} → Keeps s (y .decoder) (y .store) → y .decoder .«frames_decoded» ≡ n → Turns s n (again y)
   ends : {e : Ended} → Ends s n e → Turns s n (stop e)
 
+-- ---- changes of a record that keep it
+
+-- another start code, within -1..255
+code-possible : (c : ℤ) (p : Picture) → between (negℤ (pos 1)) (pos 255) c ≡ true → possiblePicture p ≡ true
+    → possiblePicture (startCodeAs c p) ≡ true
+code-possible c p h k =
+    let x = picture-of p k in
+    picture-by {p = startCodeAs c p} (record { type = x .type; code = h; stores = x .stores; slice = x .slice })
+
+module _ {s : List ℕ} {d : Decoder} {l : List ℕ} (k : Keeps s d l) where
+  keeps-held : (b : Bool) → Keeps s (heldAs b d) l
+  keeps-held b = record {
+    header = k .header;
+    sequence = k .sequence;
+    picture = k .picture;
+    mark = k .mark;
+    long = k .long;
+    inside = k .inside;
+    ahead = k .ahead;
+    count = k .count;
+  }
+
+  keeps-counted : 29 * d .«frames_decoded» + 29 ≤ place d → Keeps s (counted d) l
+  unfolding counted
+  keeps-counted h = record {
+    header = k .header;
+    sequence = k .sequence;
+    picture = k .picture;
+    mark = k .mark;
+    long = k .long;
+    inside = k .inside;
+    ahead = k .ahead;
+    count = omega arith;
+  }
+
+  keeps-searched : (c : ℤ) (e : ℕ) → between (negℤ (pos 1)) (pos 255) c ≡ true → place d ≤ e → e ≤ length s * 8
+      → (c ≡ pos 0 → e < length s * 8)
+      → Keeps s (searchedAs c e d) l
+  keeps-searched c e h f m a = record {
+    header = k .header;
+    sequence = k .sequence;
+    picture = code-possible c (d .picture) h (k .picture);
+    mark = k .mark;
+    long = k .long;
+    inside = m;
+    ahead = a;
+    count = omega (arith, k .count);
+  }
+
 -- RULES 8.5: behind a picture, which has taken 29 bits
-shown-row : (s : List ℕ) (d : Decoder) (l : List ℕ) → Keeps s d l → 29 * d .«frames_decoded» + 29 ≤ place d → Turns s (d .«frames_decoded») (shown d l)
+shown-row : (s : List ℕ) (d : Decoder) (l : List ℕ) → Keeps s d l → 29 * d .«frames_decoded» + 29 ≤ place d
+    → Turns s (d .«frames_decoded») (shown d l)
 unfolding shown handed counted
 shown-row s d l k h =
-    by-case (Turns s (d .«frames_decoded»)) (eqb (d .picture .«picture_type») 3) (λ e. ends (hands more refl))
-    (λ e. by-case (Turns s (d .«frames_decoded»)) (d .«has_reference_frame») (λ e. ends (hands more refl)) (λ e. goes holds refl))
-  where
-    holds : Keeps s (heldAs true d) l
-    holds = record { header = k .header; sequence = k .sequence; picture = k .picture; mark = k .mark; long = k .long; inside = k .inside; ahead = k .ahead; count = k .count }
-
-    more : Keeps s (counted d) l
-    more = record { header = k .header; sequence = k .sequence; picture = k .picture; mark = k .mark; long = k .long; inside = k .inside; ahead = k .ahead; count = omega arith }
+    by-case (Turns s (d .«frames_decoded»)) (eqb (d .picture .«picture_type») 3) (λ e. ends (hands (keeps-counted k h) refl))
+    (λ e. by-case (Turns s (d .«frames_decoded»)) (d .«has_reference_frame»)
+    (λ e. ends (hands (keeps-counted k h) refl)) (λ e. goes (keeps-held k true) refl))
 
 -- ---- the sizes of an accepted header
 
@@ -143,18 +189,20 @@ sized q h p =
 
 -- ---- a picture
 
--- another start code, within -1..255
-code-possible : (c : ℤ) (p : Picture) → between (negℤ (pos 1)) (pos 255) c ≡ true → possiblePicture p ≡ true → possiblePicture (startCodeAs c p) ≡ true
-code-possible c p h k = let x = picture-of p k in picture-by {p = startCodeAs c p} (record { type = x .type; code = h; stores = x .stores; slice = x .slice })
-
 module _ (s : List ℕ) (short : length s ≤ 16777216) (bytes : (k : ℕ) → getD s k 0 < 256) where
-  past-row : (d : Decoder) (l : List ℕ) (w : Way Frame) (e : ℕ) → Keeps s d l → Kept.Ends (length l) (Kept.StaysPossible l) w → Ahead s e w → place d + 29 ≤ e → e ≤ length s * 8
-      → Turns s (d .«frames_decoded») (pastPicture d (record { value = w; at = e }))
+  past-row : (d : Decoder) (l : List ℕ) (w : Way Frame) (e : ℕ) → Keeps s d l → Kept.Ends (length l) (Kept.StaysPossible l) w → Ahead s e w
+      → place d + 29 ≤ e → e ≤ length s * 8 → Turns s (d .«frames_decoded») (pastPicture d (record { value = w; at = e }))
   unfolding pastPicture
-  past-row d l (on f) e k h a p m =
-      shown-row s (placeAs e (pictureAs (f .picture) d)) (f .store)
-      (record { header = k .header; sequence = k .sequence; picture = h .picture; mark = k .mark; long = omega arith; inside = m; ahead = a; count = omega arith })
-      (omega arith)
+  past-row d l (on f) e k h a p m = shown-row s (placeAs e (pictureAs (f .picture) d)) (f .store) (record {
+    header = k .header;
+    sequence = k .sequence;
+    picture = h .picture;
+    mark = k .mark;
+    long = omega arith;
+    inside = m;
+    ahead = a;
+    count = omega arith;
+  }) (omega arith)
   past-row d l (out n i) e k h a p m = ends (stops (h .0))
 
   decoded-row : (d : Decoder) (l : List ℕ) → Keeps s d l → place d + 40 ≤ length s * 8 → Turns s (d .«frames_decoded») (decoded s d l)
@@ -182,18 +230,19 @@ module _ (s : List ℕ) (short : length s ≤ 16777216) (bytes : (k : ℕ) → g
   found-row : (d : Decoder) (l : List ℕ) → Keeps s d l → startCode d ≡ pos 0 → Turns s (d .«frames_decoded») (searched s d l)
   unfolding searched
   found-row d l k c =
-      by-case (Turns s (d .«frames_decoded»)) (eqZ (startCode d) (negsuc 0)) (λ e. absurd (false≢true (sym (ap (λ (z : ℤ). eqZ z (negsuc 0)) c) ∙ e)))
+      by-case (Turns s (d .«frames_decoded»)) (eqZ (startCode d) (negsuc 0))
+      (λ e. absurd (false≢true (sym (ap (λ (z : ℤ). eqZ z (negsuc 0)) c) ∙ e)))
       (λ e. by-case (Turns s (d .«frames_decoded»)) (isFollowed s (place d)) (λ f. decoded-row d l k (followed (place d) (k .ahead c) f))
       (λ f. ends (seven k refl (last-stuck s d l c f))))
 
   -- RULES 8.8: none is found
-  none-row : (d : Decoder) (l : List ℕ) → Keeps s d l → startCode d ≡ negsuc 0 → Barren s (place d) → Turns s (d .«frames_decoded») (searched s d l)
+  none-row : (d : Decoder) (l : List ℕ) → Keeps s d l → startCode d ≡ negsuc 0 → Barren s (place d)
+      → Turns s (d .«frames_decoded») (searched s d l)
   unfolding searched flushed
   none-row d l k c b =
       by-case (Turns s (d .«frames_decoded»)) (eqZ (startCode d) (negsuc 0))
       (λ e. ends (by-case (Ends s (d .«frames_decoded»)) (isFlush s d)
-      (λ f. flushes (record { header = k .header; sequence = k .sequence; picture = k .picture; mark = k .mark; long = k .long; inside = k .inside; ahead = k .ahead; count = k .count }) refl
-      (barren-stuck s (heldAs false d) l c b refl))
+      (λ f. flushes (keeps-held k false) refl (barren-stuck s (heldAs false d) l c b refl))
       (λ f. seven k refl (barren-stuck s d l c b f))))
       (λ e. absurd (true≢false (sym (ap (λ (z : ℤ). eqZ z (negsuc 0)) c) ∙ e)))
 
@@ -203,17 +252,13 @@ module _ (s : List ℕ) (short : length s ≤ 16777216) (bytes : (k : ℕ) → g
     where
       go : {x : Decoder} → Next s d x → Turns s (d .«frames_decoded») (searched s x l)
       go (has c) = found-row d l k c
-      go (finds e f m) =
-          found-row (searchedAs (pos 0) e d) l
-          (record { header = k .header; sequence = k .sequence; picture = code-possible (pos 0) (d .picture) refl (k .picture); mark = k .mark; long = k .long; inside = omega arith; ahead = λ c. omega arith; count = omega (arith, k .count) })
-          refl
+      go (finds e f m) = found-row (searchedAs (pos 0) e d) l (keeps-searched k (pos 0) e refl f (omega arith) (λ c. omega arith)) refl
       go (fails e f m b) =
-          none-row (searchedAs (negsuc 0) e d) l
-          (record { header = k .header; sequence = k .sequence; picture = code-possible (negsuc 0) (d .picture) refl (k .picture); mark = k .mark; long = k .long; inside = m; ahead = λ c. absurd (true≢false (sym (ap isCode c))); count = omega (arith, k .count) })
-          refl b
+          none-row (searchedAs (negsuc 0) e d) l (keeps-searched k (negsuc 0) e refl f m (λ c. absurd (true≢false (sym (ap isCode c))))) refl b
 
   -- RULES 8.7: a second turn, with a reference held, ends the call
-  second-row : (n : ℕ) (t : Turn Going Ended) → isStop t ≡ true → Turns s n t → Ends s n (elim t [ again y ↦ gave (H.Refused 7) (y .decoder) (y .store) | stop v ↦ v ])
+  second-row : (n : ℕ) (t : Turn Going Ended) → isStop t ≡ true → Turns s n t
+      → Ends s n (elim t [ again y ↦ gave (H.Refused 7) (y .decoder) (y .store) | stop v ↦ v ])
   second-row n (again y) i r = absurd (false≢true i)
   second-row n (stop e) i (ends r) = r
 

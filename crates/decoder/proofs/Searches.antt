@@ -70,8 +70,12 @@ unfolding loop findTurn run bind
 sought-from c s zero a h = let z : ⊥ = omega arith in absurd z
 sought-from c s (suc n) a h = go (found s a .code) (found s a .at) (code-ahead s a) (none-again s a) (code-none s a) (λ e. sought-from c s n e)
   where
-    test : (k : ℤ) (e : ℕ) → (a + 32 ≤ e) × (e + 8 ≤ length s * 8) → ((e : ℕ) → length s * 8 - e < n → Sought c s e (run (loop n (findTurn c) (negsuc 0) tt) s e))
-        → (b : Bool) → (b ≡ true → k ≡ c) → Sought c s a (run (bind (cond b (done (stop k)) (done (again tt))) (turn (loop n (findTurn c) (negsuc 0)))) s e)
+    -- what the turns that are left find from each place on
+    Further : Type 0
+    Further = (e : ℕ) → length s * 8 - e < n → Sought c s e (run (loop n (findTurn c) (negsuc 0) tt) s e)
+
+    test : (k : ℤ) (e : ℕ) → (a + 32 ≤ e) × (e + 8 ≤ length s * 8) → Further → (b : Bool) → (b ≡ true → k ≡ c)
+        → Sought c s a (run (bind (cond b (done (stop k)) (done (again tt))) (turn (loop n (findTurn c) (negsuc 0)))) s e)
     test k e p r true f = hit (f refl) (p .0) (p .1)
     test k e p r false f = further (r e (omega arith))
       where
@@ -79,8 +83,9 @@ sought-from c s (suc n) a h = go (found s a .code) (found s a .at) (code-ahead s
         further (hit x y z) = hit x (omega arith) z
         further (miss x y) = miss x y
 
-    go : (k : ℤ) (e : ℕ) → (isCode k ≡ true → (a + 32 ≤ e) × (e + 8 ≤ length s * 8)) → (k ≡ negsuc 0 → Barren s e) → (isCode k ≡ false → k ≡ negsuc 0)
-        → ((e : ℕ) → length s * 8 - e < n → Sought c s e (run (loop n (findTurn c) (negsuc 0) tt) s e))
+    go : (k : ℤ) (e : ℕ) → (isCode k ≡ true → (a + 32 ≤ e) × (e + 8 ≤ length s * 8)) → (k ≡ negsuc 0 → Barren s e)
+        → (isCode k ≡ false → k ≡ negsuc 0)
+        → Further
         → Sought c s a (run (bind (cond (eqZ k c || eqZ k (negsuc 0)) (done (stop k)) (done (again tt))) (turn (loop n (findTurn c) (negsuc 0)))) s e)
     go (pos v) e p q x r = test (pos v) e (p refl) r (eqZ (pos v) c || false) (λ t. eqZ-is (pos v) c (or-false (eqZ (pos v) c) t))
     go (negsuc zero) e p q x r = rw (or-true (eqZ (negsuc 0) c)) (miss refl (q refl))

@@ -16,11 +16,13 @@ use Rattle.picture.specs.Ways.{Way, on, out}
 use Rattle.picture.specs.Pictures.{Frame, picture}
 use Rattle.picture.proofs.Kept.{Ends, SameLength, picture-leaves}
 use Rattle.decoder.specs.declared.record.Decoder.{Decoder}
+use Rattle.decoder.specs.declared.answers.Shown.{Shown}
 use Rattle.decoder.specs.declared.answers.Outcome.{Outcome}
 use Rattle.decoder.specs.declared.answers.Outcome.the-variants as H
 use Rattle.decoder.specs.Record.{Left, place, startCode}
 use Rattle.decoder.specs.Headers.{passed}
-use Rattle.decoder.specs.Turns.{Going, Ended, gave, stopped, nextPicture, hasEnded, isFollowed, isReference, handed, shown, flushed, pastPicture, decoded, searched, pictureTurn}
+use Rattle.decoder.specs.Turns.{Going, Ended, gave, stopped, nextPicture, hasEnded, isFollowed, isReference}
+use Rattle.decoder.specs.Turns.{handed, shown, flushed, pastPicture, decoded, searched, pictureTurn}
 use Rattle.decoder.specs.HandOut.{pictures, ended, askFirst, begun, handOut}
 use Rattle.decoder.proofs.Rows.{Begins, hand-passed}
 use Rattle.decoder.proofs.TwoTurns.{Holds, isStop, goes-held, held-stops}
@@ -35,7 +37,7 @@ pub data Seven (s : List ℕ) (x : Going) (d : Decoder) (l : List ℕ) : Type 0 
 
 -- the turns end with a picture, a stop of 8 or 9, or 7, which leaves what P says
 abbrev pub End : (Decoder → List ℕ → Type 0) → Ended → Type 0
-End P (gave (H.Picture k t) d l) = Unit {0}
+End P (gave (H.Picture i) d l) = Unit {0}
 End P (gave (H.Refused n) d l) = (n ≡ 7) × P d l
 End P (stopped n l) = (n ≡ 8) ⊎ (n ≡ 9)
 
@@ -46,9 +48,12 @@ TurnEnd P (stop e) = End P e
 module _ (P : Decoder → List ℕ → Type 0) where
   shown-end : (d : Decoder) (l : List ℕ) → TurnEnd P (shown d l)
   unfolding shown handed
-  shown-end d l = by-case (TurnEnd P) (eqb (d .picture .«picture_type») 3) (λ e. tt) (λ e. by-case (TurnEnd P) (d .«has_reference_frame») (λ e. tt) (λ e. tt))
+  shown-end d l =
+      by-case (TurnEnd P) (eqb (d .picture .«picture_type») 3) (λ e. tt)
+      (λ e. by-case (TurnEnd P) (d .«has_reference_frame») (λ e. tt) (λ e. tt))
 
-  past-end : (d : Decoder) (l : List ℕ) (w : Way Frame) (a : ℕ) → Ends (length l) (SameLength l) w → TurnEnd P (pastPicture d (record { value = w; at = a }))
+  past-end : (d : Decoder) (l : List ℕ) (w : Way Frame) (a : ℕ) → Ends (length l) (SameLength l) w
+      → TurnEnd P (pastPicture d (record { value = w; at = a }))
   unfolding pastPicture
   past-end d l (on f) a h = shown-end _ _
   past-end d l (out n m) a h = h .0
@@ -56,28 +61,31 @@ module _ (P : Decoder → List ℕ → Type 0) where
   searched-end : (s : List ℕ) (d : Decoder) (l : List ℕ) → P d l → TurnEnd P (searched s d l)
   unfolding searched flushed decoded
   searched-end s d l p =
-      by-case (TurnEnd P) (eqZ (startCode d) (negsuc 0)) (λ e. by-case (End P) (d .«has_reference_frame» && hasEnded s (place d) && isReference d) (λ e. tt) (λ e. (refl, p)))
+      by-case (TurnEnd P) (eqZ (startCode d) (negsuc 0))
+      (λ e. by-case (End P) (d .«has_reference_frame» && hasEnded s (place d) && isReference d) (λ e. tt) (λ e. (refl, p)))
       (λ e. by-case (TurnEnd P) (isFollowed s (place d)) (λ e. past-end d l _ _ (picture-leaves _ _ _ l s (place d))) (λ e. (refl, p)))
 
 turn-end : (s : List ℕ) (x : Going) → TurnEnd (Searched s x) (pictureTurn s x)
 unfolding pictureTurn
 turn-end s x = searched-end (Searched s x) s (nextPicture s (x .decoder)) (x .store) (refl, refl)
 
-end-by : (P Q : Decoder → List ℕ → Type 0) → ((d : Decoder) (l : List ℕ) → P d l → Q d l) → (e : Ended) → End P e → End Q e
-end-by P Q f (gave (H.Picture k t) d l) h = tt
-end-by P Q f (gave (H.Refused n) d l) h = (h .0, f d l (h .1))
-end-by P Q f (stopped n l) h = h
+module _ (P Q : Decoder → List ℕ → Type 0) (f : (d : Decoder) (l : List ℕ) → P d l → Q d l) where
+  end-by : (e : Ended) → End P e → End Q e
+  end-by (gave (H.Picture i) d l) h = tt
+  end-by (gave (H.Refused n) d l) h = (h .0, f d l (h .1))
+  end-by (stopped n l) h = h
 
--- RULES 8.7: with a reference held the second turn ends the call
-second-end : (P Q : Decoder → List ℕ → Type 0) → ((d : Decoder) (l : List ℕ) → P d l → Q d l) → (t : Turn Going Ended) → isStop t ≡ true → TurnEnd P t
-    → End Q (elim t [ again y ↦ gave (H.Refused 7) (y .decoder) (y .store) | stop v ↦ v ])
-second-end P Q f (again y) i h = absurd (false≢true i)
-second-end P Q f (stop e) i h = end-by P Q f e h
+  -- RULES 8.7: with a reference held the second turn ends the call
+  second-end : (t : Turn Going Ended) → isStop t ≡ true → TurnEnd P t
+      → End Q (elim t [ again y ↦ gave (H.Refused 7) (y .decoder) (y .store) | stop v ↦ v ])
+  second-end (again y) i h = absurd (false≢true i)
+  second-end (stop e) i h = end-by e h
 
 first-end : (s : List ℕ) (x : Going) (t : Turn Going Ended) → pictureTurn s x ≡ t → Holds t → TurnEnd (Searched s x) t
     → End (Seven s x) (elim t [ again y ↦ turns 1 (pictureTurn s) (λ y. gave (H.Refused 7) (y .decoder) (y .store)) y | stop v ↦ v ])
 unfolding turns
-first-end s x (again y) q i h = second-end (Searched s y) (Seven s x) (λ d l k. in-the-second y q k) (pictureTurn s y) (held-stops s y i) (turn-end s y)
+first-end s x (again y) q i h =
+    second-end (Searched s y) (Seven s x) (λ d l k. in-the-second y q k) (pictureTurn s y) (held-stops s y i) (turn-end s y)
 first-end s x (stop e) q i h = end-by (Searched s x) (Seven s x) (λ d l k. in-the-first k) e h
 
 pub pictures-end : (s : List ℕ) (x : Going) → End (Seven s x) (pictures s x)
@@ -86,16 +94,21 @@ pictures-end s x = first-end s x (pictureTurn s x) refl (goes-held s x) (turn-en
 
 -- an answer's number, 0 for a picture
 abbrev pub numberOf : Outcome → ℕ
-numberOf (H.Picture k t) = 0
+numberOf (H.Picture i) = 0
 numberOf (H.Refused n) = n
 
 pub not-seven : {A : Type 0} {n : ℕ} → (n ≡ 8) ⊎ (n ≡ 9) → n ≡ 7 → A
 not-seven (inl e) h = let no : ⊥ = omega arith in absurd no
 not-seven (inr e) h = let no : ⊥ = omega arith in absurd no
 
-ended-seven : (P : Decoder → List ℕ → Type 0) (d : Decoder) (e : Ended) → End P e → ended d e .answer ≡ H.Refused 7 → P (ended d e .decoder) (ended d e .store)
+-- a picture is not 7
+pub not-picture : {A : Type 0} {i : Shown} → H.Picture i ≡ H.Refused 7 → A
+not-picture q = let z : _≡_ {A = ℕ} 0 7 = ap numberOf q in let no : ⊥ = omega arith in absurd no
+
+ended-seven : (P : Decoder → List ℕ → Type 0) (d : Decoder) (e : Ended) → End P e → ended d e .answer ≡ H.Refused 7
+    → P (ended d e .decoder) (ended d e .store)
 unfolding ended
-ended-seven P d (gave (H.Picture k t) x l) h q = let z : _≡_ {A = ℕ} 0 7 = ap numberOf q in let no : ⊥ = omega arith in absurd no
+ended-seven P d (gave (H.Picture i) x l) h q = not-picture q
 ended-seven P d (gave (H.Refused n) x l) h q = h .1
 ended-seven P d (stopped n l) h q = not-seven h (ap numberOf q)
 

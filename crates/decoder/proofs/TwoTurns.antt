@@ -56,7 +56,8 @@ pub held-stops : (s : List ℕ) (x : Going) → x .decoder .«has_reference_fram
 unfolding pictureTurn searched decoded
 held-stops s x h =
     by-case (λ t. isStop t ≡ true) (eqZ (startCode (nextPicture s (x .decoder))) (negsuc 0)) (λ e. refl)
-    (λ e. by-case (λ t. isStop t ≡ true) (isFollowed s (place (nextPicture s (x .decoder)))) (λ e. past-stops _ _ _ (next-held s (x .decoder) h)) (λ e. refl))
+    (λ e. by-case (λ t. isStop t ≡ true) (isFollowed s (place (nextPicture s (x .decoder))))
+    (λ e. past-stops _ _ _ (next-held s (x .decoder) h)) (λ e. refl))
 
 one : (f : Going → Turn Going Ended) (t : Turn Going Ended) → isStop t ≡ true → elim t [ again y ↦ stops 0 f y | stop v ↦ true ] ≡ true
 unfolding stops

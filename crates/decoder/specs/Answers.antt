@@ -20,7 +20,7 @@ openingSays x = elim x [ O.Ready ↦ success | O.Refused n ↦ number n ]
 
 -- RULES Q, 8.9: of a hand-out
 abbrev pub outcomeSays : Outcome → Said
-outcomeSays x = elim x [ H.Picture store time ↦ picture store time | H.Refused n ↦ number n ]
+outcomeSays x = elim x [ H.Picture p ↦ picture (p .store) (p .time) | H.Refused n ↦ number n ]
 
 -- RULES Q: of the conversion (C.3 asks for it of each answer that is an enum)
 abbrev pub convertedSays : Converted → Said

@@ -10,7 +10,7 @@ use Rattle.decoder.specs.declared.record.Decoder.{Decoder}
 use Rattle.decoder.specs.declared.answers.Outcome.{Outcome}
 use Rattle.decoder.specs.declared.answers.Outcome.the-variants.{Refused}
 use Rattle.decoder.specs.Record.{stopAs, Left, left, storeBytes, cleared}
-use Rattle.decoder.specs.Possible.{possible}
+use Rattle.decoder.specs.Possible.{possibleWith}
 use Rattle.decoder.specs.Headers.{Asked, refused, passed, askHeader, askStore}
 use Rattle.decoder.specs.Turns.{Going, going, Ended, gave, stopped, pictureTurn}
 
@@ -40,6 +40,6 @@ goOn s d l (passed x) = ended d (pictures s (begun d x l))
 unfoldable pub handOut : Decoder → List ℕ → List ℕ → Left Outcome
 handOut d s l =
     if not (leb (length s) 16777216) then left (Refused 1) d l
-    else (if not (possible d) then left (Refused 2) d l
+    else (if not (possibleWith s d) then left (Refused 2) d l
     else (if not (eqb (d .stop) 0) then left (Refused (d .stop)) d l
     else goOn s d l (askFirst s d l)))

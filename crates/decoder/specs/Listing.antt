@@ -28,7 +28,7 @@ linesFrom zero s n d l = []
 linesFrom (suc fuel) s n d l =
     let x = handOut d s l in
     elim (x .answer) [
-      | H.Picture store time ↦ line (n + 1) store (x .decoder .picture .«picture_type») 0 ∷ linesFrom fuel s (n + 1) (x .decoder) (x .store)
+      | H.Picture p ↦ line (n + 1) (p .store) (x .decoder .picture .«picture_type») 0 ∷ linesFrom fuel s (n + 1) (x .decoder) (x .store)
       | H.Refused answer ↦ line n 0 0 answer ∷ []
     ]
 

@@ -4,6 +4,7 @@ use Prim.Native.Nat.{ℕ}
 use lib.Dec.{leb}
 use lib.ListN.{length}
 use Rattle.bits.specs.Programs.{if_then_else_}
+use Rattle.decoder.specs.declared.record.Decoder.{Decoder}
 use Rattle.decoder.specs.declared.answers.Opening.{Opening}
 use Rattle.decoder.specs.declared.answers.Opening.the-variants.{Ready, Refused}
 use Rattle.decoder.specs.Record.{fresh, Left, left, storeBytes, cleared}
@@ -14,6 +15,10 @@ unfoldable pub opened : List ℕ → Asked → Left Opening
 opened l (refused n x) = left (Refused n) x l
 opened l (passed x) = left Ready x (cleared (storeBytes x) l)
 
--- RULES O.2: the questions 1, 3, 4, 5, 6
+-- RULES O.2: the questions 3, 4, 5, 6, from the record d on
+unfoldable pub openingFrom : Decoder → List ℕ → List ℕ → Left Opening
+openingFrom d s l = opened l (askStore d l (askHeader s d))
+
+-- RULES O.1, O.2: question 1, then from the fresh record on
 unfoldable pub opening : List ℕ → List ℕ → Left Opening
-opening s l = if leb (length s) 16777216 then opened l (askStore fresh l (askHeader s fresh)) else left (Refused 1) fresh l
+opening s l = if leb (length s) 16777216 then openingFrom fresh s l else left (Refused 1) fresh l

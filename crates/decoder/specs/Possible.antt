@@ -1,5 +1,6 @@
 -- RULES Q2: is a record possible?
 use mathlib.Core.Bool.{Bool, cond, _&&_, _||_}
+use mathlib.Core.List.{List}
 use Prim.Native.Nat.{ℕ, _+_, _*_, _/_}
 use lib.Dec.{eqb, leb}
 use Rattle.picture.specs.declared.state.Sizes.{Sizes}
@@ -28,8 +29,12 @@ possibleSequence q =
     (leb 1 (q .width) && leb 1 (q .height) && sameSizes (q .sizes) (sizesOf (q .width) (q .height)))
     (sameSizes (q .sizes) (record { «mb_width» = 0; «mb_height» = 0; «mb_size» = 0 }))
 
--- position, count of pictures handed out, stop mark, and the parts above
+-- position, count of pictures handed out, stop mark, and the parts above: the question as a conversion puts it, which is given no stream
 unfoldable pub possible : Decoder → Bool
 possible d =
     leb (place d) 134217728 && possibleSequence (d .sequence) && possiblePicture (d .picture) && leb (d .«frames_decoded») 134217728 &&
     (eqb (d .stop) 0 || eqb (d .stop) 8 || eqb (d .stop) 9)
+
+-- the question as a hand-out puts it, with the stream at hand: no field of the record depends on the stream
+abbrev pub possibleWith : List ℕ → Decoder → Bool
+possibleWith s d = possible d

@@ -30,8 +30,8 @@ answer s x n = call s (before s x n) .answer
 
 -- RULES R.1: is it a picture?
 abbrev pub pictureIn : Outcome → ℕ
-pictureIn (Picture store time) = 1
-pictureIn (Refused number) = 0
+pictureIn (Picture p) = 1
+pictureIn (Refused n) = 0
 
 -- how many pictures the calls 0 .. n - 1 hand out
 unfoldable pub handedOut : List ℕ → Going → ℕ → ℕ

@@ -57,9 +57,13 @@ counted d =
       «last_frame_time» = d .clock .time;
     }) n d
 
+-- RULES F.12: the picture in the store number k, with the time shown
+abbrev pub pictureAt : ℕ → Float → Outcome
+pictureAt k time = Picture (record { store = k; time = time })
+
 -- the store number k is handed out with the time that is then shown
 unfoldable pub handed : ℕ → Decoder → List ℕ → Ended
-handed k d l = gave (Picture k (counted d .clock .«last_frame_time»)) (counted d) l
+handed k d l = gave (pictureAt k (counted d .clock .«last_frame_time»)) (counted d) l
 
 -- RULES 8.5: after a picture, decoded or not
 unfoldable pub shown : Decoder → List ℕ → Turn Going Ended
@@ -76,7 +80,7 @@ isReference d = eqb (d .picture .«picture_type») 1 || eqb (d .picture .«pictu
 unfoldable pub flushed : List ℕ → Decoder → List ℕ → Ended
 flushed s d l =
     if d .«has_reference_frame» && hasEnded s (place d) && isReference d then
-    gave (Picture (d .picture .stores .bwd) (d .clock .«last_frame_time»)) (heldAs false d) l
+    gave (pictureAt (d .picture .stores .bwd) (d .clock .«last_frame_time»)) (heldAs false d) l
     else gave (Refused 7) d l
 
 -- RULES Q8, Q9, 8.5: what a picture's run gives

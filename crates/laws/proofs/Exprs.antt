@@ -147,15 +147,12 @@ module _ {w : Width} (ρ : List (Input w)) where
   pub need : (e : Exp) → T (ok e) → SFits w (raw e)
   need e t = fits w (sound e t .result) (sound e t .small)
 
-  -- what a local then holds: its term, its bits, and the size of its number
+  -- what a local then holds: its term, and the size of its number
   pub num-of : (e : Exp) → T (ok e) → Num (term e) (eval e) (bound e)
   num-of e t = got (sound e t)
 
   pub value : (e : Exp) → T (ok e) → term e ≡ eval e
   value e t = num-of e t .is
-
-  pub stored-is : (e : Exp) → T (ok e) → stored e ≡ ofZ w (eval e)
-  stored-is e t = sound e t .held .is
 
   pub within : (e : Exp) → T (ok e) → natAbs (eval e) ≤ bound e
   within e t = sound e t .held .bound

@@ -103,7 +103,8 @@ pub _⊛_ : (k : ℕ) {a : ℤ} {p n : ℕ} → Dif a p n → Dif (pos k *ℤ a)
 _⊛_ k {a} {p} {n} x = as-dif (k * p) (k * n) (lit k ⊗ x) (omega arith)
 
 -- a quotient that is rounded down, as z >> j rounds with m = 2 ^ j
-pub shr : {z : ℤ} {p n : ℕ} (m : ℕ) → 0 < m → Dif z p n → (m * up (shrZ z m) + n ≤ p + m * dn (shrZ z m)) × (p + m * dn (shrZ z m) < m * up (shrZ z m) + n + m)
+pub shr : {z : ℤ} {p n : ℕ} (m : ℕ) → 0 < m → Dif z p n → (m * up (shrZ z m) + n ≤ p + m * dn (shrZ z m))
+    × (p + m * dn (shrZ z m) < m * up (shrZ z m) + n + m)
 shr {z} m h x = let w = parts z in (omega (arith, x .dif), omega (arith, x .dif))
   where
     parts : (z : ℤ) → (m * up (shrZ z m) + dn z ≤ up z + m * dn (shrZ z m)) × (up z + m * dn (shrZ z m) < m * up (shrZ z m) + dn z + m)
@@ -254,12 +255,14 @@ cut B s k p l =
     let e : (B - s) * suc k ≡ B * k + (B - s * suc k) = omega (arith, ap (λ (x : ℕ). x * suc k) t) in
     ap (λ (x : ℕ). x % B) e ∙ NatL.mul-add-mod-self-left B k (B - s * suc k) ∙ NatL.mod-eq-of-lt (omega arith)
 
-times-bits : (w : Width) (z : ℤ) (k : ℕ) → 0 < k → up z * k < 2 ^ hbits w → dn z * k ≤ 2 ^ hbits w → ofZ w z * k % 2 ^ bits w ≡ ofZ w (z *ℤ pos k)
+times-bits : (w : Width) (z : ℤ) (k : ℕ) → 0 < k → up z * k < 2 ^ hbits w → dn z * k ≤ 2 ^ hbits w
+    → ofZ w z * k % 2 ^ bits w ≡ ofZ w (z *ℤ pos k)
 times-bits w (pos a) k p h l = NatL.mod-eq-of-lt (omega (arith, twice-half w))
 times-bits w (negsuc a) zero p h l = let z : ⊥ = omega arith in absurd z
 times-bits w (negsuc a) (suc k) p h l =
     let e : suc a * suc k ≡ suc (a * suc k + k) = omega arith in
-    cut (2 ^ bits w) (suc a) k (omega arith) (omega (arith, twice-half w)) ∙ ap (λ (x : ℕ). 2 ^ bits w - x) e ∙ sym (ap (λ (x : ℕ). ofZ w (negℤ (pos x))) e)
+    cut (2 ^ bits w) (suc a) k (omega arith) (omega (arith, twice-half w)) ∙ ap (λ (x : ℕ). 2 ^ bits w - x) e
+    ∙ sym (ap (λ (x : ℕ). ofZ w (negℤ (pos x))) e)
 
 -- z << j has the bits of z * 2 ^ j
 pub shl-bits : (w : Width) {z : ℤ} {p n : ℕ} (j : ℕ) → Dif z p n → p * 2 ^ j < n * 2 ^ j + 2 ^ hbits w → n * 2 ^ j ≤ p * 2 ^ j + 2 ^ hbits w
@@ -272,12 +275,6 @@ shl-bits w {z} {p} {n} j x h l =
     side : (z : ℤ) (k : ℕ) → min (up z * k) (dn z * k) ≡ 0
     side (pos n) k = omega arith
     side (negsuc n) k = omega arith
-
-pub shl : (w : Width) {z : ℤ} {p n : ℕ} (j : ℕ) → Dif z p n → p * 2 ^ j < n * 2 ^ j + 2 ^ hbits w → n * 2 ^ j ≤ p * 2 ^ j + 2 ^ hbits w
-    → Dif (toZ w (ofZ w z * 2 ^ j % 2 ^ bits w)) (p * 2 ^ j) (n * 2 ^ j)
-shl w {z} {p} {n} j x h l =
-    let s = shl-bits w j x h l in
-    at-dif (ap (toZ w) (s .0) ∙ toZ-ofZ (s .1)) (as-dif (p * 2 ^ j) (n * 2 ^ j) (x ⊗ lit (2 ^ j)) (omega arith))
 
 -- ---- `==` and `!=` of signed numbers speak of their bits
 

@@ -1,16 +1,16 @@
 -- Parts of a list that are taken and put back (`midOf a k xs`, `putMid a k xs ys`), and the stores of specs/Stores.antt: one more, their length, what
--- stands inside and outside of them, and a store in a part said of the whole list.
+-- stands inside and outside of them.
 use mathlib.Core.Path.{_≡_, refl, sym, ap, ap₂, _∙_}
-use mathlib.Core.List.{List, [], _∷_, _++_, append-assoc}
+use mathlib.Core.List.{List, _++_, append-assoc}
 use mathlib.Core.Logic.{_⊎_, inl, inr, ⊎-elim}
 use Prim.Native.Nat.{ℕ, zero, suc, _+_, _*_, _-_, _≤_, _<_}
 use native.Mathlib.Decide.{decLt}
-use native.Mathlib.Nat.{mul-le-mul-right, zero-add, add-zero, suc-add, add-suc}
+use native.Mathlib.Nat.{mul-le-mul-right, add-zero, add-suc}
 use native.Mathlib.Numerals.{add-one}
 use native.Mathlib.Omega.{arith}
-use borrow.Rule.Slice.PartMut.{putMid, midOf, postOf, same-len-mid, put-same}
+use borrow.Rule.Slice.PartMut.{putMid, midOf, postOf}
 use lib.ListN.{length, getD, set, take, drop, length-set, length-append, length-drop, List·getD-append}
-use lib.Seq.{length-take-le, getD-take, getD-drop, getD-append-add, getD-set-same, getD-set-other, set-append-left}
+use lib.Seq.{length-take-le, getD-take, getD-drop, getD-append-add, getD-set-same, getD-set-other}
 use Rattle.laws.specs.Stores.{storeRow, storeRows}
 
 -- ---- the places of rows
@@ -20,27 +20,17 @@ pub last-row : (at dw b n L : ℕ) → at + (n - 1) * dw + b ≤ L → (y : ℕ)
 last-row at dw b n L h y q = let r : y ≤ n - 1 = omega arith in omega (arith, mul-le-mul-right dw r)
 
 -- rows that are no longer than the step from one to the next lie one after the other
-pub apart : (at dw b : ℕ) → b ≤ dw → (y z : ℕ) → y < z → at + y * dw + b ≤ at + z * dw
+apart : (at dw b : ℕ) → b ≤ dw → (y z : ℕ) → y < z → at + y * dw + b ≤ at + z * dw
 apart at dw b h y z q = omega (arith, mul-le-mul-right dw q)
 
 module _ {A : Type 0} where
   -- ---- a part
 
-  pub mid-at : (a k : ℕ) (xs : List A) (j : ℕ) (d : A) → j < k → getD (midOf a k xs) j d ≡ getD xs (a + j) d
-  mid-at a k xs j d h = getD-take k (drop a xs) j d h ∙ getD-drop a xs j d
-
   pub length-mid : (a k : ℕ) (xs : List A) → a + k ≤ length xs → length (midOf a k xs) ≡ k
   length-mid a k xs h = length-take-le k (drop a xs) (omega (arith, length-drop a xs))
 
-  set-append-add : (p q : List A) (j : ℕ) (v : A) → set (p ++ q) (length p + j) v ≡ p ++ set q j v
-  set-append-add [] q j v = ap (λ (n : ℕ). set q n v) (zero-add j)
-  set-append-add (x ∷ p) q j v = rw suc-add (ap (λ (l : List A). x ∷ l) (set-append-add p q j v))
-
   -- the list xs with ys in the place of its k elements from a on
   module _ (a k : ℕ) (xs ys : List A) where
-    pub length-put : a + k ≤ length xs → length ys ≡ k → length (putMid a k xs ys) ≡ length xs
-    length-put h e = same-len-mid a k xs ys (e ∙ sym (length-mid a k xs h))
-
     pub put-in : (j : ℕ) (d : A) → a ≤ length xs → j < length ys → getD (putMid a k xs ys) (a + j) d ≡ getD ys j d
     put-in j d h l =
         ap (λ (n : ℕ). getD (putMid a k xs ys) (n + j) d) (sym (length-take-le a xs h))
@@ -62,19 +52,16 @@ module _ {A : Type 0} where
         ∙ getD-drop a xs (k + (j - (a + k))) d
         ∙ ap (λ (m : ℕ). getD xs m d) (omega arith)
 
-    -- a store in the part is a store in the whole
-    pub put-set : (j : ℕ) (v : A) → a ≤ length xs → j < length ys → putMid a k xs (set ys j v) ≡ set (putMid a k xs ys) (a + j) v
-    put-set j v h l =
-        ap (λ (z : List A). take a xs ++ z) (sym (set-append-left ys (postOf a k xs) j v l))
-        ∙ sym (set-append-add (take a xs) (ys ++ postOf a k xs) j v)
-        ∙ ap (λ (n : ℕ). set (putMid a k xs ys) (n + j) v) (length-take-le a xs h)
-
   -- ---- a row of stores
 
   -- the loop's turn: the row so far, and the next element
-  pub row-on : (l : List A) (at : ℕ) (f : ℕ → A) (i : ℕ) {now : List A} {v : A} → now ≡ storeRow l at f i → v ≡ f i → set now (at + i) v ≡ storeRow l at f (i + 1)
+  pub row-on : (l : List A) (at : ℕ) (f : ℕ → A) (i : ℕ) {now : List A} {v : A} → now ≡ storeRow l at f i → v ≡ f i
+      → set now (at + i) v ≡ storeRow l at f (i + 1)
   unfolding storeRow
-  row-on l at f i {now} {v} e p = ap (λ (z : List A). set z (at + i) v) e ∙ ap (λ (x : A). set (storeRow l at f i) (at + i) x) p ∙ ap (storeRow l at f) (sym (add-one i))
+  row-on l at f i {now} {v} e p =
+      ap (λ (z : List A). set z (at + i) v) e
+      ∙ ap (λ (x : A). set (storeRow l at f i) (at + i) x) p
+      ∙ ap (storeRow l at f) (sym (add-one i))
 
   pub length-row : (l : List A) (at : ℕ) (f : ℕ → A) (n : ℕ) → length (storeRow l at f n) ≡ length l
   unfolding storeRow
@@ -90,7 +77,8 @@ module _ {A : Type 0} where
       ∙ ap (λ (x : A). set (storeRow l at g n) (at + n) x) (h n (omega arith))
 
   -- a row that goes on at the place where another ends
-  pub row-join : (l : List A) (at : ℕ) (f g : ℕ → A) (n k m : ℕ) → k ≡ at + n → ((i : ℕ) → i < m → g i ≡ f (n + i)) → storeRow (storeRow l at f n) k g m ≡ storeRow l at f (n + m)
+  pub row-join : (l : List A) (at : ℕ) (f g : ℕ → A) (n k m : ℕ) → k ≡ at + n → ((i : ℕ) → i < m → g i ≡ f (n + i))
+      → storeRow (storeRow l at f n) k g m ≡ storeRow l at f (n + m)
   unfolding storeRow
   row-join l at f g n k zero e h = ap (storeRow l at f) (sym (add-zero n))
   row-join l at f g n k (suc m) e h =
@@ -105,7 +93,8 @@ module _ {A : Type 0} where
       getD-set-other (storeRow l at f n) (at + n) k (f n) d (λ e. ⊎-elim (λ q. omega arith) (λ q. omega arith) h)
       ∙ row-out l at f n k d (⊎-elim (λ q. inl q) (λ q. inr (omega arith)) h)
 
-  pub row-in : (l : List A) (at : ℕ) (f : ℕ → A) (n i k : ℕ) (d : A) → at + n ≤ length l → i < n → k ≡ at + i → getD (storeRow l at f n) k d ≡ f i
+  pub row-in : (l : List A) (at : ℕ) (f : ℕ → A) (n i k : ℕ) (d : A) → at + n ≤ length l → i < n → k ≡ at + i
+      → getD (storeRow l at f n) k d ≡ f i
   unfolding storeRow
   row-in l at f zero i k d h q e = absurd (omega arith)
   row-in l at f (suc n) i k d h q e = go (decLt i n) (λ g. row-in l at f n i k d (omega arith) g e)
@@ -130,7 +119,8 @@ module _ {A : Type 0} where
   length-rows l at dw b f zero = refl
   length-rows l at dw b f (suc n) = length-row (storeRows l at dw b f n) (at + n * dw) (f n) b ∙ length-rows l at dw b f n
 
-  pub rows-alike : (l : List A) (at dw b : ℕ) (f g : ℕ → ℕ → A) (n : ℕ) → ((y x : ℕ) → y < n → x < b → f y x ≡ g y x) → storeRows l at dw b f n ≡ storeRows l at dw b g n
+  pub rows-alike : (l : List A) (at dw b : ℕ) (f g : ℕ → ℕ → A) (n : ℕ) → ((y x : ℕ) → y < n → x < b → f y x ≡ g y x)
+      → storeRows l at dw b f n ≡ storeRows l at dw b g n
   unfolding storeRows
   rows-alike l at dw b f g zero h = refl
   rows-alike l at dw b f g (suc n) h =
@@ -138,7 +128,8 @@ module _ {A : Type 0} where
       ∙ row-alike (storeRows l at dw b g n) (at + n * dw) (f n) (g n) b (λ x q. h n x (omega arith) q)
 
   -- a place in none of the rows is as it was
-  pub rows-out : (l : List A) (at dw b : ℕ) (f : ℕ → ℕ → A) (n k : ℕ) (d : A) → ((y : ℕ) → y < n → (k < at + y * dw) ⊎ (at + y * dw + b ≤ k))
+  pub rows-out : (l : List A) (at dw b : ℕ) (f : ℕ → ℕ → A) (n k : ℕ) (d : A)
+      → ((y : ℕ) → y < n → (k < at + y * dw) ⊎ (at + y * dw + b ≤ k))
       → getD (storeRows l at dw b f n) k d ≡ getD l k d
   unfolding storeRows
   rows-out l at dw b f zero k d h = refl
@@ -146,10 +137,12 @@ module _ {A : Type 0} where
       row-out (storeRows l at dw b f n) (at + n * dw) (f n) b k d (h n (omega arith)) ∙ rows-out l at dw b f n k d (λ y q. h y (omega arith))
 
   -- a place from row y on is as it was before that row
-  pub rows-fresh : (l : List A) (at dw b : ℕ) (f : ℕ → ℕ → A) (y k : ℕ) (d : A) → b ≤ dw → at + y * dw ≤ k → getD (storeRows l at dw b f y) k d ≡ getD l k d
+  pub rows-fresh : (l : List A) (at dw b : ℕ) (f : ℕ → ℕ → A) (y k : ℕ) (d : A) → b ≤ dw → at + y * dw ≤ k
+      → getD (storeRows l at dw b f y) k d ≡ getD l k d
   rows-fresh l at dw b f y k d h q = rows-out l at dw b f y k d (λ z r. inr (omega (arith, apart at dw b h z y r)))
 
-  rows-at : (l : List A) (at dw b : ℕ) (f : ℕ → ℕ → A) (n y x k : ℕ) (d : A) → b ≤ dw → ((z : ℕ) → z < n → at + z * dw + b ≤ length l) → y < n → x < b
+  rows-at : (l : List A) (at dw b : ℕ) (f : ℕ → ℕ → A) (n y x k : ℕ) (d : A) → b ≤ dw
+      → ((z : ℕ) → z < n → at + z * dw + b ≤ length l) → y < n → x < b
       → k ≡ at + y * dw + x → getD (storeRows l at dw b f n) k d ≡ f y x
   unfolding storeRows
   rows-at l at dw b f zero y x k d h fit q r e = absurd (omega arith)
@@ -165,40 +158,7 @@ module _ {A : Type 0} where
           row-in m (at + n * dw) (f n) b x k d (omega (arith, length-rows l at dw b f n, fit n (omega arith))) r (e ∙ ap (λ (z : ℕ). at + z * dw + x) s)
           ∙ ap (λ (z : ℕ). f z x) (sym s)
 
-  pub rows-in : (l : List A) (at dw b : ℕ) (f : ℕ → ℕ → A) (n y x k : ℕ) (d : A) → b ≤ dw → at + (n - 1) * dw + b ≤ length l → y < n → x < b
+  pub rows-in : (l : List A) (at dw b : ℕ) (f : ℕ → ℕ → A) (n y x k : ℕ) (d : A) → b ≤ dw → at + (n - 1) * dw + b ≤ length l → y < n
+      → x < b
       → k ≡ at + y * dw + x → getD (storeRows l at dw b f n) k d ≡ f y x
   rows-in l at dw b f n y x k d h fit = rows-at l at dw b f n y x k d h (last-row at dw b n (length l) fit)
-
-  -- ---- stores in a part, said of the whole
-
-  module _ (a k : ℕ) (xs : List A) (ha : a ≤ length xs) where
-    pub put-row : (ys : List A) (at : ℕ) (f : ℕ → A) (n : ℕ) → at + n ≤ length ys → putMid a k xs (storeRow ys at f n) ≡ storeRow (putMid a k xs ys) (a + at) f n
-    unfolding storeRow
-    put-row ys at f zero h = refl
-    put-row ys at f (suc n) h =
-        put-set a k xs (storeRow ys at f n) (at + n) (f n) ha (omega (arith, length-row ys at f n))
-        ∙ ap (λ (l : List A). set l (a + (at + n)) (f n)) (put-row ys at f n (omega arith))
-        ∙ ap (λ (m : ℕ). set (storeRow (putMid a k xs ys) (a + at) f n) m (f n)) (omega arith)
-
-    rows-put : (ys : List A) (at dw b : ℕ) (f : ℕ → ℕ → A) (n : ℕ) → ((y : ℕ) → y < n → at + y * dw + b ≤ length ys)
-        → putMid a k xs (storeRows ys at dw b f n) ≡ storeRows (putMid a k xs ys) (a + at) dw b f n
-    unfolding storeRows
-    rows-put ys at dw b f zero h = refl
-    rows-put ys at dw b f (suc n) h =
-        put-row (storeRows ys at dw b f n) (at + n * dw) (f n) b (omega (arith, length-rows ys at dw b f n, h n (omega arith)))
-        ∙ ap (λ (l : List A). storeRow l (a + (at + n * dw)) (f n) b) (rows-put ys at dw b f n (λ y q. h y (omega arith)))
-        ∙ ap (λ (m : ℕ). storeRow (storeRows (putMid a k xs ys) (a + at) dw b f n) m (f n) b) (omega arith)
-
-    pub put-rows : (ys : List A) (at dw b : ℕ) (f : ℕ → ℕ → A) (n : ℕ) → at + (n - 1) * dw + b ≤ length ys
-        → putMid a k xs (storeRows ys at dw b f n) ≡ storeRows (putMid a k xs ys) (a + at) dw b f n
-    put-rows ys at dw b f n h = rows-put ys at dw b f n (last-row at dw b n (length ys) h)
-
-  -- the part that is lent is one of the list itself
-  module _ (a k : ℕ) (xs : List A) (h : a + k ≤ length xs) where
-    pub part-row : (at : ℕ) (f : ℕ → A) (n : ℕ) → at + n ≤ k → putMid a k xs (storeRow (midOf a k xs) at f n) ≡ storeRow xs (a + at) f n
-    part-row at f n q =
-        put-row a k xs (omega arith) (midOf a k xs) at f n (omega (arith, length-mid a k xs h)) ∙ ap (λ (l : List A). storeRow l (a + at) f n) (put-same a k xs)
-
-    pub part-rows : (at dw b : ℕ) (f : ℕ → ℕ → A) (n : ℕ) → at + (n - 1) * dw + b ≤ k → putMid a k xs (storeRows (midOf a k xs) at dw b f n) ≡ storeRows xs (a + at) dw b f n
-    part-rows at dw b f n q =
-        put-rows a k xs (omega arith) (midOf a k xs) at dw b f n (omega (arith, length-mid a k xs h)) ∙ ap (λ (l : List A). storeRows l (a + at) dw b f n) (put-same a k xs)

@@ -1,4 +1,4 @@
--- Fuel loops: what a turn does, that fuel beyond what a run needs changes nothing, and the invariant of a while loop that takes these turns.
+-- Fuel loops: what a turn does, and that fuel beyond what a run needs changes nothing.
 use mathlib.Core.Path.{_≡_, refl, sym, ap, _∙_}
 use mathlib.Core.Bool.{true, false≢true}
 use Prim.Native.Nat.{ℕ, zero, suc, _≤_, _<_}
@@ -33,7 +33,8 @@ module _ {S A : Type 0} (f : S → Turn S A) where
   same-answer (suc n) zero d e x p q = absurd (stops-zero x q)
   same-answer (suc n) (suc m) d e x p q = go (f x) refl (λ y. same-answer n m d e y)
     where
-      go : (t : Turn S A) → f x ≡ t → ((y : S) → stops n f y ≡ true → stops m f y ≡ true → turns n f d y ≡ turns m f e y) → turns (suc n) f d x ≡ turns (suc m) f e x
+      go : (t : Turn S A) → f x ≡ t → ((y : S) → stops n f y ≡ true → stops m f y ≡ true → turns n f d y ≡ turns m f e y)
+          → turns (suc n) f d x ≡ turns (suc m) f e x
       go (again y) r k =
           turns-again n d x y r ∙ k y (sym (stops-again n x y r) ∙ p) (sym (stops-again m x y r) ∙ q) ∙ sym (turns-again m e x y r)
       go (stop v) r k = turns-stop n d x v r ∙ sym (turns-stop m e x v r)
@@ -65,27 +66,3 @@ module _ {S A : Type 0} (f : S → Turn S A) where
     -- enough fuel is enough: more changes nothing
     pub enough-fuel : (n m : ℕ) (d e : S → A) (x : S) → P x → μ x < n → μ x < m → turns n f d x ≡ turns m f e x
     enough-fuel n m d e x p h k = same-answer n m d e x (ends n x p h) (ends m x p k)
-
--- The invariant of a while loop: the run from x₀ goes on as the run from x, with fuel for more than `left` turns. `left` is the loop's measure.
-pub record Turning {S A : Type 0} (n : ℕ) (f : S → Turn S A) (d : S → A) (x₀ x : S) (left : ℕ) : Type 0 where
-  pub fuel : ℕ
-  pub enough : left < fuel
-  pub same : turns n f d x₀ ≡ turns fuel f d x
-
-module _ {S A : Type 0} {n : ℕ} {f : S → Turn S A} {d : S → A} where
-  pub turn-start : {x : S} {left : ℕ} → left < n → Turning n f d x x left
-  turn-start h = record { fuel = n; enough = h; same = refl }
-
-  pub turn-on : {x₀ x y : S} {left less : ℕ} → Turning n f d x₀ x left → f x ≡ again y → less < left → Turning n f d x₀ y less
-  turn-on {x₀} {x} {y} {left} {less} t r h = go (t .fuel) (t .enough) (t .same)
-    where
-      go : (k : ℕ) → left < k → turns n f d x₀ ≡ turns k f d x → Turning n f d x₀ y less
-      go zero p q = let z : ⊥ = omega arith in absurd z
-      go (suc k) p q = record { fuel = k; enough = omega arith; same = q ∙ turns-again f k d x y r }
-
-  pub turn-end : {x₀ x : S} {left : ℕ} {v : A} → Turning n f d x₀ x left → f x ≡ stop v → turns n f d x₀ ≡ v
-  turn-end {x₀} {x} {left} {v} t r = go (t .fuel) (t .enough) (t .same)
-    where
-      go : (k : ℕ) → left < k → turns n f d x₀ ≡ turns k f d x → turns n f d x₀ ≡ v
-      go zero p q = let z : ⊥ = omega arith in absurd z
-      go (suc k) p q = q ∙ turns-stop f k d x v r

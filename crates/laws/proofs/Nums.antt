@@ -101,7 +101,8 @@ pub write : {w : Width} {z s : ℤ} {B : ℕ} → Num z s B → Held w (ofZ w z)
 write {w} x = record { is = ap (ofZ w) (x .is); bound = x .bound }
 
 -- `x << k`
-pub shift-left : {w : Width} {b : ℕ} {s : ℤ} {B : ℕ} (k : ℕ) → Held w b s B → T (ltb (B * 2 ^ k) (2 ^ hbits w)) → Held w (b * 2 ^ k % 2 ^ bits w) (s *ℤ pos (2 ^ k)) (B * 2 ^ k)
+pub shift-left : {w : Width} {b : ℕ} {s : ℤ} {B : ℕ} (k : ℕ) → Held w b s B → T (ltb (B * 2 ^ k) (2 ^ hbits w))
+    → Held w (b * 2 ^ k % 2 ^ bits w) (s *ℤ pos (2 ^ k)) (B * 2 ^ k)
 shift-left {w} {b} {s} {B} k x t =
     let l = ltb→lt (B * 2 ^ k) (2 ^ hbits w) t in
     let m = mul-le-mul-right (2 ^ k) (x .bound) in

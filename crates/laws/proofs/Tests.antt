@@ -10,6 +10,13 @@ pub by-case : {A : Type 0} (P : A → Type 0) (b : Bool) {x y : A} → (b ≡ tr
 by-case P true p q = p refl
 by-case P false p q = q refl
 
+-- the choice itself, where the outcome of the test is known
+pub if-yes : {A : Type 0} {t : Bool} {x v : A} (y : A) → t ≡ true → x ≡ v → cond t x y ≡ v
+if-yes y h e = rw h e
+
+pub if-no : {A : Type 0} {t : Bool} (x : A) {y v : A} → t ≡ false → y ≡ v → cond t x y ≡ v
+if-no x h e = rw h e
+
 pub both : (t u : Bool) → (t && u) ≡ true → (t ≡ true) × (u ≡ true)
 both t u = and-eq-true-iff t u .0
 

@@ -20,7 +20,8 @@ pub congruent-trans : {m : ℕ} {x y z : ℤ} → Congruent m x y → Congruent 
 congruent-trans {m} {x} {y} {z} c d =
     record {
       times = c .times +ℤ d .times;
-      is = eq-by (v x ⊖ v z) (m ⊛ (v (c .times) ⊕ v (d .times))) (omega (arith, eq-of (v x ⊖ v y) (m ⊛ v (c .times)) (c .is), eq-of (v y ⊖ v z) (m ⊛ v (d .times)) (d .is)));
+      is = eq-by (v x ⊖ v z) (m ⊛ (v (c .times) ⊕ v (d .times)))
+          (omega (arith, eq-of (v x ⊖ v y) (m ⊛ v (c .times)) (c .is), eq-of (v y ⊖ v z) (m ⊛ v (d .times)) (d .is)));
     }
 
 -- the same number added to both

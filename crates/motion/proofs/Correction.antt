@@ -11,7 +11,8 @@ use Rattle.motion.specs.Displacement.{InRange, corrected}
 use Rattle.motion.proofs.Congruence.{congruent-refl}
 
 -- what holds in each case holds of the correction: the sum is above the range, below it, or inside
-pub corrected-by : (f : ℕ) (z : ℤ) (P : ℤ → Type 0) → (16 * f + dn z ≤ up z → P (z -ℤ pos (32 * f))) → (up z + 16 * f < dn z → P (z +ℤ pos (32 * f)))
+pub corrected-by : (f : ℕ) (z : ℤ) (P : ℤ → Type 0) → (16 * f + dn z ≤ up z → P (z -ℤ pos (32 * f)))
+    → (up z + 16 * f < dn z → P (z +ℤ pos (32 * f)))
     → ((up z < 16 * f + dn z) × (dn z ≤ up z + 16 * f) → P z) → P (corrected f z)
 unfolding corrected
 corrected-by f z P above below inside = over (ltZ (pos (16 * f) -ℤ pos 1) z) refl
@@ -20,7 +21,8 @@ corrected-by f z P above below inside = over (ltZ (pos (16 * f) -ℤ pos 1) z) r
     under true e h = below (omega (arith, lt-yes (v z) (neg (lit (16 * f))) e))
     under false e h = inside (h, omega (arith, lt-no (v z) (neg (lit (16 * f))) e))
 
-    over : (t : Bool) → ltZ (pos (16 * f) -ℤ pos 1) z ≡ t → P (cond t (z -ℤ pos (32 * f)) (cond (ltZ z (negℤ (pos (16 * f)))) (z +ℤ pos (32 * f)) z))
+    over : (t : Bool) → ltZ (pos (16 * f) -ℤ pos 1) z ≡ t
+        → P (cond t (z -ℤ pos (32 * f)) (cond (ltZ z (negℤ (pos (16 * f)))) (z +ℤ pos (32 * f)) z))
     over true e = above (omega (arith, lt-yes (lit (16 * f) ⊖ lit 1) (v z) e))
     over false e = under (ltZ z (negℤ (pos (16 * f)))) refl (omega (arith, lt-no (lit (16 * f) ⊖ lit 1) (v z) e))
 

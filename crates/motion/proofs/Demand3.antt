@@ -25,8 +25,8 @@ use Rattle.motion.proofs.Ways
 --   D3.5  It is the only number of the range that does: `only-one`
 --   D3.6  It is ((start + S + 16 f) mod 32 f) - 16 f: `formula`. `remainder` is from 0 to 32 f - 1 (`remainder-below` of Congruence.antt)
 --   D3.7  Any other order gives the same component: `any-order`. A step is moved whole, with its stream and place
---   D3.8  From each number a of the range to each number b, a itself included, exactly one displacement from -16 f to 16 f leads (`one-way`), unless a and b are
---         16 f apart: then exactly -16 f and 16 f lead (`two-ways`)
+--   D3.8  From each number a of the range to each number b, a itself included, exactly one displacement from -16 f to 16 f leads (`one-way`), unless a and b
+--         are 16 f apart: then exactly -16 f and 16 f lead (`two-ways`)
 --   D3.9  One statement about the whole list, the empty one included: the record. One proof for all f: `demand3`, for r from 0 to 6
 pub record Demand3 (r : ℕ) (component : ℤ) (steps : List Step) : Type 0 where
   pub in-range : InRange (2 ^ r) (afterSteps r component steps)

@@ -15,10 +15,14 @@ at-most-one f {x} {y} i j c = go (c .times) (c .is)
     go : (k : ℤ) → x -ℤ y ≡ pos (32 * f) *ℤ k → x ≡ y
     go (pos zero) e = eq-by (v x) (v y) (omega (arith, eq-of (v x ⊖ v y) ((32 * f) ⊛ lit 0) e))
     go (pos (suc n)) e =
-        let z : ⊥ = omega (arith, eq-of (v x ⊖ v y) ((32 * f) ⊛ lit (suc n)) e, lt-of (v x) (lit (16 * f)) (i .high), le-of (neg (lit (16 * f))) (v y) (j .low)) in
+        let hi = lt-of (v x) (lit (16 * f)) (i .high) in
+        let lo = le-of (neg (lit (16 * f))) (v y) (j .low) in
+        let z : ⊥ = omega (arith, eq-of (v x ⊖ v y) ((32 * f) ⊛ lit (suc n)) e) in
         absurd z
     go (negsuc n) e =
-        let z : ⊥ = omega (arith, eq-of (v x ⊖ v y) ((32 * f) ⊛ v (negsuc n)) e, lt-of (v y) (lit (16 * f)) (j .high), le-of (neg (lit (16 * f))) (v x) (i .low)) in
+        let hi = lt-of (v y) (lit (16 * f)) (j .high) in
+        let lo = le-of (neg (lit (16 * f))) (v x) (i .low) in
+        let z : ⊥ = omega (arith, eq-of (v x ⊖ v y) ((32 * f) ⊛ v (negsuc n)) e) in
         absurd z
 
 -- and one: the remainder of z + 16 f on division by 32 f, less 16 f
@@ -37,5 +41,6 @@ middle-congruent f z h =
     let c = remainder-congruent (z +ℤ pos (16 * f)) (32 * f) (omega arith) in
     record {
       times = c .times;
-      is = eq-by ((lit r ⊖ lit (16 * f)) ⊖ v z) ((32 * f) ⊛ v (c .times)) (omega (arith, eq-of (lit r ⊖ (v z ⊕ lit (16 * f))) ((32 * f) ⊛ v (c .times)) (c .is)));
+      is = eq-by ((lit r ⊖ lit (16 * f)) ⊖ v z) ((32 * f) ⊛ v (c .times))
+          (omega (arith, eq-of (lit r ⊖ (v z ⊕ lit (16 * f))) ((32 * f) ⊛ v (c .times)) (c .is)));
     }

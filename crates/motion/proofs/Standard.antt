@@ -14,6 +14,7 @@ use Rattle.laws.proofs.Ints.{Dif, up, dn, v, lit, neg, as-dif, _⊕_, _⊖_, _�
 use Rattle.bits.specs.Bits.{got}
 use Rattle.bits.specs.Programs.{Prog, Out, done, run, bind, bits, eqZ}
 use Rattle.bits.proofs.Codes.{eqZ-no}
+use Rattle.bits.proofs.Gives.{g-bits}
 use Rattle.bits.proofs.Programs.{run-bind}
 use Rattle.codes.specs.Codes.{motion}
 use Rattle.motion.specs.Displacement.{InRange, displace, corrected}
@@ -21,7 +22,6 @@ use Rattle.motion.specs.Standard.{Right, complement, right, recon, recon
 use Rattle.motion.specs.Vector.{displacement, motionVector}
 use Rattle.motion.proofs.Correction.{corrected-by}
 use Rattle.motion.proofs.Displacement.{displace-up, displace-down, displace-none, displace-one}
-use Rattle.motion.proofs.OneStep.{residual-below}
 
 -- right_little and right_big where the code m says the displacement d: right_big is 32 f further to the other side
 abbrev sides : ℕ → ℤ → ℤ → Right
@@ -65,7 +65,8 @@ recon-is f prev d x e over less =
     rw e
     (corrected-by f z (λ y. cond (leZ z (pos (16 * f) -ℤ pos 1) && leZ (negℤ (pos (16 * f))) z) z (prev +ℤ x .big) ≡ y)
     (λ h. rw (no-le (v z) max (omega arith), over h) (eq-by (v prev ⊕ (v d ⊖ lit (32 * f))) (v prev ⊕ v d ⊖ lit (32 * f)) (omega arith)))
-    (λ h. rw (yes-le (v z) max (omega arith), no-le min (v z) (omega arith), less h) (eq-by (v prev ⊕ (v d ⊕ lit (32 * f))) (v prev ⊕ v d ⊕ lit (32 * f)) (omega arith)))
+    (λ h. rw (yes-le (v z) max (omega arith), no-le min (v z) (omega arith), less h)
+    (eq-by (v prev ⊕ (v d ⊕ lit (32 * f))) (v prev ⊕ v d ⊕ lit (32 * f)) (omega arith)))
     (λ h. rw (yes-le (v z) max (omega arith), yes-le min (v z) (omega arith))))
 
 -- for every code m, those from -16 to 16 among them, and every residual
@@ -76,7 +77,9 @@ standard f prev (pos zero) R i b =
     let hi = lt-of (v prev) (lit (16 * f)) (i .high) in
     let e = (v prev ⊕ lit 0) .dif in
     rw (zero-mul f)
-    (recon-is f prev (pos 0) (record { little = pos 0; big = pos 0 }) refl (λ h. let z : ⊥ = omega arith in absurd z) (λ h. let z : ⊥ = omega arith in absurd z))
+    (recon-is f prev (pos 0) (record { little = pos 0; big = pos 0 }) refl
+    (λ h. let z : ⊥ = omega arith in absurd z)
+    (λ h. let z : ⊥ = omega arith in absurd z))
 standard f prev (pos (suc k)) R i b =
     let m = pos (suc k) in
     let d = displace f m R in
@@ -117,12 +120,13 @@ module _ (r : ℕ) (prev : ℤ) (i : InRange (2 ^ r) prev) (s : List ℕ) where
   plain : (m : ℤ) (a : ℕ) → displace (2 ^ r) m 0 ≡ m → run (done (reconstructed (2 ^ r) prev m 0)) s a ≡ run (corrects r prev m) s a
   plain m a e = rw (standard (2 ^ r) prev m 0 i (pow-pos r), e)
 
-  same : (m : ℤ) (a : ℕ) (t u : Bool) → eqb r 0 ≡ t → eqZ m (pos 0) ≡ u → run (theirs r prev t u m) s a ≡ run (bind (ours r t u m) (corrects r prev)) s a
+  same : (m : ℤ) (a : ℕ) (t u : Bool) → eqb r 0 ≡ t → eqZ m (pos 0) ≡ u
+      → run (theirs r prev t u m) s a ≡ run (bind (ours r t u m) (corrects r prev)) s a
   unfolding run bind
   same m a true true p q = plain m a (displace-none (2 ^ r) 0 m (zero-of m q))
   same m a true false p q = plain m a (displace-one (2 ^ r) m (ap (λ (n : ℕ). 2 ^ n) (eqb-true r 0 p)))
   same m a false true p q = plain m a (displace-none (2 ^ r) 0 m (zero-of m q))
-  same m a false false p q = rw (standard (2 ^ r) prev m (got s a r) i (residual-below s a r))
+  same m a false false p q = rw (standard (2 ^ r) prev m (got s a r) i (g-bits r .value a))
 
   pub standard-step : (a : ℕ) → run (standardVector r prev) s a ≡ run (motionVector r prev) s a
   unfolding standardVector residual motionVector displacement

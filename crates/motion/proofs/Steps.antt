@@ -13,15 +13,15 @@ use Rattle.motion.specs.Steps.{Step, displacementOf, afterSteps, sumOf}
 use Rattle.motion.specs.Vector.{motionVector}
 use Rattle.motion.proofs.Congruence.{congruent-trans, congruent-plus}
 use Rattle.motion.proofs.Correction.{corrected-congruent, corrected-in}
-use Rattle.motion.proofs.OneStep.{displacement-small, step-is}
+use Rattle.motion.proofs.OneStep.{displacement-most, step-is}
 
 -- one step
 module _ (r : ℕ) (x : Step) where
-  pub displacementOf-small : natAbs (displacementOf r x) ≤ 16 * 2 ^ r
+  displacementOf-small : natAbs (displacementOf r x) ≤ 16 * 2 ^ r
   unfolding displacementOf
-  displacementOf-small = displacement-small r (x .stream) (x .place)
+  displacementOf-small = displacement-most r .value (x .place)
 
-  pub first-is : (a : ℤ) → run (motionVector r a) (x .stream) (x .place) .value ≡ corrected (2 ^ r) (a +ℤ displacementOf r x)
+  first-is : (a : ℤ) → run (motionVector r a) (x .stream) (x .place) .value ≡ corrected (2 ^ r) (a +ℤ displacementOf r x)
   unfolding displacementOf
   first-is a = step-is r a (x .stream) (x .place)
 
@@ -46,8 +46,10 @@ unfolding sumOf
 sum-permᴰ r List·Permᴰ·nil = refl
 sum-permᴰ r (List·Permᴰ·cons {a = a} {b = b} e d) = cc (sum-permᴰ r d)
 sum-permᴰ r (List·Permᴰ·swap {a = a} {b = b} {a′ = a′} {b′ = b′} {l = l} e₁ e₂) =
+    let us : (x : Step) → ℕ = λ x. up (displacementOf r x) in
+    let ds : (x : Step) → ℕ = λ x. dn (displacementOf r x) in
     eq-by (v (displacementOf r a) ⊕ (v (displacementOf r b) ⊕ v (sumOf r l))) (v (displacementOf r a′) ⊕ (v (displacementOf r b′) ⊕ v (sumOf r l)))
-    (omega (arith, ap (λ (x : Step). up (displacementOf r x)) e₁, ap (λ (x : Step). dn (displacementOf r x)) e₁, ap (λ (x : Step). up (displacementOf r x)) e₂, ap (λ (x : Step). dn (displacementOf r x)) e₂))
+    (omega (arith, ap us e₁, ap ds e₁, ap us e₂, ap ds e₂))
 sum-permᴰ r (List·Permᴰ·trans d₁ d₂) = sum-permᴰ r d₁ ∙ sum-permᴰ r d₂
 
 pub sum-perm : (r : ℕ) {xs ys : List Step} → Perm xs ys → sumOf r xs ≡ sumOf r ys

@@ -89,7 +89,8 @@ module _ (f : ℕ) (a b : ℤ) where
         is = eq-by (v d ⊖ v e) ((32 * f) ⊛ v (c .times)) (omega (arith, eq-of ((v a ⊕ v d) ⊖ (v a ⊕ v e)) ((32 * f) ⊛ v (c .times)) (c .is)));
       }
 
-  pub one-way : 0 < f → InRange f a → InRange f b → (natAbs (a -ℤ b) ≡ 16 * f → ⊥) → (d : ℤ) × Leads f a b d × ((e : ℤ) → Leads f a b e → e ≡ d)
+  pub one-way : 0 < f → InRange f a → InRange f b → (natAbs (a -ℤ b) ≡ 16 * f → ⊥) → (d : ℤ) × Leads f a b d
+      × ((e : ℤ) → Leads f a b e → e ≡ d)
   one-way p i j n = (d, l, λ e m. at-most-one f (leads-in i j n m) inside (both-lead m l))
     where
       d : ℤ
@@ -109,8 +110,12 @@ module _ (f : ℕ) (a b : ℤ) where
             is = eq-by ((v a ⊕ v d) ⊖ v b) ((32 * f) ⊛ v (c .times)) (omega (arith, eq-of (v d ⊖ (v b ⊖ v a)) ((32 * f) ⊛ v (c .times)) (c .is)));
           })
 
-  pub two-ways : InRange f a → InRange f b → natAbs (a -ℤ b) ≡ 16 * f → (d : ℤ) → Leads f a b d ↔ (d ≡ negℤ (pos (16 * f))) ⊎ (d ≡ pos (16 * f))
-  two-ways i j h d = (λ l. go (both-lead l up-leads .times) l (both-lead l up-leads .is), ⊎-elim (λ e. subst (Leads f a b) (sym e) down-leads) (λ e. subst (Leads f a b) (sym e) up-leads))
+  pub two-ways : InRange f a → InRange f b → natAbs (a -ℤ b) ≡ 16 * f → (d : ℤ)
+      → Leads f a b d ↔ (d ≡ negℤ (pos (16 * f))) ⊎ (d ≡ pos (16 * f))
+  two-ways i j h d = (
+    λ l. go (both-lead l up-leads .times) l (both-lead l up-leads .is),
+    ⊎-elim (λ e. subst (Leads f a b) (sym e) down-leads) (λ e. subst (Leads f a b) (sym e) up-leads),
+  )
     where
       up-leads : Leads f a b (pos (16 * f))
       up-leads = congruent-leads (pos (16 * f)) i j (omega arith) (apart-leads h)
@@ -122,4 +127,5 @@ module _ (f : ℕ) (a b : ℤ) where
       go (pos n) l e =
           inr (eq-by (v d) (lit (16 * f)) (omega (arith, le-of (v d) (lit (16 * f)) (l .high), eq-of (v d ⊖ lit (16 * f)) ((32 * f) ⊛ lit n) e)))
       go (negsuc n) l e =
-          inl (eq-by (v d) (neg (lit (16 * f))) (omega (arith, le-of (neg (lit (16 * f))) (v d) (l .low), eq-of (v d ⊖ lit (16 * f)) ((32 * f) ⊛ v (negsuc n)) e)))
+          inl (eq-by (v d) (neg (lit (16 * f)))
+          (omega (arith, le-of (neg (lit (16 * f))) (v d) (l .low), eq-of (v d ⊖ lit (16 * f)) ((32 * f) ⊛ v (negsuc n)) e)))

@@ -1,12 +1,12 @@
 // The step of a motion vector's component: the Rust's decode_motion_vector, with r for its r_size.
 use bits::reader::Reader;
-use codes::walk::read_vlc;
+use codes::codes::read_motion;
+use codes::lent::Tables;
 ghost use mathlib.Core.Path.{_≡_};
 ghost use Prim.Native.Nat.{_^_, _≤_, _<_};
 ghost use lib.IntN.{natAbs};
-ghost use lib.ListN.{length};
-ghost use Rattle.bits.specs.Runs.{Runs};
-ghost use Rattle.codes.specs.Tables.{motionIndex, motionValue};
+ghost use Rattle.bits.specs.Runs.{Inside, Reading};
+ghost use Rattle.codes.specs.Lent.{Lent};
 ghost use Rattle.motion.specs.Displacement.{InRange, displace, corrected};
 ghost use Rattle.motion.specs.Vector.{displacement, motionVector};
 
@@ -62,24 +62,16 @@ fn corrected(r: u32, motion: i32) -> i32
     motion
 }
 
-// The displacement at the reader's place: a code alone where it is 0 or r is 0, else with a residual of r bits (RULES 5.3, 5.4). The table
-// of the codes is lent, since a constant array is built anew at each use.
-fn read_displacement(
-    s: &[u8],
-    reader: Reader,
-    index: &[i16],
-    value: &[i16],
-    r: u32,
-) -> ReadDisplacement
-    requires { ⌜ reader .at .0 ≤ 134217728 ⌝ }
-    requires { ⌜ length (now s) ≤ 16777216 ⌝ }
-    requires { ⌜ (now index ≡ motionIndex) × (now value ≡ motionValue) ⌝ }
+// The displacement at the reader's place: a code alone where it is 0 or r is 0, else with a residual of r bits (RULES 5.3, 5.4).
+fn read_displacement(s: &[u8], reader: Reader, tables: &Tables, r: u32) -> ReadDisplacement
+    requires { ⌜ Inside (now s) reader ⌝ }
+    requires { ⌜ Lent (now tables) ⌝ }
     requires { ⌜ r ≤ 6 ⌝ }
-    ensures { λ d. ⌜ Runs (displacement r) (now (s .entry)) (reader .at .0) (d .value) (d .reader .at .0) ⌝ }
+    ensures { λ d. ⌜ Reading (displacement r) (now (s .entry)) reader (d .value) (d .reader) ⌝ }
 {
-    let code = read_vlc(s, reader, index, value);
+    let code = read_motion(s, reader, tables);
     let after = code.reader;
-    let m_code = code.value as i32;
+    let m_code = code.value;
     if m_code == 0 || r == 0 {
         return ReadDisplacement {
             reader: after,
@@ -95,25 +87,22 @@ fn read_displacement(
     }
 }
 
-// The component after a step (RULES 5.5). It is asked and promised to be within -1024..=1023, the range of f = 64, which is all that a record keeps to
-// (RULES Q2): the component may lie outside the range of this f.
+// The component after a step (RULES 5.5). It is asked to be within -1024..=1023, the range of f = 64, which is all that a record keeps to
+// (RULES Q2): it may lie outside the range of this f.
 pub fn decode_motion_vector(
     s: &[u8],
     reader: Reader,
-    index: &[i16],
-    value: &[i16],
+    tables: &Tables,
     r: u32,
     motion: i32,
 ) -> MotionVector
-    requires { ⌜ reader .at .0 ≤ 134217728 ⌝ }
-    requires { ⌜ length (now s) ≤ 16777216 ⌝ }
-    requires { ⌜ (now index ≡ motionIndex) × (now value ≡ motionValue) ⌝ }
+    requires { ⌜ Inside (now s) reader ⌝ }
+    requires { ⌜ Lent (now tables) ⌝ }
     requires { ⌜ r ≤ 6 ⌝ }
     requires { ⌜ InRange 64 motion ⌝ }
-    ensures { λ v. ⌜ Runs (motionVector r motion) (now (s .entry)) (reader .at .0) (v .motion) (v .reader .at .0) ⌝ }
-    ensures { λ v. ⌜ (v .reader .at .0 ≤ 134217728) × InRange 64 (v .motion) ⌝ }
+    ensures { λ v. ⌜ Reading (motionVector r motion) (now (s .entry)) reader (v .motion) (v .reader) ⌝ }
 {
-    let d = read_displacement(s, reader, index, value, r);
+    let d = read_displacement(s, reader, tables, r);
     let after = d.reader;
     let moved = corrected(r, motion + d.value);
     MotionVector {

@@ -9,7 +9,9 @@ use Rattle.laws.specs.Signed.{clamp255, odd}
 use Rattle.laws.specs.Stores.{storeRow, storeRows}
 use Rattle.bits.specs.Bits.{bitAt, bitsAt, got, next, codePrefix, codeFrom, found}
 use Rattle.bits.specs.Programs.{run, bind, loop}
-use Rattle.codes.specs.Tables.{macroblockAddressIncrementIndex, macroblockAddressIncrementValue, macroblockTypeIntraIndex, macroblockTypeIntraValue, macroblockTypePredictiveIndex, macroblockTypePredictiveValue, motionIndex, motionValue, dctSizeLuminanceIndex, dctSizeLuminanceValue, dctSizeChrominanceIndex, dctSizeChrominanceValue, dctCoeffIndex, dctCoeffValue}
+use Rattle.codes.specs.Tables.{macroblockAddressIncrementIndex, macroblockAddressIncrementValue, macroblockTypeIntraIndex, macroblockTypeIntraValue}
+use Rattle.codes.specs.Tables.{macroblockTypePredictiveIndex, macroblockTypePredictiveValue, motionIndex, motionValue, dctSizeLuminanceIndex}
+use Rattle.codes.specs.Tables.{dctSizeLuminanceValue, dctSizeChrominanceIndex, dctSizeChrominanceValue, dctCoeffIndex, dctCoeffValue}
 use Rattle.codes.specs.Walk.{walkTurn, walk, vlc}
 use Rattle.codes.specs.Codes as Codes
 use Rattle.codes.specs.Matrices.{downFrom, diagonals, zigZag, intraQuantMatrix, premultiplierMatrix}
@@ -18,10 +20,11 @@ use Rattle.motion.specs.Vector.{displacement, motionVector}
 use Rattle.coefficients.specs.Dcs as Dcs
 use Rattle.coefficients.specs.Coefficients as Coefficients
 use Rattle.coefficients.specs.Dequantise.{dequantised}
+use Rattle.coefficients.specs.Syntax as Syntax
 use Rattle.coefficients.specs.Blocks as Block
 use Rattle.transform.specs.Butterfly.{butterfly}
 use Rattle.transform.specs.Idct.{columns, rows, idct, dcOnly}
-use Rattle.prediction.specs.Predict.{way}
+use Rattle.prediction.specs.Predict.{fetch}
 use Rattle.prediction.specs.Planes.{follow, next as following, predictedPlanes}
 use Rattle.prediction.specs.Writers.{setConst, overwrite, blockPlace}
 use Rattle.picture.specs.Ways.{leave, onward, plain}
@@ -66,7 +69,8 @@ matrices = record { «intra_quant_matrix» = intraQuantMatrix; «non_intra_quant
 
 -- from behind the picture's start code on, up to the next one: DC 133 in the first macroblock, 128 in the second, with one more coefficient in its block 1
 abbrev stream : List ℕ
-stream = 0x00 ∷ 0x08 ∷ 0xff ∷ 0xf8 ∷ 0x00 ∷ 0x00 ∷ 0x01 ∷ 0x01 ∷ 0x0b ∷ 0xb6 ∷ 0x94 ∷ 0xa4 ∷ 0x45 ∷ 0xd5 ∷ 0x4d ∷ 0x4a ∷ 0x44 ∷ 0x40 ∷ 0x00 ∷ 0x00 ∷ 0x01 ∷ 0x00 ∷ 0x00 ∷ []
+stream = 0x00 ∷ 0x08 ∷ 0xff ∷ 0xf8 ∷ 0x00 ∷ 0x00 ∷ 0x01 ∷ 0x01 ∷ 0x0b ∷ 0xb6 ∷ 0x94 ∷ 0xa4 ∷ 0x45 ∷ 0xd5 ∷ 0x4d ∷ 0x4a ∷
+    0x44 ∷ 0x40 ∷ 0x00 ∷ 0x00 ∷ 0x01 ∷ 0x00 ∷ 0x00 ∷ []
 
 abbrev decoded : Out (Way P.Frame)
 decoded = run (P.picture sizes matrices fresh (replicate 2304 0)) stream 0
@@ -77,7 +81,14 @@ storeOf (out n l) = l
 
 -- the first row of plane Y in store 0
 pub row : take 32 (storeOf (decoded .value)) ≡ replicate 16 133 ++ replicate 16 128
-unfolding clamp255 odd storeRow storeRows bitAt bitsAt got next codePrefix codeFrom found run bind loop macroblockAddressIncrementIndex macroblockAddressIncrementValue macroblockTypeIntraIndex macroblockTypeIntraValue dctSizeLuminanceIndex dctSizeLuminanceValue dctSizeChrominanceIndex dctSizeChrominanceValue dctCoeffIndex dctCoeffValue walkTurn walk vlc Codes.macroblockAddressIncrement Codes.macroblockTypeIntra Codes.dctSizeLuminance Codes.dctSizeChrominance Codes.dctCoeff downFrom diagonals zigZag intraQuantMatrix premultiplierMatrix Dcs.dcSize Dcs.added Dcs.dc Coefficients.runLevel Coefficients.coefficient dequantised Block.coefficientTurn Block.coefficients Block.block Block.intraBlock Block.leftOver butterfly columns rows idct dcOnly setConst overwrite leave onward plain incrementTurn increment macroblockType scale head pattern blockPlace results written blockEnd oneBlock lastBlocks blocks advance predictUnlessIntra body firstOf laterOf macroblock extraTurn extra pastMacroblock sliceTurn slice P.pictureHeader P.pastSlice P.slicesTurn P.slices P.coded P.picture
+unfolding clamp255 odd storeRow storeRows bitAt bitsAt got next codePrefix codeFrom found run bind loop macroblockAddressIncrementIndex
+    macroblockAddressIncrementValue macroblockTypeIntraIndex macroblockTypeIntraValue dctSizeLuminanceIndex dctSizeLuminanceValue dctSizeChrominanceIndex
+    dctSizeChrominanceValue dctCoeffIndex dctCoeffValue walkTurn walk vlc Codes.macroblockAddressIncrement Codes.macroblockTypeIntra Codes.dctSizeLuminance
+    Codes.dctSizeChrominance Codes.dctCoeff downFrom diagonals zigZag intraQuantMatrix premultiplierMatrix Dcs.dcSize Dcs.added Dcs.dcDifference
+    Coefficients.runLevel Coefficients.coefficient dequantised Syntax.pairTurn Syntax.pairs Syntax.intraCoded Syntax.codedBlock Block.allPlaced
+    Block.reconstructed Block.block Block.leftOver butterfly columns rows idct dcOnly setConst overwrite leave onward plain incrementTurn increment
+    macroblockType scale head pattern blockPlace results written blockEnd oneBlock lastBlocks blocks advance predictUnlessIntra body firstOf laterOf
+    macroblock extraTurn extra pastMacroblock sliceTurn slice P.pictureHeader P.pastSlice P.slicesTurn P.slices P.coded P.picture
 row = refl
 
 abbrev one : Sizes
@@ -89,7 +100,11 @@ outside = 0x00 ∷ 0x0f ∷ 0xff ∷ 0xf8 ∷ 0x00 ∷ 0x00 ∷ 0x01 ∷ 0x01 �
 
 -- RULES Q8: the DC value is 128 + 255
 pub eight : run (P.picture one matrices fresh (replicate 1152 7)) outside 0 ≡ record { value = out 8 (replicate 1152 7); at = 87 }
-unfolding bitAt bitsAt got next codePrefix codeFrom found run bind loop macroblockAddressIncrementIndex macroblockAddressIncrementValue macroblockTypeIntraIndex macroblockTypeIntraValue dctSizeLuminanceIndex dctSizeLuminanceValue walkTurn walk vlc Codes.macroblockAddressIncrement Codes.macroblockTypeIntra Codes.dctSizeLuminance Dcs.dcSize Dcs.added Dcs.dc Block.block Block.intraBlock leave onward plain incrementTurn increment macroblockType scale head pattern blockEnd oneBlock lastBlocks blocks predictUnlessIntra body firstOf macroblock extraTurn extra pastMacroblock sliceTurn slice P.pictureHeader P.pastSlice P.slicesTurn P.slices P.coded P.picture
+unfolding bitAt bitsAt got next codePrefix codeFrom found run bind loop macroblockAddressIncrementIndex macroblockAddressIncrementValue
+    macroblockTypeIntraIndex macroblockTypeIntraValue dctSizeLuminanceIndex dctSizeLuminanceValue walkTurn walk vlc Codes.macroblockAddressIncrement
+    Codes.macroblockTypeIntra Codes.dctSizeLuminance Dcs.dcSize Dcs.added Dcs.dcDifference Syntax.intraCoded Syntax.codedBlock Block.reconstructed
+    Block.block leave onward plain incrementTurn increment macroblockType scale head pattern blockEnd oneBlock lastBlocks blocks predictUnlessIntra body
+    firstOf macroblock extraTurn extra pastMacroblock sliceTurn slice P.pictureHeader P.pastSlice P.slicesTurn P.slices P.coded P.picture
 eight = refl
 
 -- a P picture with f code 1 whose macroblock has the type 001, a forward vector, and the motion codes 010 and 1: (1, 0) in half samples
@@ -98,5 +113,9 @@ past = 0x00 ∷ 0x17 ∷ 0xff ∷ 0xf8 ∷ 0x80 ∷ 0x00 ∷ 0x00 ∷ 0x01 ∷ 0
 
 -- RULES Q9: the start 0 is max_address, and the half sample reaches 1 further
 pub nine : run (P.picture one matrices fresh (replicate 1152 7)) past 0 ≡ record { value = out 9 (replicate 1152 7); at = 86 }
-unfolding odd bitAt bitsAt got next codePrefix codeFrom found run bind loop macroblockAddressIncrementIndex macroblockAddressIncrementValue macroblockTypePredictiveIndex macroblockTypePredictiveValue motionIndex motionValue walkTurn walk vlc Codes.macroblockAddressIncrement Codes.macroblockTypePredictive Codes.motion displacement motionVector corrected way follow following predictedPlanes leave onward plain incrementTurn increment unlessRefused predictFrom predict macroblockType scale vector forward backward vectors head predictUnlessIntra body firstOf macroblock extraTurn extra pastMacroblock sliceTurn slice P.direction P.forwardHeader P.pictureHeader P.pastSlice P.slicesTurn P.slices P.coded P.picture
+unfolding odd bitAt bitsAt got next codePrefix codeFrom found run bind loop macroblockAddressIncrementIndex macroblockAddressIncrementValue
+    macroblockTypePredictiveIndex macroblockTypePredictiveValue motionIndex motionValue walkTurn walk vlc Codes.macroblockAddressIncrement
+    Codes.macroblockTypePredictive Codes.motion displacement motionVector corrected fetch follow following predictedPlanes leave onward plain incrementTurn
+    increment unlessRefused predictFrom predict macroblockType scale vector forward backward vectors head predictUnlessIntra body firstOf macroblock
+    extraTurn extra pastMacroblock sliceTurn slice P.direction P.forwardHeader P.pictureHeader P.pastSlice P.slicesTurn P.slices P.coded P.picture
 nine = refl

@@ -19,7 +19,10 @@ use Rattle.bits.specs.Programs.{Prog, nonZero, many, run}
 use Rattle.bits.proofs.Gives.{Gives, Turned, g-done, g-any, g-bind, g-if, g-loop, g-bits, g-start, g-as, g-when}
 use Rattle.laws.proofs.Tests.{by-case, both}
 use Rattle.coefficients.specs.Dcs.{dcInside}
+use Rattle.coefficients.specs.declared.quantiser.Quantiser.{Quantiser}
+use Rattle.coefficients.specs.Dequantise.{quantiser}
 use Rattle.coefficients.specs.Blocks as Block
+use Rattle.coefficients.proofs.Kept.{Kept, block-gives, left-bounded}
 use Rattle.coefficients.specs.declared.block.BlockEnd.{BlockEnd}
 use Rattle.coefficients.specs.declared.block.BlockEnd.the-variants.{Whole, Dropped, Outside}
 use Rattle.prediction.specs.declared.predict.Predicted.{Predicted}
@@ -43,7 +46,7 @@ use Rattle.picture.specs.Pictures as P
 use Rattle.picture.proofs.Increments.{increment-most}
 use Rattle.picture.proofs.Lengths.{planes-length, written-length}
 use Rattle.picture.proofs.Possible.{PossibleStores, PossibleSlice, PossiblePicture, between-of, between-by, picture-of, picture-by}
-use Rattle.picture.proofs.Syntax.{Kept, motions-kept, block-kept, still-kept, reset-kept, predictors-reset, head-gives, block-gives, left-bounded, header-gives}
+use Rattle.picture.proofs.Syntax.{motions-kept, block-kept, still-kept, reset-kept, predictors-reset, head-gives, header-gives}
 
 -- a way goes on with P, or leaves with 8 or 9 and a store of n numbers
 abbrev pub Ends : {A : Type 0} → ℕ → (A → Type 0) → Way A → Type 0
@@ -52,7 +55,8 @@ Ends n P (out k l) = ((k ≡ 8) ⊎ (k ≡ 9)) × (length l ≡ n)
 
 -- ---- rules
 
-also-ends : {A B : Type 0} (n : ℕ) (P : A → Type 0) (Q : B → Type 0) (w : Way A) (f : A → Way B) → Ends n P w → ((x : A) → P x → Ends n Q (f x)) → Ends n Q (also w f)
+also-ends : {A B : Type 0} (n : ℕ) (P : A → Type 0) (Q : B → Type 0) (w : Way A) (f : A → Way B) → Ends n P w
+    → ((x : A) → P x → Ends n Q (f x)) → Ends n Q (also w f)
 unfolding also
 also-ends n P Q (on x) f h k = k x h
 also-ends n P Q (out m l) f h k = h
@@ -62,17 +66,20 @@ ends-as n k (on x) h = k x h
 ends-as n k (out m l) h = h
 
 module _ {s : List ℕ} where
-  leave-gives : {A B : Type 0} {n : ℕ} {P : A → Type 0} {Q : B → Type 0} (f : A → Prog (Way B)) → ((x : A) → P x → Gives s (Ends n Q) (f x)) → (w : Way A) → Ends n P w → Gives s (Ends n Q) (leave f w)
+  leave-gives : {A B : Type 0} {n : ℕ} {P : A → Type 0} {Q : B → Type 0} (f : A → Prog (Way B)) → ((x : A) → P x → Gives s (Ends n Q) (f x))
+      → (w : Way A) → Ends n P w → Gives s (Ends n Q) (leave f w)
   unfolding leave
   leave-gives f k (on x) h = k x h
   leave-gives f k (out m l) h = g-done h
 
-  onward-gives : {A B : Type 0} {n : ℕ} {P : A → Type 0} {Q : B → Type 0} {p : Prog (Way A)} (f : A → Prog (Way B)) → Gives s (Ends n P) p → ((x : A) → P x → Gives s (Ends n Q) (f x))
+  onward-gives : {A B : Type 0} {n : ℕ} {P : A → Type 0} {Q : B → Type 0} {p : Prog (Way A)} (f : A → Prog (Way B)) → Gives s (Ends n P) p
+      → ((x : A) → P x → Gives s (Ends n Q) (f x))
       → Gives s (Ends n Q) (onward p f)
   unfolding onward
   onward-gives f g k = g-bind (leave f) g (leave-gives f k)
 
-  plain-gives : {A B : Type 0} {n : ℕ} {P : A → Type 0} {Q : B → Type 0} {p : Prog A} (f : A → Prog (Way B)) → Gives s P p → ((x : A) → P x → Gives s (Ends n Q) (f x))
+  plain-gives : {A B : Type 0} {n : ℕ} {P : A → Type 0} {Q : B → Type 0} {p : Prog A} (f : A → Prog (Way B)) → Gives s P p
+      → ((x : A) → P x → Gives s (Ends n Q) (f x))
       → Gives s (Ends n Q) (onward (plain p) f)
   unfolding plain
   plain-gives {n = n} {P = P} f g k = onward-gives {P = P} f (g-bind _ g (λ x h. g-done h)) k
@@ -97,7 +104,8 @@ refused-ends n o h = go (o .answer)
     go Done = h
     go Refused = (inr refl, h)
 
-from-ends : (n : ℕ) (g : Given) (address k : ℕ) (m : Motion) (interpolate : Bool) (l : List ℕ) → Long n l → Ends n (Long n) (predictFrom g address k m interpolate l)
+from-ends : (n : ℕ) (g : Given) (address k : ℕ) (m : Motion) (interpolate : Bool) (l : List ℕ) → Long n l
+    → Ends n (Long n) (predictFrom g address k m interpolate l)
 unfolding predictFrom
 from-ends n g address k m interpolate l e = refused-ends n _ (planes-length _ _ _ _ _ interpolate l ∙ e)
 
@@ -111,24 +119,27 @@ predict-ends : (n : ℕ) (g : Given) (address : ℕ) (s : Slice) (l : List ℕ) 
 unfolding predict
 predict-ends n g address s l e =
     by-case (Ends n (Long n)) (eqb (g .type) 3 && s .«motion_forward» .«is_set») (λ b. both-end n g address s l e) (λ b.
-    by-case (Ends n (Long n)) (eqb (g .type) 3) (λ b. from-ends n g address (g .stores .bwd) (s .«motion_backward») false l e) (λ b. from-ends n g address (g .stores .fwd) (s .«motion_forward») false l e))
+    by-case (Ends n (Long n)) (eqb (g .type) 3) (λ b. from-ends n g address (g .stores .bwd) (s .«motion_backward») false l e)
+    (λ b. from-ends n g address (g .stores .fwd) (s .«motion_forward») false l e))
 
 skipped-end : (n : ℕ) (g : Given) (s : Slice) (address k : ℕ) (l : List ℕ) → Long n l → Ends n (Long n) (predictSkipped g s address k l)
 unfolding predictSkipped
 skipped-end n g s address zero l e = e
-skipped-end n g s address (suc k) l e = also-ends n (Long n) (Long n) _ _ (predict-ends n g address s l e) (λ l₁ e₁. skipped-end n g s (address + 1) k l₁ e₁)
+skipped-end n g s address (suc k) l e = also-ends n (Long n) (Long n) _ _ (predict-ends n g address s l e)
+    (λ l₁ e₁. skipped-end n g s (address + 1) k l₁ e₁)
 
 -- ---- macroblocks
 
 -- what a picture's slices are read in: H says that the sizes are possible, and the stream one of bytes
-record Reading (H : Type 0) (s : List ℕ) (z : Sizes) : Type 0 where
+record Domain (H : Type 0) (s : List ℕ) (z : Sizes) : Type 0 where
   width : H → z .«mb_width» ≤ 256
   size : H → z .«mb_size» ≤ 65536
   stream : H → length s ≤ 16777216
   bytes : H → (k : ℕ) → getD s k 0 < 256
 
 -- a DC predictor is put in its place
-predictors-set : (d : List ℤ) (j : ℕ) (x : ℤ) → ((i : ℕ) → i < 3 → dcInside (getD d i (pos 0)) ≡ true) → dcInside x ≡ true → (i : ℕ) → i < 3 → dcInside (getD (set d j x) i (pos 0)) ≡ true
+predictors-set : (d : List ℤ) (j : ℕ) (x : ℤ) → ((i : ℕ) → i < 3 → dcInside (getD d i (pos 0)) ≡ true) → dcInside x ≡ true → (i : ℕ)
+    → i < 3 → dcInside (getD (set d j x) i (pos 0)) ≡ true
 predictors-set d j x h e i l = go (eqb i j) refl (decLt j (length d))
   where
     go : (t : Bool) → eqb i j ≡ t → Dec (j < length d) → dcInside (getD (set d j x) i (pos 0)) ≡ true
@@ -136,38 +147,44 @@ predictors-set d j x h e i l = go (eqb i j) refl (decLt j (length d))
     go true q (no k) = ap (λ (c : List ℤ). dcInside (getD c i (pos 0))) (set-out d j x (omega arith)) ∙ h i l
     go false q k = ap dcInside (getD-set-other d j i x (pos 0) (eqb-false i j q)) ∙ h i l
 
-module _ (H : Type 0) {s : List ℕ} (n : ℕ) (g : Given) (c : Reading H s (g .sizes)) where
+module _ (H : Type 0) {s : List ℕ} (n : ℕ) (g : Given) (c : Domain H s (g .sizes)) where
   -- a block: RULES Q8
-  end-ends : (intra : Bool) (number : ℕ) (w : World) (r : Block.Read) → WorldKept H n w → (H → Kept r) → Ends n (WorldKept H n) (blockEnd g intra number w r)
+  end-ends : (q : Quantiser) (number : ℕ) (w : World) (r : Block.Read) → WorldKept H n w → (H → Kept r)
+      → Ends n (WorldKept H n) (blockEnd g q number w r)
   unfolding blockEnd
-  end-ends intra number w r k i = go (r .end)
+  end-ends q number w r k i = go (r .end)
     where
-      next : H → PossibleSlice (behind number r (w .slice))
-      next η = block-kept (k .slice η) (predictors-set (w .slice .«dc_predictor») (predictorOf number) (r .predictor) (k .slice η .predictors) (i η .predictor)) (left-bounded r (i η .bounded))
+      next : H → PossibleSlice (behind q number r (w .slice))
+      next η =
+          block-kept (k .slice η) (predictors-set (w .slice .«dc_predictor») (predictorOf number) (r .predictor) (k .slice η .predictors) (i η .predictor))
+          (left-bounded q r (i η .bounded))
 
       go : (e : BlockEnd) → Ends n (WorldKept H n) (elim e as (λ x. Way World) [
-        | Whole ↦ on (world (behind number r (w .slice)) (written g intra number (natAbs (w .slice .«macroblock_address»)) r (w .store)))
-        | Dropped ↦ on (world (behind number r (w .slice)) (w .store))
+        | Whole ↦ on (world (behind q number r (w .slice)) (written g q number (natAbs (w .slice .«macroblock_address»)) r (w .store)))
+        | Dropped ↦ on (world (behind q number r (w .slice)) (w .store))
         | Outside ↦ out 8 (w .store)
       ])
-      go Whole = record { slice = next; store = written-length g intra number _ r (w .store) ∙ k .store }
+      go Whole = record { slice = next; store = written-length g q number _ r (w .store) ∙ k .store }
       go Dropped = record { slice = next; store = k .store }
       go Outside = (inl refl, k .store)
 
   block-ends : (intra : Bool) (number : ℕ) (w : World) → number ≤ 5 → WorldKept H n w → Gives s (Ends n (WorldKept H n)) (oneBlock g intra number w)
   unfolding oneBlock
   block-ends intra number w h k =
-      plain-gives {P = λ r. H → Kept r} _ (g-when H (λ η. block-gives _ _ _ _ (k .slice η .predictors (predictorOf number) (omega arith)) (k .slice η .block)))
-      (λ r i. g-done (end-ends intra number w r k i))
+      plain-gives {P = λ r. H → Kept r} _
+      (g-when H (λ η. block-gives _ _ _ _ (k .slice η .predictors (predictorOf number) (omega arith)) (k .slice η .block) _))
+      (λ r i. g-done (end-ends (quantiser intra (w .slice .«quantizer_scale»)) number w r k i))
 
   last-end : (intra : Bool) (pattern m : ℕ) (w : World) → WorldKept H n w → Gives s (Ends n (WorldKept H n)) (lastBlocks g intra pattern m w)
   unfolding lastBlocks
   last-end intra pattern zero w k = g-done k
   last-end intra pattern (suc m) w k =
-      onward-gives {P = WorldKept H n} _ (g-if (flag pattern (2 ^ m)) (λ e. block-ends intra (5 - m) w (omega arith) k) (λ e. g-done k)) (λ x i. last-end intra pattern m x i)
+      onward-gives {P = WorldKept H n} _ (g-if (flag pattern (2 ^ m)) (λ e. block-ends intra (5 - m) w (omega arith) k) (λ e. g-done k))
+      (λ x i. last-end intra pattern m x i)
 
   -- the address goes on by i
-  further-kept : (i : ℕ) (w : World) → WorldKept H n w → (H → up (w .slice .«macroblock_address») + i ≤ dn (w .slice .«macroblock_address») + 402700000) → WorldKept H n (further i w)
+  further-kept : (i : ℕ) (w : World) → WorldKept H n w
+      → (H → up (w .slice .«macroblock_address») + i ≤ dn (w .slice .«macroblock_address») + 402700000) → WorldKept H n (further i w)
   further-kept i w k h = record {
     slice = λ η.
         let p = k .slice η in
@@ -192,14 +209,16 @@ module _ (H : Type 0) {s : List ℕ} (n : ℕ) (g : Given) (c : Reading H s (g .
   unfolding skipReset
   skip-address x = by-case (λ (y : Slice). y .«macroblock_address» ≡ x .«macroblock_address») (eqb (g .type) 2) (λ e. refl) (λ e. refl)
 
-  advance-ends : (i : ℕ) (w : World) → WorldKept H n w → leZ (pos (g .sizes .«mb_size»)) (w .slice .«macroblock_address» +ℤ pos i) ≡ false → Ends n (WorldKept H n) (advance g i w)
+  advance-ends : (i : ℕ) (w : World) → WorldKept H n w → leZ (pos (g .sizes .«mb_size»)) (w .slice .«macroblock_address» +ℤ pos i) ≡ false
+      → Ends n (WorldKept H n) (advance g i w)
   unfolding advance
   advance-ends i w k h =
       let a = w .slice .«macroblock_address» in
       let q = le-no (lit (g .sizes .«mb_size»)) (v a ⊕ lit i) h in
       by-case (Ends n (WorldKept H n)) (ltb i 2) (λ e. further-kept 1 w k (λ η. omega (arith, c .size η))) (λ e.
       also-ends n (Long n) (WorldKept H n) _ _ (skipped-end n g _ _ _ _ (k .store)) (λ l j.
-      further-kept i (world (skipReset g (w .slice)) l) (record { slice = λ η. skip-kept (k .slice η); store = j }) (λ η. rw (skip-address (w .slice)) (omega (arith, c .size η)))))
+      further-kept i (world (skipReset g (w .slice)) l) (record { slice = λ η. skip-kept (k .slice η); store = j })
+      (λ η. rw (skip-address (w .slice)) (omega (arith, c .size η)))))
 
   unless-ends : (t : ℕ) (w : World) → Long n (w .store) → Ends n (Long n) (predictUnlessIntra g t w)
   unfolding predictUnlessIntra
@@ -213,13 +232,15 @@ module _ (H : Type 0) {s : List ℕ} (n : ℕ) (g : Given) (c : Reading H s (g .
       onward-gives {P = Long n} _ (g-done (unless-ends t (world x (w .store)) (k .store))) (λ l e.
       plain-gives _ (g-any (pattern t)) (λ q u. last-end (isIntra t) q 6 (world x l) (record { slice = i; store = e })))))
 
-  macroblock-ends : (first : Bool) (w : World) → WorldKept H n w → (first ≡ true → H → up (w .slice .«macroblock_address») ≤ dn (w .slice .«macroblock_address») + 44543)
+  macroblock-ends : (first : Bool) (w : World) → WorldKept H n w
+      → (first ≡ true → H → up (w .slice .«macroblock_address») ≤ dn (w .slice .«macroblock_address») + 44543)
       → Gives s (Ends n (WorldKept H n)) (macroblock g first w)
   unfolding macroblock firstOf laterOf
   macroblock-ends first w k h =
       plain-gives _ (increment-most s) (λ i m.
       g-if first
-      (λ e. let next = further-kept i w k (λ η. omega (arith, h e η, c .stream η)) in g-if (nowhere g (further i w)) (λ e. g-done next) (λ e. body-ends (further i w) next))
+      (λ e. let next = further-kept i w k (λ η. omega (arith, h e η, c .stream η)) in g-if (nowhere g (further i w)) (λ e. g-done next)
+      (λ e. body-ends (further i w) next))
       (λ e. g-if (leZ (pos (g .sizes .«mb_size»)) (w .slice .«macroblock_address» +ℤ pos i)) (λ e. g-done k)
       (λ e. onward-gives {P = WorldKept H n} _ (g-done (advance-ends i w k e)) (λ x j. body-ends x j))))
 
@@ -236,7 +257,8 @@ module _ (H : Type 0) {s : List ℕ} (n : ℕ) (g : Given) (c : Reading H s (g .
       g-if (isLast g w) (λ e. g-done h) (λ e.
       g-bind _ (g-any (nonZero 23)) (λ more u. g-if more (λ e. g-done (record { world = h; first = λ e. absurd (false≢true e) })) (λ e. g-done h)))
 
-  start-kept : (number q : ℕ) (w : World) → number ≤ 175 → q ≤ 31 → WorldKept H n w → SlicingKept (slicing true (world (sliceStart g number q (w .slice)) (w .store)))
+  start-kept : (number q : ℕ) (w : World) → number ≤ 175 → q ≤ 31 → WorldKept H n w
+      → SlicingKept (slicing true (world (sliceStart g number q (w .slice)) (w .store)))
   start-kept number q w h j k =
       let a = lit ((number - 1) * g .sizes .«mb_width») ⊖ lit 1 in
       let m : number - 1 ≤ 174 = omega arith in
@@ -261,7 +283,8 @@ module _ (H : Type 0) {s : List ℕ} (n : ℕ) (g : Given) (c : Reading H s (g .
   unfolding slice sliceTurn
   slice-ends number w h k =
       g-bind _ (g-bits 5) (λ q j. g-bind _ (g-any extra) (λ u i.
-      g-loop SlicingKept many _ _ (λ x i. g-bind _ (macroblock-ends (x .first) (x .world) (i .world) (i .first)) past-gives) k _ (start-kept number q w h (omega arith) k)))
+      g-loop SlicingKept many _ _ (λ x i. g-bind _ (macroblock-ends (x .first) (x .world) (i .world) (i .first)) past-gives) k _
+      (start-kept number q w h (omega arith) k)))
 
 -- ---- pictures
 
@@ -280,14 +303,16 @@ record FrameKept (H : Type 0) (n : ℕ) (t : Stores) (f : P.Frame) : Type 0 wher
   stores : f .picture .stores ≡ t
   store : length (f .store) ≡ n
 
-module _ (H : Type 0) {s : List ℕ} (n : ℕ) (g : Given) (c : Reading H s (g .sizes)) (t : Stores) where
+module _ (H : Type 0) {s : List ℕ} (n : ℕ) (g : Given) (c : Domain H s (g .sizes)) (t : Stores) where
   abbrev SlicesKept : P.Slices → Type 0
   SlicesKept x = FrameKept H n t (x .frame)
 
-  code-kept : {f : P.Frame} (k : ℤ) → FrameKept H n t f → (H → (leZ (negsuc 0) k ≡ true) × (leZ k (pos 255) ≡ true)) → FrameKept H n t (P.frame (startCodeAs k (f .picture)) (f .store))
+  code-kept : {f : P.Frame} (k : ℤ) → FrameKept H n t f → (H → (leZ (negsuc 0) k ≡ true) × (leZ k (pos 255) ≡ true))
+      → FrameKept H n t (P.frame (startCodeAs k (f .picture)) (f .store))
   code-kept k i h = record { type = i .type; code = λ η. rw (h η .0) (h η .1); slice = i .slice; stores = i .stores; store = i .store }
 
-  slice-past : (p : Picture) (w : Way World) → ((w : World) → WorldKept H n w → FrameKept H n t (P.frame (sliceAs (w .slice) p) (w .store))) → Ends n (WorldKept H n) w
+  slice-past : (p : Picture) (w : Way World) → ((w : World) → WorldKept H n w → FrameKept H n t (P.frame (sliceAs (w .slice) p) (w .store)))
+      → Ends n (WorldKept H n) w
       → Gives s (Turned SlicesKept (Ends n (FrameKept H n t))) (P.pastSlice g p w)
   unfolding P.pastSlice
   slice-past p (out m l) k h = g-done h
@@ -316,15 +341,33 @@ record PictureKept (H : Type 0) (n : ℕ) (f : P.Frame) : Type 0 where
 after-kept : {t : Stores} → PossibleStores t → PossibleStores (P.after t)
 after-kept k = record { cur = k .fwd; fwd = k .bwd; bwd = k .cur; cur-fwd = k .fwd-bwd; cur-bwd = λ e. k .cur-fwd (sym e); fwd-bwd = λ e. k .cur-bwd (sym e) }
 
-module _ (H : Type 0) {s : List ℕ} (z : Sizes) (c : Reading H s z) (m : Matrices) (n : ℕ) where
+module _ (H : Type 0) {s : List ℕ} (z : Sizes) (c : Domain H s z) (m : Matrices) (n : ℕ) where
   coded-ends : (p : Picture) (l : List ℕ) → (H → PossiblePicture p) → length l ≡ n → Gives s (Ends n (PictureKept H n)) (P.coded z m p l)
   unfolding P.coded
   coded-ends p l k e =
       g-if (eqb (p .«picture_type») 3)
-      (λ b. g-as (ends-as n (λ f i. record { picture = λ η. record { type = i .type η; code = i .code η; stores = subst PossibleStores (sym (i .stores)) (k η .stores); slice = i .slice η }; store = i .store }))
+      (λ b. g-as
+      (ends-as n
+      (λ f i. record {
+        picture =
+            λ η. record {
+              type = i .type η;
+              code = i .code η;
+              stores = subst PossibleStores (sym (i .stores)) (k η .stores);
+              slice =
+                  i .slice η;
+            };
+        store = i .store;
+      }))
       (slices-end H n (P.given z m p) c (p .stores) (P.frame p l) (begin (p .stores))))
-      (λ b. onward-gives {P = FrameKept H n (P.before (p .stores))} _ (slices-end H n (P.given z m (storesAs (P.before (p .stores)) p)) c (P.before (p .stores)) _ (begin (P.before (p .stores))))
-      (λ f i. g-done (record { picture = λ η. record { type = i .type η; code = i .code η; stores = after-kept (k η .stores); slice = i .slice η }; store = i .store })))
+      (λ b. onward-gives {P = FrameKept H n (P.before (p .stores))} _
+      (slices-end H n (P.given z m (storesAs (P.before (p .stores)) p)) c (P.before (p .stores)) _ (begin (P.before (p .stores))))
+      (λ f i. g-done
+      (record {
+        picture = λ η. record { type = i .type η; code = i .code η; stores = after-kept (k η .stores); slice = i .slice η };
+        store =
+            i .store;
+      })))
     where
       begin : (t : Stores) → FrameKept H n t (P.frame (storesAs t p) l)
       begin t = record { type = λ η. k η .type; code = λ η. k η .code; slice = λ η. k η .slice; stores = refl; store = e }
@@ -342,7 +385,8 @@ SameLength l f = length (f .store) ≡ length l
 pub picture-leaves : (z : Sizes) (m : Matrices) (p : Picture) (l s : List ℕ) (a : ℕ) → Ends (length l) (SameLength l) (run (P.picture z m p l) s a .value)
 picture-leaves z m p l s a =
     g-as (ends-as (length l) {P = PictureKept ⊥ (length l)} {Q = SameLength l} (λ f i. i .store))
-    (picture-ends ⊥ {s = s} z (record { width = λ η. absurd η; size = λ η. absurd η; stream = λ η. absurd η; bytes = λ η. absurd η }) m (length l) p l (λ η. absurd η) refl)
+    (picture-ends ⊥ {s = s} z (record { width = λ η. absurd η; size = λ η. absurd η; stream = λ η. absurd η; bytes = λ η. absurd η }) m
+    (length l) p l (λ η. absurd η) refl)
     .value a
 
 -- RULES Q2: on a stream of bytes, and with sizes that a header can say, it leaves a possible state possible
@@ -350,9 +394,14 @@ pub record StaysPossible (l : List ℕ) (f : P.Frame) : Type 0 where
   pub picture : possiblePicture (f .picture) ≡ true
   pub store : length (f .store) ≡ length l
 
-pub picture-kept : (z : Sizes) (m : Matrices) (p : Picture) (l s : List ℕ) (a : ℕ) → z .«mb_width» ≤ 256 → z .«mb_height» ≤ 256 → z .«mb_size» ≡ z .«mb_width» * z .«mb_height»
-    → possiblePicture p ≡ true → length s ≤ 16777216 → ((k : ℕ) → getD s k 0 < 256) → Ends (length l) (StaysPossible l) (run (P.picture z m p l) s a .value)
+pub picture-kept : (z : Sizes) (m : Matrices) (p : Picture) (l s : List ℕ) (a : ℕ) → z .«mb_width» ≤ 256 → z .«mb_height» ≤ 256
+    → z .«mb_size» ≡ z .«mb_width» * z .«mb_height»
+    → possiblePicture p ≡ true → length s ≤ 16777216 → ((k : ℕ) → getD s k 0 < 256)
+    → Ends (length l) (StaysPossible l) (run (P.picture z m p l) s a .value)
 picture-kept z m p l s a w h e k most bytes =
-    g-as (ends-as (length l) {P = PictureKept (Unit {0}) (length l)} {Q = StaysPossible l} (λ f i. record { picture = picture-by (i .picture tt); store = i .store }))
-    (picture-ends (Unit {0}) {s = s} z (record { width = λ η. w; size = λ η. omega (arith, e, mul-le-mul w h); stream = λ η. most; bytes = λ η. bytes }) m (length l) p l (λ η. picture-of p k) refl)
+    g-as (ends-as (length l) {P = PictureKept (Unit {0}) (length l)} {Q = StaysPossible l}
+    (λ f i. record { picture = picture-by (i .picture tt); store = i .store }))
+    (picture-ends (Unit {0}) {s = s} z
+    (record { width = λ η. w; size = λ η. omega (arith, e, mul-le-mul w h); stream = λ η. most; bytes = λ η. bytes }) m (length l) p l
+    (λ η. picture-of p k) refl)
     .value a

@@ -3,20 +3,20 @@ use mathlib.Core.Path.{_≡_, refl, _∙_}
 use mathlib.Core.Bool.{Bool}
 use mathlib.Core.List.{List}
 use Prim.Native.Nat.{ℕ}
-use lib.Dec.{eqb}
 use lib.IntN.{ℤ}
 use lib.ListN.{length}
 use borrow.Rule.Slice.PartMut.{midOf, same-len-mid}
 use Rattle.laws.proofs.Lists.{length-rows}
 use Rattle.laws.proofs.Tests.{by-case}
-use Rattle.coefficients.specs.Blocks.{Read}
+use Rattle.coefficients.specs.declared.quantiser.Quantiser.{Quantiser}
+use Rattle.coefficients.specs.Blocks.{Filled, Read, firstOnly}
 use Rattle.prediction.specs.declared.place.Macroblock.{Macroblock}
 use Rattle.prediction.specs.declared.place.Place.{Place}
-use Rattle.prediction.specs.declared.place.Way.{Way}
-use Rattle.prediction.specs.declared.place.Way.the-variants.{Alone, Past, Copied}
+use Rattle.prediction.specs.declared.place.Fetch.{Fetch}
+use Rattle.prediction.specs.declared.place.Fetch.the-variants.{Alone, Past, Copied}
 use Rattle.prediction.specs.declared.predict.Predicted.{Predicted}
 use Rattle.prediction.specs.declared.predict.Predicted.the-variants.{Done, Refused}
-use Rattle.prediction.specs.Predict.{macroblockAt, bytes, way, predicted, address, width}
+use Rattle.prediction.specs.Predict.{macroblockAt, bytes, fetch, predicted, address, width}
 use Rattle.prediction.specs.Planes.{After, planeOf, planeLength, planeStart, follow, inPlane, next, predictedPlanes}
 use Rattle.prediction.specs.Writers.{setConst, overwrite, addConst, addBlock, blockWidth, blockPlace}
 use Rattle.picture.specs.State.{Given}
@@ -28,7 +28,8 @@ predicted-length : (p : Place) (x d : List ℕ) (h v : ℤ) (interpolate : Bool)
 unfolding predicted
 predicted-length p x d h v interpolate from = length-rows d (address p) (width p) (p .size) _ (p .size)
 
-follow-length : (w : Way) (p : Place) (from to : ℕ) (h v : ℤ) (interpolate : Bool) (l : List ℕ) → length (follow w p from to h v interpolate l .store) ≡ length l
+follow-length : (w : Fetch) (p : Place) (from to : ℕ) (h v : ℤ) (interpolate : Bool) (l : List ℕ)
+    → length (follow w p from to h v interpolate l .store) ≡ length l
 unfolding follow
 follow-length Alone p from to h v interpolate l = refl
 follow-length Past p from to h v interpolate l = refl
@@ -37,7 +38,8 @@ follow-length (Copied a) p from to h v interpolate l =
     let source = midOf from (bytes p) l in
     same-len-mid to (bytes p) l (predicted p source before h v interpolate a) (predicted-length p source before h v interpolate a)
 
-next-length : {n : ℕ} (o : After) (f : List ℕ → After) → length (o .store) ≡ n → ((l : List ℕ) → length l ≡ n → length (f l .store) ≡ n) → length (next o f .store) ≡ n
+next-length : {n : ℕ} (o : After) (f : List ℕ → After) → length (o .store) ≡ n
+    → ((l : List ℕ) → length l ≡ n → length (f l .store) ≡ n) → length (next o f .store) ≡ n
 unfolding next
 next-length {n} o f e k = go (o .answer)
   where
@@ -45,28 +47,29 @@ next-length {n} o f e k = go (o .answer)
     go Done = k (o .store) e
     go Refused = e
 
-pub planes-length : (m : Macroblock) (from to : ℕ) (h v : ℤ) (interpolate : Bool) (l : List ℕ) → length (predictedPlanes m from to h v interpolate l .store) ≡ length l
+pub planes-length : (m : Macroblock) (from to : ℕ) (h v : ℤ) (interpolate : Bool) (l : List ℕ)
+    → length (predictedPlanes m from to h v interpolate l .store) ≡ length l
 unfolding predictedPlanes
 planes-length m from to h v interpolate l =
     next-length _ _ (plane _ _ _ _ _ l) (λ l₁ e₁. next-length _ _ (plane _ _ _ _ _ l₁ ∙ e₁) (λ l₂ e₂. plane _ _ _ _ _ l₂ ∙ e₂))
   where
     plane : (p : Place) (from to : ℕ) (h v : ℤ) (l : List ℕ) → length (inPlane p from to h v interpolate l .store) ≡ length l
-    plane p from to h v l = follow-length (way p h v) p from to h v interpolate l
+    plane p from to h v l = follow-length (fetch p h v) p from to h v interpolate l
 
 -- ---- a block's results
 
-results-length : (intra : Bool) (n : ℕ) (c : List ℤ) (di dw : ℕ) (d : List ℕ) → length (results intra n c di dw d) ≡ length d
+results-length : (q : Quantiser) (f : Filled) (di dw : ℕ) (d : List ℕ) → length (results q f di dw d) ≡ length d
 unfolding results setConst addConst overwrite addBlock
-results-length intra n c di dw d =
-    by-case (λ (l : List ℕ). length l ≡ length d) (eqb n 1)
-    (λ e. by-case (λ (l : List ℕ). length l ≡ length d) intra (λ e. length-rows d di dw 8 _ 8) (λ e. length-rows d di dw 8 _ 8))
-    (λ e. by-case (λ (l : List ℕ). length l ≡ length d) intra (λ e. length-rows d di dw 8 _ 8) (λ e. length-rows d di dw 8 _ 8))
+results-length q f di dw d =
+    by-case (λ (l : List ℕ). length l ≡ length d) (firstOnly q f)
+    (λ e. by-case (λ (l : List ℕ). length l ≡ length d) (q .intra) (λ e. length-rows d di dw 8 _ 8) (λ e. length-rows d di dw 8 _ 8))
+    (λ e. by-case (λ (l : List ℕ). length l ≡ length d) (q .intra) (λ e. length-rows d di dw 8 _ 8) (λ e. length-rows d di dw 8 _ 8))
 
-pub written-length : (g : Given) (intra : Bool) (number address : ℕ) (r : Read) (l : List ℕ) → length (written g intra number address r l) ≡ length l
+pub written-length : (g : Given) (q : Quantiser) (number address : ℕ) (r : Read) (l : List ℕ) → length (written g q number address r l) ≡ length l
 unfolding written
-written-length g intra number address r l =
+written-length g q number address r l =
     let start = planeStart (g .stores .cur) (planeOf number) (g .sizes .«mb_size») in
     let size = planeLength (planeOf number) (g .sizes .«mb_size») in
     let m = macroblockAt (g .sizes .«mb_width») (g .sizes .«mb_height») address in
-    same-len-mid start size l (results intra (r .filled .n) (r .filled .coefficients) (blockPlace m number) (blockWidth m number) (midOf start size l))
-    (results-length intra (r .filled .n) (r .filled .coefficients) (blockPlace m number) (blockWidth m number) (midOf start size l))
+    same-len-mid start size l (results q (r .filled) (blockPlace m number) (blockWidth m number) (midOf start size l))
+    (results-length q (r .filled) (blockPlace m number) (blockWidth m number) (midOf start size l))

@@ -60,7 +60,8 @@ takes-if false h g = g
 direction-takes : (m : Motion) → Takes 4 (P.direction m)
 unfolding P.direction
 direction-takes m =
-    takes-bind {n = 1} {m = 3} (bits 1) _ takes-bits (λ full. takes-bind {n = 3} {m = 0} (bits 3) _ takes-bits (λ f. takes-if (eqb f 0) takes-done takes-done) (omega arith)) (omega arith)
+    takes-bind {n = 1} {m = 3} (bits 1) _ takes-bits
+    (λ full. takes-bind {n = 3} {m = 0} (bits 3) _ takes-bits (λ f. takes-if (eqb f 0) takes-done takes-done) (omega arith)) (omega arith)
 
 backward-takes : (p : Picture) → Takes 4 (P.backwardHeader p)
 unfolding P.backwardHeader
@@ -69,7 +70,8 @@ backward-takes p = takes-bind {n = 4} {m = 0} (P.direction _) _ (direction-takes
 forward-takes : (p : Picture) → Takes 8 (P.forwardHeader p)
 unfolding P.forwardHeader
 forward-takes p =
-    takes-bind {n = 4} {m = 4} (P.direction _) _ (direction-takes _) (λ f. takes-if (f .decoded && eqb (p .«picture_type») 3) (backward-takes _) takes-done) (omega arith)
+    takes-bind {n = 4} {m = 4} (P.direction _) _ (direction-takes _)
+    (λ f. takes-if (f .decoded && eqb (p .«picture_type») 3) (backward-takes _) takes-done) (omega arith)
 
 header-takes : (p : Picture) → Takes 37 (P.pictureHeader p)
 unfolding P.pictureHeader
@@ -90,11 +92,13 @@ comes-here {s = s} {a} {p} = record { least = run-on p s a }
 comes-first : {A B : Type 0} {s : List ℕ} {a b : ℕ} (p : Prog A) (f : A → Prog B) → Comes s a b p → Comes s a b (bind p f)
 comes-first {s = s} {a} p f c = record { least = rw (run-bind p f s a) (omega (arith, c .least, run-on (f (run p s a .value)) s (run p s a .at))) }
 
-comes-skips : {A : Type 0} {s : List ℕ} {a b : ℕ} (n : ℕ) (f : Unit {0} → Prog A) → a + n ≤ length s * 8 → Comes s (a + n) b (f tt) → Comes s a b (bind (skips n) f)
+comes-skips : {A : Type 0} {s : List ℕ} {a b : ℕ} (n : ℕ) (f : Unit {0} → Prog A) → a + n ≤ length s * 8 → Comes s (a + n) b (f tt)
+    → Comes s a b (bind (skips n) f)
 unfolding run bind
 comes-skips {s = s} {a} {b} n f h c = record { least = rw (served-next s a n h) (c .least) }
 
-comes-bits : {A : Type 0} {s : List ℕ} {a b : ℕ} (n : ℕ) (f : ℕ → Prog A) → a + n ≤ length s * 8 → ((x : ℕ) → Comes s (a + n) b (f x)) → Comes s a b (bind (bits n) f)
+comes-bits : {A : Type 0} {s : List ℕ} {a b : ℕ} (n : ℕ) (f : ℕ → Prog A) → a + n ≤ length s * 8 → ((x : ℕ) → Comes s (a + n) b (f x))
+    → Comes s a b (bind (bits n) f)
 unfolding run bind
 comes-bits {s = s} {a} {b} n f h c = record { least = rw (served-next s a n h) (c (got s a n) .least) }
 
@@ -102,7 +106,8 @@ header-comes : (p : Picture) (s : List ℕ) (a : ℕ) → a + 29 ≤ length s * 
 unfolding P.pictureHeader
 header-comes p s a h = comes-skips 10 _ (omega arith) (comes-bits 3 _ (omega arith) (λ type. comes-skips 16 _ (omega arith) comes-here))
 
-pub picture-past : (z : Sizes) (m : Matrices) (p : Picture) (l s : List ℕ) (a : ℕ) → a + 29 ≤ length s * 8 → a + 29 ≤ run (P.picture z m p l) s a .at
+pub picture-past : (z : Sizes) (m : Matrices) (p : Picture) (l s : List ℕ) (a : ℕ) → a + 29 ≤ length s * 8
+    → a + 29 ≤ run (P.picture z m p l) s a .at
 unfolding P.picture
 picture-past z m p l s a h =
     let c : Comes s a (a + 10 + 3 + 16) (P.picture z m p l) = comes-first (P.pictureHeader p) _ (header-comes p s a h) in
@@ -129,7 +134,8 @@ pub record Other (s : List ℕ) (a e : ℕ) (c : ℤ) : Type 0 where
   pub five : a + 40 ≤ length s * 8
   pub other : c ≡ pos 0 → ⊥
 
-past-ahead : (g : Given) (p : Picture) (s : List ℕ) (a e f : ℕ) (w : Way World) → Other s a e (p .«start_code») → e ≤ f → Turned s a f (P.pastSlice g p w)
+past-ahead : (g : Given) (p : Picture) (s : List ℕ) (a e f : ℕ) (w : Way World) → Other s a e (p .«start_code») → e ≤ f
+    → Turned s a f (P.pastSlice g p w)
 unfolding P.pastSlice run
 past-ahead g p s a e f (out n l) h k = tt
 past-ahead g p s a e f (on w) h k =
@@ -162,21 +168,24 @@ turn-ahead g x s a = go (found s a .code) (found s a .at) (code-ahead s a)
         let w = slice g v (world (p .slice) (x .frame .store)) in
         let k = h refl in
         by-case (Turned s a e) (P.isSlice (pos v))
-        (λ i. rw (run-bind w (P.pastSlice g p) s e) (past-ahead g p s a e (run w s e .at) (run w s e .value) (record { past = k .0; five = omega arith; other = slice-other v i }) (run-on w s e)))
+        (λ i. rw (run-bind w (P.pastSlice g p) s e)
+        (past-ahead g p s a e (run w s e .at) (run w s e .value) (record { past = k .0; five = omega arith; other = slice-other v i }) (run-on w s e)))
         (λ i. by-case (Turned s a e) (P.isExtra (pos v) && not (x .begun)) (λ j. (k .0, omega arith)) (λ j z. omega arith))
     go (negsuc v) e h = λ z. absurd (true≢false (sym (ap isCode z)))
 
 abbrev Left : List ℕ → ℕ → Prog (Way P.Frame) → Type 0
 Left s a p = Ahead s (run p s a .at) (run p s a .value)
 
-left-turn : (g : Given) (d : Way P.Frame) (s : List ℕ) (a n : ℕ) (t : Turn P.Slices (Way P.Frame)) (e : ℕ) → length s * 8 - a < suc n → TurnAhead s a e t
+left-turn : (g : Given) (d : Way P.Frame) (s : List ℕ) (a n : ℕ) (t : Turn P.Slices (Way P.Frame)) (e : ℕ) → length s * 8 - a < suc n
+    → TurnAhead s a e t
     → ((y : P.Slices) (b : ℕ) → length s * 8 - b < n → Left s b (loop n (P.slicesTurn g) d y)) → Left s e (turn (loop n (P.slicesTurn g) d) t)
 unfolding run
 left-turn g d s a n (again y) e h k r = r y e (omega arith)
 left-turn g d s a n (stop w) e h k r = k
 
 -- each turn that goes on brings the bits left down, so the fuel is not spent
-slices-ahead : (g : Given) (d : Way P.Frame) (s : List ℕ) (n : ℕ) (x : P.Slices) (a : ℕ) → length s * 8 - a < n → Left s a (loop n (P.slicesTurn g) d x)
+slices-ahead : (g : Given) (d : Way P.Frame) (s : List ℕ) (n : ℕ) (x : P.Slices) (a : ℕ) → length s * 8 - a < n
+    → Left s a (loop n (P.slicesTurn g) d x)
 unfolding loop
 slices-ahead g d s zero x a h = let z : ⊥ = omega arith in absurd z
 slices-ahead g d s (suc n) x a h =
@@ -187,7 +196,8 @@ all-ahead : (g : Given) (f : P.Frame) (s : List ℕ) (a : ℕ) → length s ≤ 
 unfolding P.slices
 all-ahead g f s a h = slices-ahead g (on f) s many (P.slicesOf false f) a (omega arith)
 
-turned-ahead : (t : Stores) (s : List ℕ) (e : ℕ) (w : Way P.Frame) → Ahead s e w → Left s e (leave (λ f. give (P.frame (storesAs t (f .picture)) (f .store))) w)
+turned-ahead : (t : Stores) (s : List ℕ) (e : ℕ) (w : Way P.Frame) → Ahead s e w
+    → Left s e (leave (λ f. give (P.frame (storesAs t (f .picture)) (f .store))) w)
 unfolding leave run
 turned-ahead t s e (on f) k = k
 turned-ahead t s e (out n l) k = tt
@@ -211,4 +221,5 @@ unfolding P.picture
 picture-ahead z m p l s a h k =
     let o = run (P.pictureHeader p) s a in
     rw (run-bind (P.pictureHeader p) _ s a)
-    (by-case (Left s (o .at)) (o .value .decoded) (λ e. coded-ahead z m (o .value .picture) l s (o .at) h) (λ e. given-ahead s (o .at) _ (omega (arith, header-takes p .most s a))))
+    (by-case (Left s (o .at)) (o .value .decoded) (λ e. coded-ahead z m (o .value .picture) l s (o .at) h)
+    (λ e. given-ahead s (o .at) _ (omega (arith, header-takes p .most s a))))

@@ -1,34 +1,16 @@
--- What is read keeps a possible state possible: scale, vectors, the coefficients of a block, a picture's header. Assumes nothing.
+-- What is read keeps a possible state possible: scale, vectors, a picture's header. Assumes nothing.
 use mathlib.Core.Path.{_≡_, ap}
 use mathlib.Core.Bool.{Bool, true, _&&_, _||_}
 use mathlib.Core.List.{List}
-use Prim.Native.Nat.{ℕ, _+_, _≤_, _<_}
-use native.Mathlib.Nat.{mul-le-mul-right}
+use Prim.Native.Nat.{ℕ, _≤_, _<_}
 use native.Mathlib.Omega.{arith}
 use lib.Dec.{eqb, ltb}
-use lib.IntN.{ℤ, pos, negℤ, natAbs, _*ℤ_}
+use lib.IntN.{ℤ, pos}
 use lib.ListN.{getD, replicate, getD-replicate}
-use lib.Pow.{pow-mono}
-use lib.Signed.{ltZ, shrZ}
-use Rattle.laws.proofs.Ints.{v, lit, neg, lt-no, abs-by}
-use Rattle.laws.proofs.Nums.{mul-abs}
-use Rattle.bits.specs.Programs.{run}
-use Rattle.bits.proofs.Gives.{Gives, Turned, g-done, g-any, g-bind, g-if, g-loop, g-bits}
-use Rattle.laws.proofs.Tests.{by-case}
-use Rattle.codes.specs.Matrices.{zigZag, premultiplierMatrix, Bounded}
-use Rattle.motion.specs.Displacement.{InRange}
-use Rattle.motion.specs.Vector.{displacement, motionVector}
-use Rattle.motion.proofs.Correction.{corrected-in}
-use Rattle.motion.proofs.OneStep.{displacement-small, step-is}
-use Rattle.coefficients.specs.declared.coefficient.Coefficient.{Coefficient}
-use Rattle.coefficients.specs.declared.coefficient.Coefficient.the-variants.{EndOfBlock, RunLevel}
-use Rattle.coefficients.specs.declared.block.BlockEnd.{BlockEnd}
-use Rattle.coefficients.specs.declared.block.BlockEnd.the-variants.{Whole, Dropped, Outside}
-use Rattle.coefficients.specs.Coefficients.{coefficient}
-use Rattle.coefficients.specs.Dcs.{dc, dcInside}
-use Rattle.coefficients.specs.Dequantise.{doubled, madeOdd, clipped, dequantised}
-use Rattle.coefficients.specs.Blocks.{Quantiser, Filled, Coded, Read, placed, taken, coefficientTurn, coefficients, intraBlock, nonIntraBlock, block, leftOver}
-use Rattle.coefficients.proofs.Bounds.{bounded-set, bounded-dc, bounded-zero}
+use Rattle.bits.proofs.Gives.{Gives, g-done, g-any, g-bind, g-if, g-bits}
+use Rattle.codes.specs.Matrices.{Bounded}
+use Rattle.motion.proofs.OneStep.{component-in}
+use Rattle.coefficients.specs.Dcs.{dcInside}
 use Rattle.picture.specs.declared.state.Motion.{Motion}
 use Rattle.picture.specs.declared.state.Slice.{Slice}
 use Rattle.picture.specs.declared.state.Picture.{Picture}
@@ -40,7 +22,13 @@ use Rattle.picture.proofs.Possible.{PossibleMotion, PossibleSlice, Poss
 -- ---- changes of a state
 
 zeroed-kept : {m : Motion} → PossibleMotion m → PossibleMotion (zeroed m)
-zeroed-kept k = record { size = k .size; h = record { low = record { le = tt }; high = record { lt = tt } }; v = record { low = record { le = tt }; high = record { lt = tt } } }
+zeroed-kept k =
+    record {
+      size = k .size;
+      h = record { low = record { le = tt }; high = record { lt = tt } };
+      v =
+          record { low = record { le = tt }; high = record { lt = tt } };
+    }
 
 set-kept : {m : Motion} (b : Bool) → PossibleMotion m → PossibleMotion (isSetAs b m)
 set-kept b k = record { size = k .size; h = k .h; v = k .v }
@@ -71,9 +59,6 @@ reset-kept k = block-kept k predictors-reset (k .block)
 module _ {s : List ℕ} where
   -- ---- the head of a macroblock
 
-  component-in : (r : ℕ) (z : ℤ) → r ≤ 6 → InRange 64 z → Gives s (InRange 64) (motionVector r z)
-  component-in r z h i = record { value = λ a. rw (step-is r z s a) (corrected-in (run (displacement r) s a .value) (pow-mono h) (displacement-small r s a) i) }
-
   vector-gives : {m : Motion} → PossibleMotion m → Gives s PossibleMotion (vector m)
   unfolding vector
   vector-gives {m} k =
@@ -101,61 +86,6 @@ module _ {s : List ℕ} where
   head-gives type t k =
       g-bind _ (scale-gives t (flagged-kept k t)) (λ q i. g-if (isIntra t) (λ e. g-done (still-kept i)) (λ e. vectors-give type (reset-kept i)))
 
--- ---- a block
-
-clipped-small : (x : ℤ) → natAbs (clipped x) ≤ 2048
-clipped-small x =
-    by-case (λ z. natAbs z ≤ 2048) (ltZ x (negℤ (pos 2048))) (λ e. omega arith) (λ e.
-    by-case (λ z. natAbs z ≤ 2048) (ltZ (pos 2047) x) (λ g. omega arith) (λ g.
-    abs-by 2048 (v x) (omega (arith, lt-no (lit 2047) (v x) g)) (omega (arith, lt-no (v x) (neg (lit 2048)) e))))
-
-dequantised-small : (intra : Bool) (level : ℤ) (scale entry : ℕ) → natAbs (dequantised intra level scale entry) ≤ 2048
-unfolding dequantised
-dequantised-small intra level scale entry = clipped-small (madeOdd (shrZ (doubled intra level *ℤ pos scale *ℤ pos entry) 16))
-
-placed-bounded : (q : Quantiser) (f : Filled) (n : ℕ) (level : ℤ) → Bounded (f .coefficients) → Bounded (placed q f n level .coefficients)
-placed-bounded q f n level b =
-    let place = getD zigZag n 0 in
-    let entry = getD (q .matrix) place 0 in
-    let factor = getD premultiplierMatrix place (pos 0) in
-    bounded-set place _
-    (omega (arith, mul-abs (dequantised (q .intra) level (q .scale) entry) factor, mul-le-mul-right (natAbs factor) (dequantised-small (q .intra) level (q .scale) entry))) b
-
-abbrev Within : Coded → Type 0
-Within c = Bounded (c .filled .coefficients)
-
--- the predictor inside, and the coefficients bounded
-pub record Kept (r : Read) : Type 0 where
-  pub predictor : dcInside (r .predictor) ≡ true
-  pub bounded : Bounded (r .filled .coefficients)
-
-module _ {s : List ℕ} where
-  taken-gives : (q : Quantiser) (f : Filled) (c : Coefficient) → Bounded (f .coefficients) → Gives s (Turned (λ f. Bounded (f .coefficients)) Within) (taken q f c)
-  taken-gives q f EndOfBlock b = g-done b
-  taken-gives q f (RunLevel run level) b = g-if (ltb (f .n + run) 64) (λ e. g-done (placed-bounded q f (f .n + run) level b)) (λ e. g-done b)
-
-  coefficients-give : (q : Quantiser) (f : Filled) → Bounded (f .coefficients) → Gives s Within (coefficients q f)
-  unfolding coefficients coefficientTurn
-  coefficients-give q f b = g-loop (λ f. Bounded (f .coefficients)) 65 _ _ (λ x i. g-bind _ (g-any (coefficient (x .n))) (λ c u. taken-gives q x c i)) b f b
-
-  pub block-gives : (q : Quantiser) (luminance : Bool) (predictor : ℤ) (left : List ℤ) → dcInside predictor ≡ true → Bounded left → Gives s Kept (block q luminance predictor left)
-  unfolding block intraBlock nonIntraBlock
-  block-gives q luminance predictor left p b =
-      g-if (q .intra)
-      (λ e. g-bind _ (g-any (dc luminance predictor)) (λ x u. g-if (dcInside x)
-      (λ i. g-bind _ (coefficients-give q _ (bounded-dc x i b)) (λ c j. g-done (record { predictor = i; bounded = j })))
-      (λ i. g-done (record { predictor = p; bounded = b }))))
-      (λ e. g-bind _ (coefficients-give q _ b) (λ c j. g-done (record { predictor = p; bounded = j })))
-
-pub left-bounded : (r : Read) → Bounded (r .filled .coefficients) → Bounded (leftOver r)
-unfolding leftOver
-left-bounded r b = go (r .end)
-  where
-    go : (e : BlockEnd) → Bounded (elim e [ Whole ↦ replicate 64 (pos 0) | Dropped ↦ r .filled .coefficients | Outside ↦ r .filled .coefficients ])
-    go Whole = bounded-zero
-    go Dropped = b
-    go Outside = b
-
 -- ---- a picture's header
 
 slice-kept : {p : Picture} {x : Slice} → PossiblePicture p → PossibleSlice x → PossiblePicture (sliceAs x p)
@@ -180,7 +110,8 @@ module _ {s : List ℕ} where
 
   backward-header : {p : Picture} → PossiblePicture p → Gives s HeadedPossible (backwardHeader p)
   unfolding backwardHeader
-  backward-header {p} k = g-bind _ (direction-gives (p .slice .«motion_backward») (k .slice .backward)) (λ b i. g-done (slice-kept k (motions-kept (k .slice) (k .slice .forward) i)))
+  backward-header {p} k = g-bind _ (direction-gives (p .slice .«motion_backward») (k .slice .backward))
+      (λ b i. g-done (slice-kept k (motions-kept (k .slice) (k .slice .forward) i)))
 
   forward-header : {p : Picture} → PossiblePicture p → Gives s HeadedPossible (forwardHeader p)
   unfolding forwardHeader

@@ -2,7 +2,6 @@
 use mathlib.Core.Bool.{Bool}
 use Prim.Native.Nat.{ℕ, _/_, _%_}
 use lib.Dec.{eqb}
-use lib.IntN.{natAbs}
 use Rattle.bits.specs.Programs.{Prog, done, bind, bits, _>>=_, _>>_, if_then_else_}
 use Rattle.codes.specs.Codes.{macroblockTypeIntra, macroblockTypePredictive, macroblockTypeB, codeBlockPattern}
 use Rattle.motion.specs.Vector.{motionVector}
@@ -20,9 +19,7 @@ isIntra t = flag t 1
 
 -- RULES 7.13: the macroblock type, by the table of the picture's type
 unfoldable pub macroblockType : ℕ → Prog ℕ
-macroblockType type = do
-  t ← if eqb type 1 then macroblockTypeIntra else (if eqb type 2 then macroblockTypePredictive else macroblockTypeB)
-  done (natAbs t)
+macroblockType type = if eqb type 1 then macroblockTypeIntra else (if eqb type 2 then macroblockTypePredictive else macroblockTypeB)
 
 -- RULES 7.13: 5 bits of scale with flag 16
 unfoldable pub scale : ℕ → Slice → Prog Slice
@@ -71,7 +68,4 @@ head type t s = do
 -- RULES 7.16: read with flag 2; else 63 for an intra macroblock, and 0 for any other
 unfoldable pub pattern : ℕ → Prog ℕ
 pattern t =
-    if flag t 2 then (do
-      c ← codeBlockPattern
-      done (natAbs c))
-    else (if isIntra t then done 63 else done 0)
+    if flag t 2 then codeBlockPattern else (if isIntra t then done 63 else done 0)

@@ -2,17 +2,15 @@
 use mathlib.Core.Bool.{_&&_}
 use Prim.Native.Nat.{ℕ, _+_}
 use lib.Dec.{eqb}
-use lib.IntN.{pos, natAbs}
 use Rattle.laws.specs.Turns.{Turn, again, stop}
-use Rattle.bits.specs.Programs.{Prog, done, bind, eqZ, loop, many, _>>=_, _>>_, if_then_else_}
+use Rattle.bits.specs.Programs.{Prog, done, bind, loop, many, _>>=_, _>>_, if_then_else_}
 use Rattle.codes.specs.Codes.{macroblockAddressIncrement}
 
 -- RULES 7.7: a code of 34 (stuffing) is dropped where no 35 (escape) came before it; a 35 adds 33 and goes on; any other is added and is the last
 unfoldable pub incrementTurn : ℕ → Prog (Turn ℕ ℕ)
 incrementTurn sum = do
   c ← macroblockAddressIncrement
-  if eqZ c (pos 34) && eqb sum 0 then done (again 0)
-      else (if eqZ c (pos 35) then done (again (sum + 33)) else done (stop (sum + natAbs c)))
+  if eqb c 34 && eqb sum 0 then done (again 0) else (if eqb c 35 then done (again (sum + 33)) else done (stop (sum + c)))
 
 -- RULES 7.7: the sum of the codes
 unfoldable pub increment : Prog ℕ

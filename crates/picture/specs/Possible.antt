@@ -34,4 +34,5 @@ possibleSlice s =
 
 -- type, start code, stores
 abbrev pub possiblePicture : Picture → Bool
-possiblePicture p = leb (p .«picture_type») 7 && between (negℤ (pos 1)) (pos 255) (p .«start_code») && possibleStores (p .stores) && possibleSlice (p .slice)
+possiblePicture p = leb (p .«picture_type») 7 && between (negℤ (pos 1)) (pos 255) (p .«start_code») && possibleStores (p .stores) && possibleSlice
+    (p .slice)

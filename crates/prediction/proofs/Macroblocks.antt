@@ -58,14 +58,15 @@ module _ {m : Macroblock} (i : Inside m) where
       let t : block % 2 ≤ 1 = omega arith in
       omega (
         arith,
-        at-place (m .row * 16 + block / 2 % 2 * 8) (m .column * 16 + block % 2 * 8) 8 (m .across * 16) (m .down * 16) (omega arith) (omega (arith, i .row)) (omega (arith, i .column)),
+        at-place (m .row * 16 + block / 2 % 2 * 8) (m .column * 16 + block % 2 * 8) 8 (m .across * 16) (m .down * 16) (omega arith) (omega (arith, i .row))
+            (omega (arith, i .column)),
       )
 
   pub chroma-in : chromaPlace (m .across * 8) (m .row) (m .column) + 7 * (m .across * 8) + 8 ≤ 64 * macroblocks m
   chroma-in = omega (arith, block-in (placed Cr))
 
 -- the side of a macroblock's block in a plane
-pub size-least : (q : Plane) → 8 ≤ blockSize q
+size-least : (q : Plane) → 8 ≤ blockSize q
 size-least Y = omega arith
 size-least Cr = omega arith
 size-least Cb = omega arith
@@ -134,19 +135,26 @@ module _ (m : Macroblock) (from to : ℕ) (h v : ℤ) (interpolate : Bool) (stor
   abbrev second : After
   second = ofStores m from to interpolate Cr (chroma h) (chroma v) (first .store)
 
+  -- what follows Cr, and Y
+  abbrev behind-cr : List ℕ → After
+  behind-cr = ofStores m from to interpolate Cb (chroma h) (chroma v)
+
+  abbrev behind-y : List ℕ → After
+  behind-y s = next (ofStores m from to interpolate Cr (chroma h) (chroma v) s) behind-cr
+
   abbrev third : After
-  third = ofStores m from to interpolate Cb (chroma h) (chroma v) (second .store)
+  third = behind-cr (second .store)
 
   pub first-refused : first .answer ≡ Refused → predictedPlanes m from to h v interpolate store ≡ first
   unfolding predictedPlanes
-  first-refused e = next-refused first (λ s. next (ofStores m from to interpolate Cr (chroma h) (chroma v) s) (ofStores m from to interpolate Cb (chroma h) (chroma v))) e
+  first-refused e = next-refused first behind-y e
 
-  after-first : first .answer ≡ Done → predictedPlanes m from to h v interpolate store ≡ next second (ofStores m from to interpolate Cb (chroma h) (chroma v))
+  after-first : first .answer ≡ Done → predictedPlanes m from to h v interpolate store ≡ next second behind-cr
   unfolding predictedPlanes
-  after-first e = next-done first (λ s. next (ofStores m from to interpolate Cr (chroma h) (chroma v) s) (ofStores m from to interpolate Cb (chroma h) (chroma v))) e
+  after-first e = next-done first behind-y e
 
   pub second-refused : first .answer ≡ Done → second .answer ≡ Refused → predictedPlanes m from to h v interpolate store ≡ second
-  second-refused e g = after-first e ∙ next-refused second (ofStores m from to interpolate Cb (chroma h) (chroma v)) g
+  second-refused e g = after-first e ∙ next-refused second behind-cr g
 
   pub both-done : first .answer ≡ Done → second .answer ≡ Done → predictedPlanes m from to h v interpolate store ≡ third
-  both-done e g = after-first e ∙ next-done second (ofStores m from to interpolate Cb (chroma h) (chroma v)) g
+  both-done e g = after-first e ∙ next-done second behind-cr g

@@ -8,18 +8,16 @@ use native.Mathlib.Decide.{decLt}
 use native.Mathlib.Nat.{div-add-mod, mod-lt, mul-le-mul-left}
 use native.Mathlib.Omega.{arith}
 use borrow.Author.Tests.{leb-true, leb-false, ltb-true, ltb-false}
-use borrow.Rule.Slice.PartMut.{putMid}
 use lib.Dec.{leb, ltb}
-use lib.IntN.{ℤ, pos, _+ℤ_}
+use lib.IntN.{ℤ}
 use lib.ListN.{length, getD}
-use Rattle.laws.specs.Signed.{clamp255, odd}
+use Rattle.laws.specs.Signed.{odd}
 use Rattle.laws.specs.Stores.{storeRows}
-use Rattle.laws.proofs.Lists.{rows-in, rows-out, put-in, put-before, put-after}
+use Rattle.laws.proofs.Lists.{rows-in, rows-out}
 use Rattle.prediction.specs.declared.place.Place.{Place}
 use Rattle.prediction.specs.Blocks.{rowOf, columnOf, inBlock}
 use Rattle.prediction.specs.Predict.{Placed, width, bytes, address, predicted}
 use Rattle.prediction.specs.Samples.{sample, laid}
-use Rattle.prediction.specs.Writers.{setConst, overwrite, addConst, addBlock}
 use Rattle.prediction.proofs.Places.{size-from, column-in, block-in}
 
 -- k is at the row and column that are counted of it
@@ -54,49 +52,29 @@ block-at {A} l at dw b f k d s h fit = go (leb at k) (ltb y b) (ltb x b) refl re
     go false u w e g q = rows-out l at dw b f b k d (λ z r. inl (omega (arith, leb-false at k e)))
     go true false w e g q = rows-out l at dw b f b k d (λ z r. past-rows at dw b k y x z h (split at dw k (leb-true at k e)) (ltb-false y b g) r)
     go true true false e g q =
-        rows-out l at dw b f b k d (λ z r. past-columns at dw b k y x z h (split at dw k (leb-true at k e)) (mod-lt (k - at) (omega arith)) (ltb-false x b q))
+        rows-out l at dw b f b k d
+        (λ z r. past-columns at dw b k y x z h (split at dw k (leb-true at k e)) (mod-lt (k - at) (omega arith)) (ltb-false x b q))
 
 -- what stood at the row and column of k is what stood at k
 old-at : (d : List ℕ) (at dw b k : ℕ) (g : ℕ → ℕ)
-    → cond (inBlock at dw b k) (g (getD d (at + rowOf at dw k * dw + columnOf at dw k) 0)) (getD d k 0) ≡ cond (inBlock at dw b k) (g (getD d k 0)) (getD d k 0)
+    → cond (inBlock at dw b k) (g (getD d (at + rowOf at dw k * dw + columnOf at dw k) 0)) (getD d k 0)
+    ≡ cond (inBlock at dw b k) (g (getD d k 0)) (getD d k 0)
 old-at d at dw b k g = go (leb at k) refl
   where
     rest : Bool
     rest = ltb (rowOf at dw k) b && ltb (columnOf at dw k) b
 
-    go : (t : Bool) → leb at k ≡ t → cond (t && rest) (g (getD d (at + rowOf at dw k * dw + columnOf at dw k) 0)) (getD d k 0) ≡ cond (t && rest) (g (getD d k 0)) (getD d k 0)
+    go : (t : Bool) → leb at k ≡ t
+        → cond (t && rest) (g (getD d (at + rowOf at dw k * dw + columnOf at dw k) 0)) (getD d k 0) ≡ cond (t && rest) (g (getD d k 0)) (getD d k 0)
     go true e = ap (λ (n : ℕ). cond rest (g (getD d n 0)) (getD d k 0)) (sym (split at dw k (leb-true at k e)))
     go false e = refl
 
--- ---- the writers
-
-module _ (d : List ℕ) (di dw : ℕ) (h : 8 ≤ dw) (fit : di + 7 * dw + 8 ≤ length d) (k : ℕ) where
-  pub set-const-at : (value : ℕ) → getD (setConst d di dw value) k 0 ≡ cond (inBlock di dw 8 k) value (getD d k 0)
-  unfolding setConst
-  set-const-at value = block-at d di dw 8 (λ y x. value) k 0 (omega arith) h fit
-
-  pub overwrite-at : (s : List ℤ) → getD (overwrite d di dw s) k 0 ≡ cond (inBlock di dw 8 k) (clamp255 (getD s (rowOf di dw k * 8 + columnOf di dw k) (pos 0))) (getD d k 0)
-  unfolding overwrite
-  overwrite-at s = block-at d di dw 8 (λ y x. clamp255 (getD s (y * 8 + x) (pos 0))) k 0 (omega arith) h fit
-
-  pub add-const-at : (value : ℤ) → getD (addConst d di dw value) k 0 ≡ cond (inBlock di dw 8 k) (clamp255 (pos (getD d k 0) +ℤ value)) (getD d k 0)
-  unfolding addConst
-  add-const-at value =
-      block-at d di dw 8 (λ y x. clamp255 (pos (getD d (di + y * dw + x) 0) +ℤ value)) k 0 (omega arith) h fit ∙ old-at d di dw 8 k (λ n. clamp255 (pos n +ℤ value))
-
-  pub add-block-at : (s : List ℤ)
-      → getD (addBlock d di dw s) k 0 ≡ cond (inBlock di dw 8 k) (clamp255 (pos (getD d k 0) +ℤ getD s (rowOf di dw k * 8 + columnOf di dw k) (pos 0))) (getD d k 0)
-  unfolding addBlock
-  add-block-at s =
-      block-at d di dw 8 (λ y x. clamp255 (pos (getD d (di + y * dw + x) 0) +ℤ getD s (y * 8 + x) (pos 0))) k 0 (omega arith) h fit
-      ∙ old-at d di dw 8 k (λ n. clamp255 (pos n +ℤ getD s (rowOf di dw k * 8 + columnOf di dw k) (pos 0)))
-
--- ---- the predictions
-
+-- a prediction is such a write
 pub predicted-at : {p : Place} → Placed p → (s d : List ℕ) (h v : ℤ) (interpolate : Bool) (from k : ℕ) → bytes p ≤ length d
     → getD (predicted p s d h v interpolate from) k 0
     ≡ cond (inBlock (address p) (width p) (p .size) k)
-    (laid interpolate (getD d k 0) (sample s (width p) (odd h) (odd v) (from + rowOf (address p) (width p) k * width p + columnOf (address p) (width p) k))) (getD d k 0)
+    (laid interpolate (getD d k 0) (sample s (width p) (odd h) (odd v) (from + rowOf (address p) (width p) k * width p + columnOf (address p) (width p) k)))
+    (getD d k 0)
 unfolding predicted
 predicted-at {p} q s d h v interpolate from k fit =
     block-at d (address p) (width p) (p .size)
@@ -104,18 +82,3 @@ predicted-at {p} q s d h v interpolate from k fit =
     (omega (arith, size-from q)) (omega (arith, column-in q)) (omega (arith, block-in q))
     ∙ old-at d (address p) (width p) (p .size) k
     (λ n. laid interpolate n (sample s (width p) (odd h) (odd v) (from + rowOf (address p) (width p) k * width p + columnOf (address p) (width p) k)))
-
--- ---- a part of the lent memory that was replaced
-
-pub part-at : {A : Type 0} (a n : ℕ) (xs ys : List A) (k : ℕ) (d : A) → a + n ≤ length xs → length ys ≡ n
-    → getD (putMid a n xs ys) k d ≡ cond (leb a k && ltb k (a + n)) (getD ys (k - a) d) (getD xs k d)
-part-at {A} a n xs ys k d h e = go (leb a k) (ltb k (a + n)) refl refl
-  where
-    go : (t u : Bool) → leb a k ≡ t → ltb k (a + n) ≡ u → getD (putMid a n xs ys) k d ≡ cond (t && u) (getD ys (k - a) d) (getD xs k d)
-    go true true p q =
-        let le = leb-true a k p in
-        let lt = ltb-true k (a + n) q in
-        let i : k ≡ a + (k - a) = omega arith in
-        ap (λ (m : ℕ). getD (putMid a n xs ys) m d) i ∙ put-in a n xs ys (k - a) d (omega arith) (omega arith)
-    go true false p q = put-after a n xs ys k d h e (ltb-false k (a + n) q)
-    go false u p q = put-before a n xs ys k d (omega arith) (leb-false a k p)

@@ -13,13 +13,13 @@ use Rattle.laws.specs.Signed.{odd}
 use Rattle.laws.proofs.Bytes.{half-is}
 use Rattle.laws.proofs.Ints.{v as vary, lit, _⊕_, _⊖_, _⊛_, at-dif, eq-by, eq-of, le-of, no-lt}
 use Rattle.laws.proofs.Lists.{rows-in}
+use Rattle.prediction.specs.declared.place.Fetch.the-variants.{Copied}
 use Rattle.prediction.specs.declared.place.Place.{Place}
-use Rattle.prediction.specs.declared.place.Way.the-variants.{Copied}
-use Rattle.prediction.specs.Predict.{Placed, width, height, bytes, address, start, maxAddress, reach, way, predicted, chroma}
+use Rattle.prediction.specs.Predict.{Placed, width, height, bytes, address, start, maxAddress, reach, fetch, predicted, chroma}
 use Rattle.prediction.specs.Samples.{average2, average4, sample, laid}
 use Rattle.prediction.specs.Standard.{roundedDiv, whole, half, chrominance, pelPast, none, formed, pel, bothWays, InPicture}
+use Rattle.prediction.proofs.Fetches.{inside}
 use Rattle.prediction.proofs.Places.{column-in, block-in}
-use Rattle.prediction.proofs.Ways.{inside}
 
 -- ---- rounding, and the parts of a vector
 
@@ -108,7 +108,8 @@ module _ {p : Place} (k : Placed p) (h v : ℤ) (i : InPicture p h v) where
   start-is : start p h v ≡ pos (row * width p + column)
   start-is =
       ap (λ (z : ℤ). z *ℤ pos (width p) +ℤ pos (p .column * p .size) +ℤ whole h) row-is
-      ∙ eq-by (lit (row * width p) ⊕ lit (p .column * p .size) ⊕ vary (whole h)) (lit (row * width p + column)) (omega (arith, eq-of (lit (p .column * p .size) ⊕ vary (whole h)) (lit column) column-is))
+      ∙ eq-by (lit (row * width p) ⊕ lit (p .column * p .size) ⊕ vary (whole h)) (lit (row * width p + column))
+      (omega (arith, eq-of (lit (p .column * p .size) ⊕ vary (whole h)) (lit column) column-is))
 
   reaches : row * width p + column + reach p h v ≤ maxAddress p
   reaches =
@@ -116,14 +117,16 @@ module _ {p : Place} (k : Placed p) (h v : ℤ) (i : InPicture p h v) where
         arith,
         odd-adds v (width p),
         odd-adds h 1,
-        fits-in row column (natAbs v % 2) (natAbs h % 2) (p .size) (width p) (height p) (ends-in (p .row * p .size) row (p .size) (height p) v row-is (i .bottom))
+        fits-in row column (natAbs v % 2) (natAbs h % 2) (p .size) (width p) (height p)
+            (ends-in (p .row * p .size) row (p .size) (height p) v row-is (i .bottom))
             (ends-in (p .column * p .size) column (p .size) (width p) h column-is (i .right)),
       )
 
   -- the block is copied, from where the standard says
-  pub is-copied : way p h v ≡ Copied (row * width p + column)
+  pub is-copied : fetch p h v ≡ Copied (row * width p + column)
   is-copied =
-      sym (inside p h v (ap (λ (z : ℤ). ltZ z (pos 0)) start-is ∙ no-lt (lit (row * width p + column)) (lit 0) (omega arith)) (omega (arith, ap natAbs start-is, reaches)) (omega (arith, ap natAbs start-is, reaches)))
+      sym (inside p h v (ap (λ (z : ℤ). ltZ z (pos 0)) start-is ∙ no-lt (lit (row * width p + column)) (lit 0) (omega arith))
+      (omega (arith, ap natAbs start-is, reaches)) (omega (arith, ap natAbs start-is, reaches)))
       ∙ ap (λ (z : ℤ). Copied (natAbs z)) start-is
 
   module _ (s : List ℕ) (y x : ℕ) where
@@ -132,7 +135,8 @@ module _ {p : Place} (k : Placed p) (h v : ℤ) (i : InPicture p h v) where
     past c d ec ed e = ap (λ (n : ℕ). getD s n 0) (sym (ap₂ (λ (m n : ℕ). m * width p + n) ec ed ∙ e))
 
     -- each sample of the block is the standard's pel
-    pub sample-is : sample s (width p) (odd h) (odd v) (row * width p + column + y * width p + x) ≡ pel s (width p) h v (p .row * p .size + y) (p .column * p .size + x)
+    pub sample-is : sample s (width p) (odd h) (odd v) (row * width p + column + y * width p + x)
+        ≡ pel s (width p) h v (p .row * p .size + y) (p .column * p .size + x)
     unfolding sample formed
     sample-is =
         let c : ℤ = pos (p .row * p .size + y) +ℤ whole v in
@@ -141,14 +145,17 @@ module _ {p : Place} (k : Placed p) (h v : ℤ) (i : InPicture p h v) where
         let r1 = next-is (p .row * p .size) row y (whole v) row-is in
         let q = further (p .column * p .size) column x (whole h) column-is in
         let q1 = next-is (p .column * p .size) column x (whole h) column-is in
-        cases (odd h) (odd v) (past c d r q (omega arith)) (past c (d +ℤ pos 1) r q1 (omega arith)) (past (c +ℤ pos 1) d r1 q (omega arith)) (past (c +ℤ pos 1) (d +ℤ pos 1) r1 q1 (omega arith))
+        cases (odd h) (odd v) (past c d r q (omega arith)) (past c (d +ℤ pos 1) r q1 (omega arith)) (past (c +ℤ pos 1) d r1 q (omega arith))
+        (past (c +ℤ pos 1) (d +ℤ pos 1) r1 q1 (omega arith))
         ∙ sym (ap₂ (λ (t u : Bool). shape t u c d) (none-is h) (none-is v))
       where
         shape : Bool → Bool → ℤ → ℤ → ℕ
         shape t u c d =
             cond t (cond u (pelPast s (width p) c d) (roundedDiv (pelPast s (width p) c d + pelPast s (width p) (c +ℤ pos 1) d) 2))
             (cond u (roundedDiv (pelPast s (width p) c d + pelPast s (width p) c (d +ℤ pos 1)) 2)
-            (roundedDiv (pelPast s (width p) c d + pelPast s (width p) (c +ℤ pos 1) d + pelPast s (width p) c (d +ℤ pos 1) + pelPast s (width p) (c +ℤ pos 1) (d +ℤ pos 1)) 4))
+            (roundedDiv
+            (pelPast s (width p) c d + pelPast s (width p) (c +ℤ pos 1) d + pelPast s (width p) c (d +ℤ pos 1) + pelPast s (width p) (c +ℤ pos 1) (d +ℤ pos 1))
+            4))
 
     module _ (d : List ℕ) (fit : bytes p ≤ length d) (ry : y < p .size) (rx : x < p .size) where
       laid-is : (interpolate : Bool) → getD (predicted p s d h v interpolate (row * width p + column)) (address p + y * width p + x) 0
@@ -161,7 +168,8 @@ module _ {p : Place} (k : Placed p) (h v : ℤ) (i : InPicture p h v) where
           ∙ ap (laid interpolate (getD d (address p + y * width p + x) 0)) sample-is
 
       -- a first prediction is the standard's
-      pub forward : getD (predicted p s d h v false (row * width p + column)) (address p + y * width p + x) 0 ≡ pel s (width p) h v (p .row * p .size + y) (p .column * p .size + x)
+      pub forward : getD (predicted p s d h v false (row * width p + column)) (address p + y * width p + x) 0
+          ≡ pel s (width p) h v (p .row * p .size + y) (p .column * p .size + x)
       forward = laid-is false
 
       -- and a second one laid over it is the average of both

@@ -5,15 +5,15 @@ use Prim.Native.Nat.{ℕ, _+_, _*_}
 use borrow.Rule.Slice.PartMut.{midOf, putMid}
 use lib.Dec.{eqb, ltb}
 use lib.IntN.{ℤ}
+use Rattle.prediction.specs.declared.place.Fetch.{Fetch}
+use Rattle.prediction.specs.declared.place.Fetch.the-variants.{Alone, Past, Copied}
 use Rattle.prediction.specs.declared.place.Macroblock.{Macroblock}
 use Rattle.prediction.specs.declared.place.Place.{Place}
-use Rattle.prediction.specs.declared.place.Way.{Way}
-use Rattle.prediction.specs.declared.place.Way.the-variants.{Alone, Past, Copied}
 use Rattle.prediction.specs.declared.planes.Plane.{Plane}
 use Rattle.prediction.specs.declared.planes.Plane.the-variants.{Y, Cr, Cb}
 use Rattle.prediction.specs.declared.predict.Predicted.{Predicted}
 use Rattle.prediction.specs.declared.predict.Predicted.the-variants.{Done, Refused}
-use Rattle.prediction.specs.Predict.{blockOf, bytes, way, predicted, chroma}
+use Rattle.prediction.specs.Predict.{blockOf, bytes, fetch, predicted, chroma}
 
 -- macroblocks of the picture
 abbrev pub macroblocks : Macroblock → ℕ
@@ -49,7 +49,7 @@ pub record After : Type 0 where
   pub answer : Predicted
 
 -- what is done with the block at p of the plane that begins at `to`, from the plane at `from`
-unfoldable pub follow : Way → Place → ℕ → ℕ → ℤ → ℤ → Bool → List ℕ → After
+unfoldable pub follow : Fetch → Place → ℕ → ℕ → ℤ → ℤ → Bool → List ℕ → After
 follow Alone p from to h v interpolate store = record { store = store; answer = Done }
 follow Past p from to h v interpolate store = record { store = store; answer = Refused }
 follow (Copied a) p from to h v interpolate store =
@@ -60,7 +60,7 @@ follow (Copied a) p from to h v interpolate store =
 
 -- RULES 6.4 to 6.9 for one plane
 abbrev pub inPlane : Place → ℕ → ℕ → ℤ → ℤ → Bool → List ℕ → After
-inPlane p from to h v = follow (way p h v) p from to h v
+inPlane p from to h v = follow (fetch p h v) p from to h v
 
 -- a refusal ends the prediction
 unfoldable pub next : After → (List ℕ → After) → After

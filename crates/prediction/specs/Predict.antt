@@ -10,10 +10,10 @@ use lib.ListN.{getD, replicate}
 use lib.Signed.{ltZ, shrZ}
 use Rattle.laws.specs.Signed.{odd, half0}
 use Rattle.laws.specs.Stores.{storeRows}
+use Rattle.prediction.specs.declared.place.Fetch.{Fetch}
+use Rattle.prediction.specs.declared.place.Fetch.the-variants.{Alone, Past, Copied}
 use Rattle.prediction.specs.declared.place.Macroblock.{Macroblock}
 use Rattle.prediction.specs.declared.place.Place.{Place}
-use Rattle.prediction.specs.declared.place.Way.{Way}
-use Rattle.prediction.specs.declared.place.Way.the-variants.{Alone, Past, Copied}
 use Rattle.prediction.specs.Samples.{sample, laid}
 
 -- RULES S.7, 7.5: the macroblock with this address in a picture of so many across and down; addresses go by rows
@@ -68,8 +68,8 @@ abbrev pub reach : Place → ℤ → ℤ → ℕ
 reach p h v = cond (odd v) (width p) 0 + cond (odd h) 1 0
 
 -- RULES 6.6, 6.9: a block outside is left alone, one that reaches past the last is refused
-unfoldable pub way : Place → ℤ → ℤ → Way
-way p h v =
+unfoldable pub fetch : Place → ℤ → ℤ → Fetch
+fetch p h v =
     cond (ltZ (start p h v) (pos 0) || ltZ (pos (maxAddress p)) (start p h v)) Alone
     (cond (ltb (maxAddress p) (natAbs (start p h v) + reach p h v)) Past (Copied (natAbs (start p h v))))
 

@@ -3,7 +3,7 @@ ghost use mathlib.Core.Path.{_≡_};
 ghost use Prim.Native.Nat.{_+_, _*_, _≤_, _<_};
 ghost use lib.IntN.{natAbs};
 ghost use Rattle.laws.specs.Signed.{odd};
-ghost use Rattle.prediction.specs.Predict.{Inside, Placed, macroblockAt, blockOf, width, bytes, address, start, maxAddress, reach, way};
+ghost use Rattle.prediction.specs.Predict.{Inside, Placed, macroblockAt, blockOf, width, bytes, address, start, maxAddress, reach, fetch};
 
 // A block of a plane: the block's size in samples, how many blocks the plane has across and down, and the block's row and column among them.
 pub struct Place {
@@ -24,7 +24,7 @@ pub struct Macroblock {
 
 // What a prediction does with its block: leaves it alone, is refused since its half samples reach past max_address, or
 // copies the samples from an address on.
-pub enum Way {
+pub enum Fetch {
     Alone,
     Past,
     Copied(usize),
@@ -132,23 +132,23 @@ impl Place {
     }
 
     // RULES 6.6, 6.9.
-    pub fn way_of(self, h: i32, v: i32) -> Way
+    pub fn fetch_of(self, h: i32, v: i32) -> Fetch
         requires { ⌜ Placed self ⌝ }
         requires { ⌜ (natAbs h ≤ 2048) × (natAbs v ≤ 2048) ⌝ }
-        ensures { λ r. ⌜ r ≡ way self h v ⌝ }
+        ensures { λ r. ⌜ r ≡ fetch self h v ⌝ }
     {
         let start = self.start(h, v);
         if start < 0 {
-            return Way::Alone;
+            return Fetch::Alone;
         }
         let at = start as usize;
         let max = self.max_address();
         if max < at {
-            return Way::Alone;
+            return Fetch::Alone;
         }
         if max < at + self.reach(h, v) {
-            return Way::Past;
+            return Fetch::Past;
         }
-        Way::Copied(at)
+        Fetch::Copied(at)
     }
 }

@@ -1,9 +1,9 @@
 // Blocks of one plane predicted from another, and a macroblock's three planes from another store.
 use crate::blocks::gather;
 use crate::blocks::lay;
+use crate::place::Fetch;
 use crate::place::Macroblock;
 use crate::place::Place;
-use crate::place::Way;
 use crate::place::is_odd;
 use crate::planes::Plane;
 use crate::planes::block_size;
@@ -37,7 +37,8 @@ fn copy_block(
     requires { ⌜ Placed p ⌝ }
     requires { ⌜ (from + bytes p ≤ length (now store)) × (to + bytes p ≤ length (now store)) ⌝ }
     requires { ⌜ at + reach p h v ≤ maxAddress p ⌝ }
-    ensures { λ _. ⌜ now (store .exit) ≡ putMid to (bytes p) (now (store .entry)) (predicted p (midOf from (bytes p) (now (store .entry))) (midOf to (bytes p) (now (store .entry))) h v interpolate at) ⌝ }
+    ensures { λ _. ⌜ now (store .exit) ≡ putMid to (bytes p) (now (store .entry))
+        (predicted p (midOf from (bytes p) (now (store .entry))) (midOf to (bytes p) (now (store .entry))) h v interpolate at) ⌝ }
 {
     let size = p.size;
     let dw = p.width();
@@ -67,10 +68,10 @@ pub fn predict_plane(
     ensures answer { λ r. ⌜ r ≡ inPlane p from to h v interpolate (now (store .entry)) .answer ⌝ }
     ensures store { λ _. ⌜ now (store .exit) ≡ inPlane p from to h v interpolate (now (store .entry)) .store ⌝ }
 {
-    match p.way_of(h, v) {
-        Way::Alone => Predicted::Done,
-        Way::Past => Predicted::Refused,
-        Way::Copied(at) => {
+    match p.fetch_of(h, v) {
+        Fetch::Alone => Predicted::Done,
+        Fetch::Past => Predicted::Refused,
+        Fetch::Copied(at) => {
             copy_block(store, from, to, p, h, v, interpolate, at);
             Predicted::Done
         }

@@ -76,7 +76,8 @@ fn add_row(d: &mut [u8], at: usize, s: &[i32; 64], from: usize)
     requires { ⌜ at + 8 ≤ length (now d) ⌝ }
     requires { ⌜ from + 8 ≤ 64 ⌝ }
     requires { ⌜ Narrow (now s) ⌝ }
-    ensures { λ _. ⌜ now (d .exit) ≡ storeRow (now (d .entry)) at (λ x. clamp255 (pos (getD (now (d .entry)) (at + x) 0) +ℤ getD (now (s .entry)) (from + x) (pos 0))) 8 ⌝ }
+    ensures { λ _. ⌜ now (d .exit) ≡ storeRow (now (d .entry)) at
+        (λ x. clamp255 (pos (getD (now (d .entry)) (at + x) 0) +ℤ getD (now (s .entry)) (from + x) (pos 0))) 8 ⌝ }
 {
     let v0 = added_at(d[at], s, from);
     let v1 = added_at(d[at + 1], s, from + 1);

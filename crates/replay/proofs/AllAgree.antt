@@ -28,9 +28,11 @@ behind l zero p t m h = go (ltb (p .at) (length l))
     go true = counted-behind t (omega arith) false h
     go false = h
 behind l (suc n) p t m h =
-    behind l n (stepped l p .along) (counted t (stepped l p .agrees)) (omega (arith, more-one (t .cases) (omega arith))) (counted-behind t (omega arith) (stepped l p .agrees) h)
+    behind l n (stepped l p .along) (counted t (stepped l p .agrees)) (omega (arith, more-one (t .cases) (omega arith)))
+    (counted-behind t (omega arith) (stepped l p .agrees) h)
 
-whole : (l : List ℕ) (n : ℕ) (p : Along) (t : Tally) → t .cases + n < 4294967295 → t .agreed ≤ t .cases → scoreFrom l n p t .agreed ≡ scoreFrom l n p t .cases → Whole l n p
+whole : (l : List ℕ) (n : ℕ) (p : Along) (t : Tally) → t .cases + n < 4294967295 → t .agreed ≤ t .cases
+    → scoreFrom l n p t .agreed ≡ scoreFrom l n p t .cases → Whole l n p
 unfolding scoreFrom
 whole l zero p t m h e = ended (go (ltb (p .at) (length l)) (ltb-false _ _) e)
   where
@@ -45,7 +47,8 @@ whole l (suc n) p t m h e = go (stepped l p .agrees) refl e (λ f. whole l n (st
     room : counted t true .cases + n < 4294967295
     room = omega (arith, more-one (t .cases) (omega arith))
 
-    go : (b : Bool) → stepped l p .agrees ≡ b → after b .agreed ≡ after b .cases → (after true .agreed ≡ after true .cases → Whole l n (stepped l p .along)) → Whole l (suc n) p
+    go : (b : Bool) → stepped l p .agrees ≡ b → after b .agreed ≡ after b .cases
+        → (after true .agreed ≡ after true .cases → Whole l n (stepped l p .along)) → Whole l (suc n) p
     go true f e w = case f (w e)
     go false f e w = absurd (omega (arith, behind l n (stepped l p .along) (counted t false) room (counted-fails t (omega arith) h)))
 
@@ -54,10 +57,14 @@ pub all-agree : (l : List ℕ) → scored l .agreed ≡ scored l .cases → Whol
 unfolding scored
 all-agree l = go (ltb (length l) 4) (ltb 16777216 (length l)) (ltb (length l) (numberAt l 0)) (ltb-false _ _) (ltb-false _ _) (ltb-true _ _)
   where
+    -- the whole list by its three tests
+    tested : Bool → Bool → Bool → Tally
+    tested a b d =
+        cond a (counted none false)
+        (cond b (counted none false) (cond d (record { cases = numberAt l 0; agreed = 0; first = 1 }) (scoreFrom l (numberAt l 0) beginning none)))
+
     go : (a b d : Bool) → (b ≡ false → length l ≤ 16777216) → (d ≡ false → numberAt l 0 ≤ length l) → (d ≡ true → length l < numberAt l 0)
-        → cond a (counted none false) (cond b (counted none false) (cond d (record { cases = numberAt l 0; agreed = 0; first = 1 }) (scoreFrom l (numberAt l 0) beginning none))) .agreed
-        ≡ cond a (counted none false) (cond b (counted none false) (cond d (record { cases = numberAt l 0; agreed = 0; first = 1 }) (scoreFrom l (numberAt l 0) beginning none))) .cases
-        → Whole l (numberAt l 0) beginning
+        → tested a b d .agreed ≡ tested a b d .cases → Whole l (numberAt l 0) beginning
     go true b d short few f e = absurd (omega (arith, more-one 0 (omega arith)))
     go false true d short few f e = absurd (omega (arith, more-one 0 (omega arith)))
     go false false true short few f e = absurd (omega (arith, f refl))

@@ -27,7 +27,8 @@ module _ (k : Kind) (l : List ℕ) where
   unfolding scoreFrom
   behind zero i t m h = h
   behind (suc n) i t m h =
-      behind n (i + sizeOf k) (counted t (agreesAt k l i)) (omega (arith, more-one (t .cases) (omega arith))) (counted-behind t (omega arith) (agreesAt k l i) h)
+      behind n (i + sizeOf k) (counted t (agreesAt k l i)) (omega (arith, more-one (t .cases) (omega arith)))
+      (counted-behind t (omega arith) (agreesAt k l i) h)
 
   each-from : (n i : ℕ) (t : Tally) → t .cases + n ≤ 4294967295 → t .agreed ≤ t .cases → scoreFrom k l n i t .agreed ≡ scoreFrom k l n i t .cases
       → (j : ℕ) → j < n → agreesAt k l (i + sizeOf k * j) ≡ true
@@ -68,8 +69,8 @@ module _ (k : Kind) (l : List ℕ) where
   all-agree short = go (eqb (length l) (4 + sizeOf k * numberAt l 0)) (eqb-true _ _)
     where
       go : (b : Bool) → (b ≡ true → length l ≡ 4 + sizeOf k * numberAt l 0)
-          → cond b (scoreFrom k l (numberAt l 0) 4 none) (counted none false) .agreed ≡ cond b (scoreFrom k l (numberAt l 0) 4 none) (counted none false) .cases
-          → Whole k l
+          → cond b (scoreFrom k l (numberAt l 0) 4 none) (counted none false) .agreed
+          ≡ cond b (scoreFrom k l (numberAt l 0) 4 none) (counted none false) .cases → Whole k l
       go true f e = record { size = f refl; each = each-from (numberAt l 0) 4 none (omega (arith, fewer (numberAt l 0) (f refl))) (omega arith) e }
       go false f e = absurd (omega (arith, more-one 0 (omega arith)))
 

@@ -18,14 +18,16 @@ pub no-case : (l : List ℕ) (p : Along) → length l - p .at < 13 → cutOff l 
 unfolding stepped
 no-case l p h = rw (lt-ltb _ _ h)
 
-module _ (l : List ℕ) (p : Along) (x v m : ℕ) (case : 13 ≤ length l - p .at) (ax : x ≡ numberAt l (p .at + 1)) (av : v ≡ numberAt l (p .at + 5)) (am : m ≡ behindOf (getD l (p .at) 0) x v) where
+module _ (l : List ℕ) (p : Along) (x v m : ℕ) (case : 13 ≤ length l - p .at) (ax : x ≡ numberAt l (p .at + 1)) (av : v ≡ numberAt l (p .at + 5))
+    (am : m ≡ behindOf (getD l (p .at) 0) x v) where
   pub cut-case : length l - (p .at + 13) < m → cutOff l p ≡ stepped l p
   unfolding stepped
   cut-case h = rw (le-ltb _ _ case, ← ax, ← av, ← am, lt-ltb _ _ h)
 
   pub whole-case : (e : ℕ) (op : Operation) (o : Outcome) (q : Along) (t u : Bool) → e ≡ numberAt l (p .at + 9) → m ≤ length l - (p .at + 13)
       → op ≡ operationOf (getD l (p .at) 0) → o ≡ outcome op x (take (p .to - p .from) (drop (p .from) l)) (p .reader .at .0)
-      → u ≡ bytesAgree (getD l (p .at) 0) (take (p .at + 13 + m - (p .at + 13)) (drop (p .at + 13) l)) (take (p .to - p .from) (drop (p .from) l)) (p .reader .at .0) x
+      → u ≡ bytesAgree (getD l (p .at) 0) (take (p .at + 13 + m - (p .at + 13)) (drop (p .at + 13) l))
+      (take (p .to - p .from) (drop (p .from) l)) (p .reader .at .0) x
       → t ≡ agree o v e → q ≡ onward p (getD l (p .at) 0) (p .at + 13) (p .at + 13 + m) (o .reader)
       → _≡_ {A = Step} (record { along = q; agrees = t && u }) (stepped l p)
   unfolding stepped part

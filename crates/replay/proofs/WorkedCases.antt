@@ -1,15 +1,27 @@
 -- What a contract says of a run that is computed.
 use mathlib.Core.Path.{_≡_, ap, sym, _∙_}
 use mathlib.Core.List.{List}
-use Prim.Native.Nat.{ℕ}
+use Prim.Native.Nat.{ℕ, _≤_}
+use native.Mathlib.Omega.{arith}
 use lib.IntN.{ℤ}
+use lib.ListN.{length}
 use mir.Syntax.{w32}
 use mir.Val.{ofZ, toZ}
 use Rattle.bits.specs.Programs.{Prog, Out, run}
-use Rattle.bits.specs.Runs.{Runs}
+use Rattle.bits.specs.Runs.{Inside, Reading}
+use Rattle.bits.specs.declared.reader.Reader.{Reader}
 
-pub gives-value : {A : Type 0} {p : Prog A} {s : List ℕ} {a b e y : ℕ} {v x : A} → Runs p s a v e → a ≡ b → run p s b ≡ record { value = x; at = y } → v ≡ x
-gives-value {p = p} {s} {v = v} h q k = ap (λ (o : Out _). o .value) (sym (h .is) ∙ ap (run p s) q ∙ k)
+-- a reader at the beginning of a stream, and what is read there
+module _ {s : List ℕ} {from : Reader} (begins : from .at .0 ≡ 0) where
+  pub inside-at : length s ≤ 16777216 → Inside s from
+  inside-at h = record { place = omega arith; stream = h }
+
+  pub value-at : {A : Type 0} {p : Prog A} {v : A} {to : Reader} → Reading p s from v to → v ≡ run p s 0 .value
+  value-at {p = p} h = sym (ap (λ (o : Out _). o .value) (h .runs .is)) ∙ ap (λ (k : ℕ). run p s k .value) begins
+
+-- a run that is computed
+pub computed : {A : Type 0} {v x : A} {o : Out A} {e : ℕ} → v ≡ o .value → o ≡ record { value = x; at = e } → v ≡ x
+computed h k = h ∙ ap (λ (o : Out _). o .value) k
 
 -- a signed number that is put into a struct
 pub told : {z x : ℤ} → z ≡ x → toZ w32 (ofZ w32 z) ≡ toZ w32 (ofZ w32 x)

@@ -11,12 +11,16 @@ use Rattle.bits.specs.Programs.{run, bits, reads, skips, nonZero, nextStartCode
 use Rattle.bits.specs.declared.bytes.Part.{Part}
 use Rattle.bits.specs.declared.bytes.Part.the-variants.{Bytes, Absent}
 use Rattle.replay.specs.declared.reader_operations.Operation.{Operation}
-use Rattle.replay.specs.declared.reader_operations.Operation.the-variants.{New, Read, ReadBit, Has, HasEnded, Skip, Align, Tell, Seek, SkipBytes, NextStartCode, FindStartCode, HasStartCode, PeekNonZero, PeekBytes, Unknown}
+use Rattle.replay.specs.declared.reader_operations.Operation.the-variants.{New, Read, ReadBit, Has, HasEnded, Skip, Align, Tell, Seek}
+use Rattle.replay.specs.declared.reader_operations.Operation.the-variants.{SkipBytes, NextStartCode, FindStartCode, HasStartCode}
+use Rattle.replay.specs.declared.reader_operations.Operation.the-variants.{PeekNonZero, PeekBytes, Unknown}
 use Rattle.replay.specs.declared.reader_operations.Outcome.{Outcome}
 
 -- the operations, in the order of their numbers
 abbrev pub operations : List Operation
-operations = New ∷ Read ∷ ReadBit ∷ Has ∷ HasEnded ∷ Skip ∷ Align ∷ Tell ∷ Seek ∷ SkipBytes ∷ NextStartCode ∷ FindStartCode ∷ HasStartCode ∷ PeekNonZero ∷ PeekBytes ∷ []
+operations =
+    New ∷ Read ∷ ReadBit ∷ Has ∷ HasEnded ∷ Skip ∷ Align ∷ Tell ∷ Seek ∷ SkipBytes ∷ NextStartCode ∷ FindStartCode ∷ HasStartCode ∷ PeekNonZero
+    ∷ PeekBytes ∷ []
 
 unfoldable pub operationOf : ℕ → Operation
 operationOf n = getD operations n Unknown

@@ -1,5 +1,6 @@
 // The list codes.bin: codes of the nine tables. A case is seven numbers: the table, counted from 0 in the order of RULES 2.1, and the reading of
 // one code.
+use crate::lent::default_tables;
 use crate::reading;
 use bits::reader::Reader;
 use codes::codes::read_code_block_pattern;
@@ -11,6 +12,7 @@ use codes::codes::read_macroblock_type_b;
 use codes::codes::read_macroblock_type_intra;
 use codes::codes::read_macroblock_type_predictive;
 use codes::codes::read_motion;
+use codes::lent::Tables;
 use codes::walk::Vlc;
 use codes::walk::VlcUint;
 use lists::bytes::part;
@@ -18,8 +20,8 @@ use lists::numbers::number_at;
 ghost use mathlib.Core.Path.{_≡_};
 ghost use Prim.Native.Nat.{_≤_, _<_};
 ghost use lib.IntN.{pos};
-ghost use lib.ListN.{length};
-ghost use Rattle.bits.specs.Runs.{Runs};
+ghost use Rattle.bits.specs.Runs.{Inside, Reading};
+ghost use Rattle.codes.specs.Lent.{Lent};
 ghost use Rattle.replay.specs.CodeList.{codeOf, codeAgrees};
 
 // A code of any table.
@@ -32,7 +34,7 @@ fn of_signed(code: Vlc) -> Code
     ensures { λ r. ⌜ (r .reader ≡ code .reader) × (r .value ≡ code .value) ⌝ }
 {
     let after = code.reader;
-    let value = code.value as i32;
+    let value = code.value;
     Code {
         reader: after,
         value: value,
@@ -40,6 +42,7 @@ fn of_signed(code: Vlc) -> Code
 }
 
 fn of_unsigned(code: VlcUint) -> Code
+    requires { ⌜ code .value ≤ 65535 ⌝ }
     ensures { λ r. ⌜ (r .reader ≡ code .reader) × (r .value ≡ pos (code .value)) ⌝ }
 {
     let after = code.reader;
@@ -50,22 +53,22 @@ fn of_unsigned(code: VlcUint) -> Code
     }
 }
 
-fn read_code(s: &[u8], reader: Reader, table: u32) -> Code
-    requires { ⌜ reader .at .0 ≤ 134217728 ⌝ }
-    requires { ⌜ length (now s) ≤ 16777216 ⌝ }
+fn read_code(s: &[u8], reader: Reader, tables: &Tables, table: u32) -> Code
+    requires { ⌜ Inside (now s) reader ⌝ }
+    requires { ⌜ Lent (now tables) ⌝ }
     requires { ⌜ table < 9 ⌝ }
-    ensures { λ r. ⌜ Runs (codeOf table) (now (s .entry)) (reader .at .0) (r .value) (r .reader .at .0) ⌝ }
+    ensures { λ r. ⌜ Reading (codeOf table) (now (s .entry)) reader (r .value) (r .reader) ⌝ }
 {
     match table {
-        0 => of_signed(read_macroblock_address_increment(s, reader)),
-        1 => of_signed(read_macroblock_type_intra(s, reader)),
-        2 => of_signed(read_macroblock_type_predictive(s, reader)),
-        3 => of_signed(read_macroblock_type_b(s, reader)),
-        4 => of_signed(read_code_block_pattern(s, reader)),
-        5 => of_signed(read_motion(s, reader)),
-        6 => of_signed(read_dct_size_luminance(s, reader)),
-        7 => of_signed(read_dct_size_chrominance(s, reader)),
-        _ => of_unsigned(read_dct_coeff(s, reader)),
+        0 => of_unsigned(read_macroblock_address_increment(s, reader, tables)),
+        1 => of_unsigned(read_macroblock_type_intra(s, reader, tables)),
+        2 => of_unsigned(read_macroblock_type_predictive(s, reader, tables)),
+        3 => of_unsigned(read_macroblock_type_b(s, reader, tables)),
+        4 => of_unsigned(read_code_block_pattern(s, reader, tables)),
+        5 => of_signed(read_motion(s, reader, tables)),
+        6 => of_unsigned(read_dct_size_luminance(s, reader, tables)),
+        7 => of_unsigned(read_dct_size_chrominance(s, reader, tables)),
+        _ => of_unsigned(read_dct_coeff(s, reader, tables)),
     }
 }
 
@@ -78,7 +81,8 @@ pub fn codes_agree(case: &[u8]) -> bool
     }
     let read = part(case, 4, 24);
     if reading::possible(read) {
-        let code = read_code(reading::stream(read), reading::reader(read), table);
+        let tables = default_tables();
+        let code = read_code(reading::stream(read), reading::reader(read), &tables, table);
         let after = code.reader;
         return reading::same_end(read, code.value, after);
     }

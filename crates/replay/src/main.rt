@@ -1,6 +1,7 @@
 // Runs ours on the lists of the Rust's answers (tests/oracle writes them), and says of each list how many cases agree.
 mod cases;
 mod code_list;
+mod lent;
 mod load;
 mod pixel_list;
 mod reader_list;

@@ -13,6 +13,7 @@ ghost use lib.ListN.{length};
 ghost use mir.Syntax.{w32};
 ghost use mir.Val.{ofZ};
 ghost use Rattle.bits.specs.Bits.{partAt};
+ghost use Rattle.bits.specs.Runs.{Inside};
 ghost use Rattle.replay.specs.Operations.{operationOf, gives, unknown, flag, peek, outcome};
 
 pub enum Operation {
@@ -132,9 +133,9 @@ fn peeked(s: &[u8], reader: Reader, count: usize) -> Outcome
 
 // Ours, on the stream s.
 pub fn operate(s: &[u8], reader: Reader, op: Operation, argument: u32) -> Outcome
-    requires { ⌜ (reader .at .0 ≤ 134217728) × (length (now s) ≤ 16777216) ⌝ }
+    requires { ⌜ Inside (now s) reader ⌝ }
     ensures { λ r. ⌜ r ≡ outcome op argument (now (s .entry)) (reader .at .0) ⌝ }
-    ensures { λ r. ⌜ r .reader .at .0 ≤ 134217728 ⌝ }
+    ensures { λ r. ⌜ Inside (now (s .entry)) (r .reader) ⌝ }
 {
     let count = argument as usize;
     match op {

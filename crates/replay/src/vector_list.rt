@@ -1,7 +1,6 @@
 // The list vectors.bin: vector steps. A case is eight numbers: r, the component before the step, and the reading of the component after it.
+use crate::lent::default_tables;
 use crate::reading;
-use codes::tables::MOTION_INDEX;
-use codes::tables::MOTION_VALUE;
 use lists::bytes::part;
 use lists::numbers::number_at;
 use lists::numbers::signed;
@@ -25,10 +24,9 @@ pub fn vectors_agree(case: &[u8]) -> bool
     }
     let read = part(case, 8, 24);
     if reading::possible(read) {
-        let index = MOTION_INDEX;
-        let value = MOTION_VALUE;
+        let tables = default_tables();
         let stream = reading::stream(read);
-        let v = decode_motion_vector(stream, reading::reader(read), &index, &value, r, motion);
+        let v = decode_motion_vector(stream, reading::reader(read), &tables, r, motion);
         let after = v.reader;
         return reading::same_end(read, v.motion, after);
     }

@@ -1,15 +1,23 @@
 // Cases worked by hand (RULES W).
+use crate::lent::default_tables;
 use argb::pixel::pixel;
 use bits::reader::Reader;
-use codes::tables::MOTION_INDEX;
-use codes::tables::MOTION_VALUE;
-use coefficients::dc::read_dc;
+use coefficients::dc::read_dc_difference;
 use coefficients::dequantise::dequantise;
+use coefficients::quantiser::Quantiser;
 use laws::half;
 use motion::vector::decode_motion_vector;
 use prediction::samples::average4;
 ghost use mathlib.Core.Path.{_≡_};
-ghost use lib.IntN.{pos, negℤ};
+ghost use mathlib.Core.Bool.{true};
+ghost use Prim.Native.Nat.{_≤_};
+ghost use lib.IntN.{pos, negℤ, natAbs, _+ℤ_};
+ghost use lib.ListN.{length};
+ghost use Rattle.bits.specs.Programs.{run};
+ghost use Rattle.motion.specs.Displacement.{InRange};
+ghost use Rattle.motion.specs.Vector.{motionVector};
+ghost use Rattle.coefficients.specs.Dcs.{dcDifference};
+ghost use Rattle.coefficients.specs.Dequantise.{quantiser, dequantised};
 
 pub struct Values {
     pub first: u32,
@@ -56,20 +64,28 @@ pub struct Vectors {
     pub w4: i32,
 }
 
+// The component after the vector step at the beginning of a stream.
+fn vector_case(s: &[u8], r: u32, motion: i32) -> i32
+    requires { ⌜ length (now s) ≤ 16777216 ⌝ }
+    requires { ⌜ (r ≤ 6) × InRange 64 motion ⌝ }
+    ensures { λ v. ⌜ v ≡ run (motionVector r motion) (now (s .entry)) 0 .value ⌝ }
+{
+    let tables = default_tables();
+    decode_motion_vector(s, Reader::new(), &tables, r, motion).motion
+}
+
 // RULES W.1 to W.4, each read from a stream.
 pub fn vector_cases() -> Vectors
     ensures { λ r. ⌜ (r .w1 ≡ negℤ (pos 16)) × (r .w2 ≡ pos 15) × (r .w3 ≡ negℤ (pos 60)) × (r .w4 ≡ pos 0) ⌝ }
 {
-    let index = MOTION_INDEX;
-    let value = MOTION_VALUE;
     let s1 = [0b0100_0000u8];
     let s2 = [0b0110_0000u8];
     let s3 = [0b0010_1100u8];
     let s4 = [0b0000_0011u8, 0b0011_1111u8, 0b1000_0000u8];
-    let w1 = decode_motion_vector(&s1, Reader::new(), &index, &value, 0, 15).motion;
-    let w2 = decode_motion_vector(&s2, Reader::new(), &index, &value, 0, -16).motion;
-    let w3 = decode_motion_vector(&s3, Reader::new(), &index, &value, 2, 60).motion;
-    let w4 = decode_motion_vector(&s4, Reader::new(), &index, &value, 6, -1024).motion;
+    let w1 = vector_case(&s1, 0, 15);
+    let w2 = vector_case(&s2, 0, -16);
+    let w3 = vector_case(&s3, 2, 60);
+    let w4 = vector_case(&s4, 6, -1024);
     Vectors { w1, w2, w3, w4 }
 }
 
@@ -99,14 +115,23 @@ pub struct Dcs {
     pub w9: i32,
 }
 
+// The DC value at the beginning of a stream, where the predictor is 128.
+fn dc_case(s: &[u8]) -> i32
+    requires { ⌜ length (now s) ≤ 16777216 ⌝ }
+    ensures { λ v. ⌜ v ≡ pos 128 +ℤ run (dcDifference true) (now (s .entry)) 0 .value ⌝ }
+{
+    let tables = default_tables();
+    128 + read_dc_difference(s, Reader::new(), &tables, true).value
+}
+
 // RULES W.8, W.9, each read from a stream.
 pub fn dc_cases() -> Dcs
     ensures { λ r. ⌜ (r .w8 ≡ pos 133) × (r .w9 ≡ pos 123) ⌝ }
 {
     let s8 = [0b1011_0100u8];
     let s9 = [0b1010_1000u8];
-    let w8 = read_dc(&s8, Reader::new(), true, 128).value;
-    let w9 = read_dc(&s9, Reader::new(), true, 128).value;
+    let w8 = dc_case(&s8);
+    let w9 = dc_case(&s9);
     Dcs { w8, w9 }
 }
 
@@ -116,12 +141,21 @@ pub struct Levels {
     pub w12: i32,
 }
 
+// A level of an intra block.
+fn level_case(scale: u32, level: i32, entry: u8) -> i32
+    requires { ⌜ (natAbs level ≤ 256) × (scale ≤ 31) ⌝ }
+    ensures { λ r. ⌜ r ≡ dequantised (quantiser true scale) level entry ⌝ }
+{
+    let q = Quantiser { intra: true, scale };
+    dequantise(q, level, entry)
+}
+
 // RULES W.10 to W.12.
 pub fn level_cases() -> Levels
     ensures { λ r. ⌜ (r .w10 ≡ pos 1) × (r .w11 ≡ pos 2047) × (r .w12 ≡ pos 1) ⌝ }
 {
-    let w10 = dequantise(true, 1, 1, 19);
-    let w11 = dequantise(true, 255, 31, 83);
-    let w12 = dequantise(true, 0, 1, 19);
+    let w10 = level_case(1, 1, 19);
+    let w11 = level_case(31, 255, 83);
+    let w12 = level_case(1, 0, 19);
     Levels { w10, w11, w12 }
 }

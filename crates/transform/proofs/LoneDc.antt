@@ -37,7 +37,8 @@ step c =
     }
 
 -- a lane that has c first and then 0 gives c at each place
-lane-gives : (l : List ℤ) (start stride : ℕ) (c : ℤ) → ((k : ℕ) → k < 8 → at l (start + k * stride) ≡ lone c k) → (k : ℕ) → k < 8 → nth (butterfly (lane l start stride)) k ≡ c
+lane-gives : (l : List ℤ) (start stride : ℕ) (c : ℤ) → ((k : ℕ) → k < 8 → at l (start + k * stride) ≡ lone c k)
+    → (k : ℕ) → k < 8 → nth (butterfly (lane l start stride)) k ≡ c
 lane-gives l start stride c h k q =
     ap (λ e. nth (butterfly e) k) (eight-same (λ j. at l (start + j * stride)) (lone c) h) ∙ ap (λ e. nth e k) (step c) ∙ nth-eight (λ j. c) k q
 

@@ -52,7 +52,8 @@ module _ {start : ℕ → ℕ} {step : ℕ} (L : Lanes start step) (f : Eight �
 
     put-same : (e : Eight) (k : ℕ) → k < 8 → at (put e) (start i + k * step) ≡ nth e k
     put-same e k q =
-        rows-in a (start i) step 1 (λ k x. nth e k) 8 k 0 (start i + k * step) (pos 0) (L .some) (omega (arith, L .inside i h, inv .size)) q (omega arith) (omega arith)
+        rows-in a (start i) step 1 (λ k x. nth e k) 8 k 0 (start i + k * step) (pos 0)
+        (L .some) (omega (arith, L .inside i h, inv .size)) q (omega arith) (omega arith)
 
     put-other : (e : Eight) (j k : ℕ) → j < 8 → k < 8 → (i ≡ j → ⊥) → at (put e) (start j + k * step) ≡ at a (start j + k * step)
     put-other e j k p q g =

@@ -25,11 +25,12 @@ pub outputs-within : (a : Eight) → AtMost 8 inputSize (nth a) → AtMost 8 out
 outputs-within a h = record { entry = outs-within inputSize a h 33500000 tt }
 
 -- a number over 256
-pub over256-within : (t : ℤ) {B : ℕ} → natAbs t ≤ B → natAbs (over256 t) ≤ (B + 128 + 255) / 256
+over256-within : (t : ℤ) {B : ℕ} → natAbs t ≤ B → natAbs (over256 t) ≤ (B + 128 + 255) / 256
 over256-within t h = shift-right 8 (num {s = t} h ⊞ con 128) .bound
 
 -- a lane's numbers are those of the block
-lane-within : (size : ℕ → ℕ) (l : List ℤ) (start step : ℕ) → ((k : ℕ) → k < 8 → natAbs (at l (start + k * step)) ≤ size k) → AtMost 8 size (nth (lane l start step))
+lane-within : (size : ℕ → ℕ) (l : List ℤ) (start step : ℕ) → ((k : ℕ) → k < 8 → natAbs (at l (start + k * step)) ≤ size k)
+    → AtMost 8 size (nth (lane l start step))
 lane-within size l start step h =
     record { entry = λ k q. subst (λ (z : ℤ). natAbs z ≤ size k) (sym (nth-eight (λ j. at l (start + j * step)) k q)) (h k q) }
 
@@ -95,14 +96,16 @@ module _ (l : List ℤ) (h : Middle l) where
       let e : (y * 8 + k * 1) % 8 ≡ k = omega arith in
       subst (λ (n : ℕ). natAbs (at l (y * 8 + k * 1)) ≤ inputSize n) e (h .entry (y * 8 + k * 1) (omega arith)))
 
-  pub narrow : Narrow (rows l)
+  narrow : Narrow (rows l)
   unfolding rows
   narrow =
       record {
         entry = λ k q.
             let a = lane l (k / 8 * 8) 1 in
             subst (λ (z : ℤ). natAbs z ≤ 131072) (sym (block-at (λ y x. over256 (nth (butterfly (lane l (y * 8) 1)) x)) k q))
-            (le-trans (over256-within (nth (butterfly a) (k % 8)) (outputs-within a (row-within (k / 8) (omega arith)) .entry (k % 8) (omega arith))) (lit≤ tt));
+            (le-trans
+            (over256-within (nth (butterfly a) (k % 8)) (outputs-within a (row-within (k / 8) (omega arith)) .entry (k % 8) (omega arith)))
+            (lit≤ tt));
       }
 
 -- RULES 4.4: the results of coefficients within 2048 × premultiplier

@@ -1,5 +1,5 @@
 -- The steps of RULES 4.1 as expressions over the eight inputs.
-use mathlib.Core.Path.{sym, subst}
+use mathlib.Core.Path.{_≡_, refl, sym, ap, _∙_, subst}
 use mathlib.Core.Bool.{Bool, _&&_}
 use mathlib.Core.List.{List, [], _∷_}
 use Prim.Native.Nat.{ℕ, _≤_, _<_}
@@ -12,7 +12,7 @@ use mir.Syntax.{w32}
 use Rattle.laws.proofs.Exprs.{Exp, var, cst, _⊹_, _∸_, _×̇_, neg, shr, Input, signed, eval, bound, ok, within}
 use Rattle.laws.proofs.Tables.{every, at}
 use Rattle.transform.specs.declared.butterfly.Eight.{Eight}
-use Rattle.transform.specs.Butterfly.{nth, butterfly}
+use Rattle.transform.specs.Butterfly.{eight, nth, butterfly}
 use Rattle.laws.specs.Sizes.{AtMost}
 use Rattle.transform.proofs.Eights.{nth-eight}
 
@@ -115,13 +115,17 @@ module _ (size : ℕ → ℕ) (a : Eight) (h : AtMost 8 size (nth a)) where
       ∷ signed w32 (a .v7) (size 7) (h .entry 7 (lit< tt))
       ∷ []
 
+  -- the outputs by the rule are the numbers of these expressions
+  pub step-is : butterfly a ≡ eight (λ k. eval inputs (out k))
+  unfolding butterfly
+  step-is = refl
+
   -- no step on the way to an output leaves 32 bits, and the output is at most M in size
   abbrev pub good : ℕ → ℕ → Exp → Bool
   good M k e = ok inputs e && leb (bound inputs e) M
 
   pub outs-within : (M : ℕ) → T (every (good M) 0 outs) → (k : ℕ) → k < 8 → natAbs (nth (butterfly a) k) ≤ M
-  unfolding butterfly
   outs-within M t k q =
       let p = and-yes (ok inputs (out k)) (leb (bound inputs (out k)) M) (at (good M) outs (var 0) t k q) in
-      subst (λ (z : ℤ). natAbs z ≤ M) (sym (nth-eight (λ j. eval inputs (out j)) k q))
+      subst (λ (z : ℤ). natAbs z ≤ M) (sym (ap (λ (e : Eight). nth e k) step-is ∙ nth-eight (λ j. eval inputs (out j)) k q))
       (le-trans (within inputs (out k) (p .0)) (leb→le (bound inputs (out k)) M (p .1)))

@@ -3,10 +3,10 @@ use mathlib.Core.Bool.{true}
 use mathlib.Core.List.{List, [], _∷_}
 use Prim.Native.Nat.{ℕ}
 use lib.IntN.{ℤ, pos, negℤ, _+ℤ_}
-use Rattle.laws.specs.Signed.{half0}
 use Rattle.motion.specs.Displacement.{displace, corrected}
 use Rattle.coefficients.specs.Dcs.{added}
-use Rattle.coefficients.specs.Dequantise.{dequantised}
+use Rattle.coefficients.specs.Dequantise.{quantiser, dequantised}
+use Rattle.prediction.specs.Predict.{chroma}
 use Rattle.prediction.specs.Samples.{average4}
 use Rattle.argb.specs.Pixel.{argb}
 
@@ -25,9 +25,9 @@ unfoldable pub evaluated : Given → ℤ
 evaluated (vector f component code residual) = corrected f (component +ℤ displace f code residual)
 evaluated (moved f component displacement) = corrected f (component +ℤ displacement)
 evaluated (average a b c d) = pos (average4 a b c d)
-evaluated (chromaHalf component) = half0 component
+evaluated (chromaHalf component) = chroma component
 evaluated (dc predictor bits differential) = predictor +ℤ added bits differential
-evaluated (intraAc level scale entry) = dequantised true level scale entry
+evaluated (intraAc level scale entry) = dequantised (quantiser true scale) level entry
 evaluated (pixel y cr cb) = pos (argb y cr cb)
 
 pub record Case : Type 0 where

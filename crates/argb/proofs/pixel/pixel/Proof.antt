@@ -1,11 +1,11 @@
 -- `argb::pixel::pixel` meets its contract.
-use mathlib.Core.Path.{_≡_, ap, _∙_}
+use mathlib.Core.Path.{_≡_, _∙_}
 use mathlib.Core.List.{List, [], _∷_}
 use native.Mathlib.Omega.{arith}
 use borrow.Author.Needs.{needs}
 use mir.Syntax.{w32}
 use Rattle.laws.specs.Signed.{clamp255}
-use Rattle.laws.proofs.Exprs.{Exp, var, cst, _⊹_, _∸_, _×̇_, shr, Input, natural, term, need, value}
+use Rattle.laws.proofs.Exprs.{Exp, var, cst, _⊹_, _∸_, _×̇_, shr, Input, natural, need, value}
 use Rattle.argb.specs.Pixel.{luma, red, green, blue, argb}
 use Rattle.argb.proofs.pixel.pixel.Statement.{statement}
 use Rattle.argb.proofs.pixel.pixel.Tie as tie
@@ -38,30 +38,22 @@ b = yy ⊹ shr 16 (cb128 ×̇ cst 132201)
 abbrev ρ : tie.Start → List (Input w32)
 ρ c = natural w32 (c .args .y) 255 (omega arith) ∷ natural w32 (c .args .cr) 255 (omega arith) ∷ natural w32 (c .args .cb) 255 (omega arith) ∷ []
 
-module _ (s : tie.Start) where
-  -- the clamp of what is read is that of the rule's number
-  red-is : clamp255 (term (ρ s) r) ≡ red (s .args .y) (s .args .cr)
-  unfolding red luma
-  red-is = ap clamp255 (value (ρ s) r tt)
+-- each clamp gives the byte of the rule
+red-is : (c : tie.After-clamp-u8) → let a = c .before .args in c .clamp-u8 .result ≡ red (a .y) (a .cr)
+unfolding red luma
+red-is c = c .clamp-u8 .ensures ∙ (λ i. clamp255 (value (ρ (c .before)) r tt i))
 
-  green-is : clamp255 (term (ρ s) g) ≡ green (s .args .y) (s .args .cr) (s .args .cb)
-  unfolding green luma
-  green-is = ap clamp255 (value (ρ s) g tt)
+green-is : (c : tie.After-clamp-u82) → let a = c .before .before .args in c .clamp-u82 .result ≡ green (a .y) (a .cr) (a .cb)
+unfolding green luma
+green-is c = c .clamp-u82 .ensures ∙ (λ i. clamp255 (value (ρ (c .before .before)) g tt i))
 
-  blue-is : clamp255 (term (ρ s) b) ≡ blue (s .args .y) (s .args .cb)
-  unfolding blue luma
-  blue-is = ap clamp255 (value (ρ s) b tt)
+blue-is : (c : tie.After-clamp-u83) → let a = c .before .before .before .args in c .clamp-u83 .result ≡ blue (a .y) (a .cb)
+unfolding blue luma
+blue-is c = c .clamp-u83 .ensures ∙ (λ i. clamp255 (value (ρ (c .before .before .before)) b tt i))
 
 returns : tie.Need-returns
 unfolding argb
-returns c =
-    let s = c .before .before .before in
-    omega (
-      arith,
-      c .before .before .clamp-u8 .ensures ∙ red-is s,
-      c .before .clamp-u82 .ensures ∙ green-is s,
-      c .clamp-u83 .ensures ∙ blue-is s,
-    )
+returns c = omega (arith, red-is (c .before .before), green-is (c .before), blue-is c)
 
 -- no step leaves the width: `need` of its expression
 pub pixel-spec : {M : Type 1} → statement M

@@ -22,6 +22,14 @@ Inv-loop y cr cb width height luma-width dst₀ dst-w dst-h ty₀ dst ty =
 abbrev μ-loop : tie.MeasureT-loop
 μ-loop y cr cb width height luma-width dst₀ dst-w dst-h ty₀ dst ty = dst-h - ty
 
+-- where the function began, from the head of the loop
+abbrev start : tie.At-loop Inv-loop μ-loop → tie.Start Inv-loop μ-loop
+start l = l .before .before .before .before .before
+
+-- the picture that is written
+abbrev p : tie.At-loop Inv-loop μ-loop → Picture
+p l = let a = start l .args in picture (a .width) (a .height) (a .luma-width) (now (a .y)) (now (a .cr)) (now (a .cb))
+
 loop-holds : tie.Need-loop-holds Inv-loop μ-loop
 unfolding storeRow
 loop-holds c =
@@ -30,17 +38,18 @@ loop-holds c =
 
 write-row-requires : tie.Need-write-row-requires Inv-loop μ-loop
 write-row-requires c κs =
-    let s = c .before .before .before .before .before .before .before in
-    (s .pre .0, ((omega arith, omega arith, c .before .loop-test .taken), omega (arith, s .pre .1 .1, c .before .before .loop .inv .1)))
+    let l = c .before .before in
+    let s = start l in
+    (s .pre .0, ((omega arith, omega arith, c .before .loop-test .taken), omega (arith, s .pre .1 .1, l .loop .inv .1)))
 
 loop-again : tie.Need-loop-again Inv-loop μ-loop
 loop-again c =
-    let l = c .before .before .before .before .before in
-    let a = l .before .before .before .before .before .args in
-    let p : Picture = picture (a .width) (a .height) (a .luma-width) (now (a .y)) (now (a .cr)) (now (a .cb)) in
+    let w = c .before .before in
+    let l = w .before .before .before in
+    let a = start l .args in
     let ty = l .loop .ty in
-    let e = rows-on p (a .dst-w) (a .dst-h) ty (now (a .dst)) (l .loop .inv .2) (c .before .before .write-row .ensures) in
-    (omega arith, ap length e ∙ length-row (now (a .dst)) 0 (pixelAt p (a .dst-w) (a .dst-h)) ((ty + 1) * a .dst-w), e)
+    let e = rows-on (p l) (a .dst-w) (a .dst-h) ty (now (a .dst)) (l .loop .inv .2) (w .write-row .ensures) in
+    (omega arith, ap length e ∙ length-row (now (a .dst)) 0 (pixelAt (p l) (a .dst-w) (a .dst-h)) ((ty + 1) * a .dst-w), e)
 
 same-length : tie.Need-same-length Inv-loop μ-loop
 same-length c = c .before .loop .inv .1
@@ -48,11 +57,11 @@ same-length c = c .before .loop .inv .1
 returns : tie.Need-returns Inv-loop μ-loop
 unfolding scaled
 returns c =
-    let a = c .before .before .before .before .before .before .args in
-    let p : Picture = picture (a .width) (a .height) (a .luma-width) (now (a .y)) (now (a .cr)) (now (a .cb)) in
-    let e : c .before .loop .ty ≡ a .dst-h = omega arith in
-    c .before .loop .inv .2
-    ∙ ap (storeRow (now (a .dst)) 0 (pixelAt p (a .dst-w) (a .dst-h))) (ap (λ (n : ℕ). n * a .dst-w) e ∙ mul-comm (a .dst-h) (a .dst-w))
+    let l = c .before in
+    let a = start l .args in
+    let e : l .loop .ty ≡ a .dst-h = omega arith in
+    l .loop .inv .2
+    ∙ ap (storeRow (now (a .dst)) 0 (pixelAt (p l) (a .dst-w) (a .dst-h))) (ap (λ (n : ℕ). n * a .dst-w) e ∙ mul-comm (a .dst-h) (a .dst-w))
 
 pub write-rgb-scaled-spec : {M : Type 1} → statement M
 write-rgb-scaled-spec =

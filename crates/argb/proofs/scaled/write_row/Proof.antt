@@ -25,10 +25,14 @@ abbrev μ-loop : tie.MeasureT-loop
 row-most : (s : tie.Start Inv-loop μ-loop) → s .args .ty * s .args .height / s .args .dst-h ≤ 4096
 row-most s = omega (arith, nearest-below (s .args .ty) (s .args .dst-h) (s .args .height) (omega arith) (omega arith))
 
+-- where the function began, from the head of the loop
+abbrev start : tie.At-loop Inv-loop μ-loop → tie.Start Inv-loop μ-loop
+start l = l .before .before .before .before .before
+
 -- a turn, at column tx
 module _ (c : tie.In-loop Inv-loop μ-loop) where
   abbrev s : tie.Start Inv-loop μ-loop
-  s = c .before .before .before .before .before .before
+  s = start (c .before)
 
   abbrev p : Picture
   p = let a = s .args in picture (a .width) (a .height) (a .luma-width) (now (a .y)) (now (a .cr)) (now (a .cb))
@@ -64,13 +68,18 @@ loop-holds : tie.Need-loop-holds Inv-loop μ-loop
 unfolding storeRow
 loop-holds c = (omega arith, refl, refl)
 
-loop-again : tie.Need-loop-again Inv-loop μ-loop
+-- what a turn stores is the pixel of the rule
+stored : (c : tie.After-pixel Inv-loop μ-loop) → let l = c .before .before .before .before in let a = s l .args in
+    c .pixel .result ≡ outputPixel (p l) (a .dst-w) (a .dst-h) (a .ty) (tx l)
 unfolding outputPixel samplePixel
+stored c = c .pixel .ensures
+
+loop-again : tie.Need-loop-again Inv-loop μ-loop
 loop-again c =
     let l = c .before .before .before .before in
     let a = s l .args in
     let f : ℕ → ℕ = outputPixel (p l) (a .dst-w) (a .dst-h) (a .ty) in
-    let e = row-on (now (a .dst)) (a .ty * a .dst-w) f (tx l) (l .before .loop .inv .2) (c .pixel .ensures) in
+    let e = row-on (now (a .dst)) (a .ty * a .dst-w) f (tx l) (l .before .loop .inv .2) (stored c) in
     (omega arith, ap length e ∙ length-row (now (a .dst)) (a .ty * a .dst-w) f (tx l + 1), e)
 
 same-length : tie.Need-same-length Inv-loop μ-loop
@@ -78,9 +87,10 @@ same-length c = c .before .loop .inv .1
 
 returns : tie.Need-returns Inv-loop μ-loop
 returns c =
-    let a = c .before .before .before .before .before .before .args in
-    let e : c .before .loop .tx ≡ a .dst-w = omega arith in
-    c .before .loop .inv .2 ∙ ap (storeRow (now (a .dst)) (a .ty * a .dst-w) _) e
+    let l = c .before in
+    let a = start l .args in
+    let e : l .loop .tx ≡ a .dst-w = omega arith in
+    l .loop .inv .2 ∙ ap (storeRow (now (a .dst)) (a .ty * a .dst-w) _) e
 
 pub write-row-spec : {M : Type 1} → statement M
 write-row-spec =

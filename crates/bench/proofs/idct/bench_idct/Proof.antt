@@ -45,7 +45,8 @@ idct-requires : tie.Need-idct-requires Inv-loop μ-loop
 idct-requires c κs =
     let l = c .before .before in
     let k = l .before .before .before in
-    subst Bounded (sym (block-is c)) (block-bounded (k .before .args .bytes .now) (λ i. k .shared-slice-known .given i .fits) (l .loop .t % 65536) (omega arith))
+    subst Bounded (sym (block-is c))
+    (block-bounded (k .before .args .bytes .now) (λ i. k .shared-slice-known .given i .fits) (l .loop .t % 65536) (omega arith))
 
 -- the result that is read
 abbrev ins : tie.After-result Inv-loop μ-loop → List (Input w32)
@@ -81,9 +82,10 @@ loop-again c =
     let t = l .loop .t in
     let f = l .before .block-of .result in
     let n = natAbs (term (ins c) result) in
+    let first = natural-num w32 (t % 65536) 65535 (omega arith) tt .is in
     let e : n ≡ natAbs (turnOf f t)
     = ap natAbs (value (ins c) result tt)
-    ∙ ap (λ (x : List ℤ). natAbs (at x (t % 64) +ℤ pos 131072)) (d .idct .ensures .0 ∙ ap (λ (z : ℤ). idct (set f 0 z)) (natural-num w32 (t % 65536) 65535 (omega arith) tt .is)) in
+    ∙ ap (λ (x : List ℤ). natAbs (at x (t % 64) +ℤ pos 131072)) (d .idct .ensures .0 ∙ ap (λ (z : ℤ). idct (set f 0 z)) first) in
     (omega arith, ap (λ (x : ℕ). x + n) (l .loop .inv .1) ∙ ap (λ (x : ℕ). sumOfTurns f t + x) e ∙ ap (sumOfTurns f) (sym (add-one t)), omega arith)
 
 returns-2 : tie.Need-returns-2 Inv-loop μ-loop
@@ -93,7 +95,9 @@ returns-2 c =
     let s = l .before .before .before .before in
     let e : l .loop .t ≡ s .args .times = omega arith in
     simp (le-ltb _ _ (l .before .before .if1 .left))
-    (ap (λ (x : ℕ). x % 4294967296) (l .loop .inv .1 ∙ ap (sumOfTurns (l .before .block-of .result)) e ∙ ap (λ (x : List ℤ). sumOfTurns x (s .args .times)) (l .before .block-of .ensures)))
+    (ap (λ (x : ℕ). x % 4294967296)
+    (l .loop .inv .1 ∙ ap (sumOfTurns (l .before .block-of .result)) e
+    ∙ ap (λ (x : List ℤ). sumOfTurns x (s .args .times)) (l .before .block-of .ensures)))
 
 pub bench-idct-spec : {M : Type 1} → statement M
 bench-idct-spec =

@@ -45,7 +45,8 @@ loop-again c =
     let v = term (ins c) (var 0 ×̇ cst 16 ∸ cst 2048) in (
       omega arith,
       ap (λ (n : ℕ). set (l .loop .block) n v) (sym (zero-add (l .loop .k)))
-          ∙ row-on (replicate 64 (pos 0)) 0 (coefficient (l .before .args .bytes .now)) (l .loop .k) (l .loop .inv .1) (value (ins c) (var 0 ×̇ cst 16 ∸ cst 2048) tt),
+          ∙ row-on (replicate 64 (pos 0)) 0 (coefficient (l .before .args .bytes .now)) (l .loop .k) (l .loop .inv .1)
+          (value (ins c) (var 0 ×̇ cst 16 ∸ cst 2048) tt),
     )
 
 returns : tie.Need-returns Inv-loop μ-loop

@@ -1,5 +1,5 @@
 -- `predictions::bench_predict_plane` meets its contract: each turn predicts a block.
-use mathlib.Core.Path.{_≡_, refl, sym, ap, subst, _∙_}
+use mathlib.Core.Path.{_≡_, refl, sym, ap, ap₂, subst, _∙_}
 use Prim.Native.Nat.{ℕ, _*_, _-_, _≤_}
 use native.Mathlib.Nat.{mul-le-mul}
 use native.Mathlib.Omega.{arith}
@@ -24,18 +24,32 @@ Inv-loop store₀ luma across down vectors interpolate size blocks bytes n₀ st
 abbrev μ-loop : tie.MeasureT-loop
 μ-loop store₀ luma across down vectors interpolate size blocks bytes n₀ store n = across * down - n
 
+-- the function's beginning, from where the size is known; and where it is known, from the loop
+abbrev begun : tie.After-size-of Inv-loop μ-loop → tie.Start Inv-loop μ-loop
+begun z = z .before .before .before
+
+abbrev sized : tie.At-loop Inv-loop μ-loop → tie.After-size-of Inv-loop μ-loop
+sized l = l .before .before .before .before .before
+
+-- the turn in which a block was placed; and that block, from where it has been predicted
+abbrev turned : tie.After-block Inv-loop μ-loop → tie.At-loop Inv-loop μ-loop
+turned c = c .before .before .before .before .before
+
+abbrev placed : tie.After-slice-known2 Inv-loop μ-loop → tie.After-block Inv-loop μ-loop
+placed c = c .before .before .before .before .before
+
 -- the tests, in the definition's terms
-planes-are : (c : tie.After-room Inv-loop μ-loop) → let a = c .before .before .before .before .args in
+planes-are : (c : tie.After-room Inv-loop μ-loop) → let a = begun (c .before) .args in
     c .room .result ≡ room (a .across) (a .down) (2 * (sizeOf (a .luma) * sizeOf (a .luma))) (length (now (a .store)))
 planes-are c =
-    let a = c .before .before .before .before .args in
+    let a = begun (c .before) .args in
     c .room .ensures ∙ ap (λ (z : ℕ). room (a .across) (a .down) (2 * (z * z)) (length (now (a .store)))) (c .before .size-of .ensures)
 
-planes : (c : tie.Else1 Inv-loop μ-loop) → let a = c .before .before .before .before .before .args in
+planes : (c : tie.Else1 Inv-loop μ-loop) → let a = begun (c .before .before) .args in
     Room (a .across) (a .down) (2 * (sizeOf (a .luma) * sizeOf (a .luma))) (length (now (a .store)))
 planes c = room-yes _ _ _ _ (sym (planes-are (c .before)) ∙ not-false _ (c .if1 .left))
 
-vectors : (c : tie.Else2 Inv-loop μ-loop) → let a = c .before .before .before .before .before .before .before .args in
+vectors : (c : tie.Else2 Inv-loop μ-loop) → let a = begun (c .before .before .before .before) .args in
     Room (a .across) (a .down) 2 (length (now (a .vectors)))
 vectors c = room-yes _ _ _ _ (sym (c .before .room2 .ensures) ∙ not-false _ (c .if2 .left))
 
@@ -45,13 +59,11 @@ square c = rw (c .size-of .ensures) (square-most (c .before .before .before .arg
 -- block n
 abbrev block : (c : tie.At-loop Inv-loop μ-loop) → Place
 block c =
-    let a = c .before .before .before .before .before .before .before .before .args in
+    let a = begun (sized c) .args in
     blockOf (macroblockAt (a .across) (a .down) (c .loop .n)) (sizeOf (a .luma))
 
-place-is : (c : tie.After-block Inv-loop μ-loop) → c .block .result ≡ block (c .before .before .before .before .before)
-place-is c =
-    let l = c .before .before .before .before .before in
-    c .block .ensures ∙ rw (c .before .before .before .macroblock-at .ensures .0, l .before .before .before .before .before .size-of .ensures)
+place-is : (c : tie.After-block Inv-loop μ-loop) → c .block .result ≡ block (turned c)
+place-is c = c .block .ensures ∙ ap₂ blockOf (c .before .before .before .macroblock-at .ensures .0) (sized (turned c) .size-of .ensures)
 
 mul-room : tie.Need-mul-room Inv-loop μ-loop
 mul-room c = omega (arith, square c)
@@ -91,35 +103,36 @@ predict-plane-requires c κs =
     let small = x .vector-of .ensures .1 .1 in
     let m = x .before .macroblock-at in
     let l = x .before .before .before in
-    let s = l .before .before .before .before .before in
-    let a = s .before .before .before .args in
+    let s = sized l in
+    let a = begun s .args in
     let at = macroblockAt (a .across) (a .down) (l .loop .n) in
+    let area = ap (λ (z : ℕ). a .across * a .down * (z * z)) (s .size-of .ensures) in
     let two = two-planes (a .luma) at (length (now (a .store))) (planes (l .before .before .before) .enough) in (
       rw p (placed-by (a .luma) (subst Inside (m .ensures .0) (m .ensures .1))),
       (
         (rw (small-read (w .h) (small .0)) (small .0), rw (small-read (w .v) (small .1)) (small .1)),
-        (rw p (omega (arith, two, l .loop .inv .1)), rw (p, s .size-of .ensures) (omega (arith, two, l .loop .inv .1))),
+        (rw p (omega (arith, two, l .loop .inv .1)), rw p (omega (arith, two, area, l .loop .inv .1))),
       ),
     )
 
 add-n : tie.Need-add-n Inv-loop μ-loop
 add-n c =
-    let t = c .before .before .before .before .before .before .before .before .before in
+    let t = placed c .before .before .before .before in
     omega (arith, t .loop-test .taken, count-most (vectors (t .before .before)))
 
 loop-less : tie.Need-loop-less Inv-loop μ-loop
-loop-less c = omega (arith, c .before .before .before .before .before .before .before .before .before .loop-test .taken)
+loop-less c = omega (arith, placed c .before .before .before .before .loop-test .taken)
 
 loop-again : tie.Need-loop-again Inv-loop μ-loop
 unfolding predictBlock
 loop-again c =
-    let x = c .before .before .before .before .before .before .before in
+    let x = placed c .before .before in
     let w = x .vector-of .result in
     let e = x .vector-of .ensures in
     let l = x .before .before .before in
-    let s = l .before .before .before .before .before in
-    let a = s .before .before .before .args in
-    let place = place-is (c .before .before .before .before .before) in
+    let s = sized l in
+    let a = begun s .args in
+    let place = place-is (placed c) in
     let at = macroblockAt (a .across) (a .down) (l .loop .n) in
     let to : a .across * a .down * (s .size-of .result * s .size-of .result) ≡ bytes (block l)
     = ap (λ (z : ℕ). a .across * a .down * (z * z)) (s .size-of .ensures) ∙ plane-bytes (a .luma) at in (
@@ -136,7 +149,7 @@ unfolding predictPlane
 returns-3 c =
     let l = c .before in
     let f = l .before .before .before in
-    let a = l .before .before .before .before .before .before .before .before .args in
+    let a = begun (sized l) .args in
     let e : l .loop .n ≡ a .across * a .down = omega (arith, l .loop .inv .0, c .loop-test .left) in (
       by-second (planes-are (f .before)) (not-false _ (f .if1 .left)) (l .before .before .room2 .ensures) (not-false _ (l .before .if2 .left)),
       l .loop .inv .2 ∙ ap (repeated (predictBlock (a .luma) (a .across) (a .down) (now (a .vectors)) (a .interpolate)) (now (a .store))) e,

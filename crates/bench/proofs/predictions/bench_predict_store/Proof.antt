@@ -18,11 +18,18 @@ Inv-loop store₀ across down vectors interpolate blocks n₀ store n =
 abbrev μ-loop : tie.MeasureT-loop
 μ-loop store₀ across down vectors interpolate blocks n₀ store n = across * down - n
 
-stores : (c : tie.Else1 Inv-loop μ-loop) → let a = c .before .before .before .before .args in
+-- the function's beginning, from where there is room; and the turn's vector, from where its macroblock has been predicted
+abbrev begun : tie.Else1 Inv-loop μ-loop → tie.Start Inv-loop μ-loop
+begun c = c .before .before .before .before
+
+abbrev vector : tie.After-slice-known2 Inv-loop μ-loop → tie.After-vector-of Inv-loop μ-loop
+vector c = c .before .before .before .before .before .before
+
+stores : (c : tie.Else1 Inv-loop μ-loop) → let a = begun c .args in
     Room (a .across) (a .down) 1152 (length (now (a .store)))
 stores c = room-yes _ _ _ _ (sym (c .before .room .ensures) ∙ not-false _ (c .if1 .left))
 
-vectors : (c : tie.Else2 Inv-loop μ-loop) → let a = c .before .before .before .before .before .before .args in
+vectors : (c : tie.Else2 Inv-loop μ-loop) → let a = begun (c .before .before) .args in
     Room (a .across) (a .down) 2 (length (now (a .vectors)))
 vectors c = room-yes _ _ _ _ (sym (c .before .room2 .ensures) ∙ not-false _ (c .if2 .left))
 
@@ -60,24 +67,26 @@ predict-macroblock-planes-requires c κs =
 
 add-n : tie.Need-add-n Inv-loop μ-loop
 add-n c =
-    let t = c .before .before .before .before .before .before .before .before in
+    let t = vector c .before .before in
     omega (arith, t .loop-test .taken, count-most (vectors (t .before .before)))
 
 loop-less : tie.Need-loop-less Inv-loop μ-loop
-loop-less c = omega (arith, c .before .before .before .before .before .before .before .before .loop-test .taken)
+loop-less c = omega (arith, vector c .before .before .loop-test .taken)
 
 loop-again : tie.Need-loop-again Inv-loop μ-loop
 unfolding predictMacroblock
 loop-again c =
-    let x = c .before .before .before .before .before .before in
+    let p = c .before .before in
+    let x = p .before .before .before .before in
     let w = x .vector-of .result in
     let e = x .vector-of .ensures in
     let l = x .before .before .before in
-    let a = l .before .before .before .before .before .before .before .args in (
+    let f = l .before .before .before in
+    let a = f .before .before .before .before .args in (
       omega (arith, x .before .before .loop-test .taken),
-      omega (arith, c .before .before .predict-macroblock-planes .kept .0, l .loop .inv .1),
+      omega (arith, p .predict-macroblock-planes .kept .0, l .loop .inv .1),
       repeated-on (predictMacroblock (a .across) (a .down) (now (a .vectors)) (a .interpolate)) (now (a .store)) (l .loop .n) (l .loop .inv .2)
-          (c .before .before .predict-macroblock-planes .ensures .1
+          (p .predict-macroblock-planes .ensures .1
           ∙ rw (x .before .macroblock-at .ensures .0, small-read (w .h) (e .1 .1 .0), small-read (w .v) (e .1 .1 .1), e .0, e .1 .0)),
     )
 
@@ -86,7 +95,7 @@ unfolding predictStore
 returns-3 c =
     let l = c .before in
     let f = l .before .before .before in
-    let a = l .before .before .before .before .before .before .before .args in
+    let a = begun (l .before .before .before) .args in
     let e : l .loop .n ≡ a .across * a .down = omega (arith, l .loop .inv .0, c .loop-test .left) in (
       by-second (f .before .room .ensures) (not-false _ (f .if1 .left)) (l .before .before .room2 .ensures) (not-false _ (l .before .if2 .left)),
       l .loop .inv .2 ∙ ap (repeated (predictMacroblock (a .across) (a .down) (now (a .vectors)) (a .interpolate)) (now (a .store))) e,

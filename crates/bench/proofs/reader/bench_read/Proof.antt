@@ -1,5 +1,5 @@
 use mathlib.Core.Path.{sym, _∙_}
-use Prim.Native.Nat.{_+_, _-_, _<_}
+use Prim.Native.Nat.{ℕ, _+_, _-_, _<_}
 use native.Mathlib.Omega.{arith}
 use borrow.Author.Needs.{needs}
 use borrow.Author.Tests.{lt-ltb, le-ltb, eq-eqb, ne-eqb}
@@ -11,7 +11,7 @@ use Rattle.bench.proofs.reader.bench_read.Statement.{statement}
 use Rattle.bench.proofs.reader.bench_read.Tie as tie
 
 abbrev Inv-loop : tie.InvT-loop
-Inv-loop bytes count n reader₀ sum₀ reader sum = Summing n (bits n) bytes (reader .at .0) sum
+Inv-loop bytes count n reader₀ sum₀ reader sum = Summing n (bits n) bytes reader sum
 
 abbrev μ-loop : tie.MeasureT-loop
 μ-loop bytes count n reader₀ sum₀ reader sum = 134217728 - reader .at .0
@@ -31,7 +31,7 @@ returns-3 c =
     (summing-long (c .before .before .before .before .args .count) _ _ (omega (arith, c .if3 .taken)))
 
 loop-holds : tie.Need-loop-holds Inv-loop μ-loop
-loop-holds c = summing-start _ _ _ _ (c .new .ensures)
+loop-holds c = summing-start _ _ _ _ (omega (arith, c .before .if3 .left)) (c .new .ensures)
 
 cast-sum : tie.Need-cast-sum Inv-loop μ-loop
 cast-sum c = omega (arith, c .struct-known .given)
@@ -39,26 +39,30 @@ cast-sum c = omega (arith, c .struct-known .given)
 add-sum : tie.Need-add-sum Inv-loop μ-loop
 add-sum c = omega (arith, c .struct-known .given)
 
+-- the function's beginning, from the loop
+abbrev begun : tie.At-loop Inv-loop μ-loop → tie.Start Inv-loop μ-loop
+begun l = l .before .before .before .before .before .before
+
 step : (c : tie.After-struct-known Inv-loop μ-loop) → let r = c .before .before in let l = r .before .before .before in
-    let s = l .before .before .before .before .before .before in
+    let n = begun l .args .count in
     let read = r .read .result in (134217728 - read .reader .at .0 < 134217728 - l .loop .reader .at .0)
-    × Summing (s .args .count) (bits (s .args .count)) (s .args .bytes .now) (read .reader .at .0) (l .loop .sum + read .value)
+    × Summing n (bits n) (begun l .args .bytes .now) (read .reader) (l .loop .sum + read .value)
 step c =
     let r = c .before .before in
     let l = r .before .before .before in
-    let s = l .before .before .before .before .before .before in
+    let n : ℕ = begun l .args .count in
     let there = sym (r .before .before .has .ensures .0) ∙ r .before .if4 .taken in
-    let read = r-reads (s .args .count) (omega arith) (r .read .ensures .0) in
-    summing-step (s .args .count) _ _ (omega (arith, l .before .before .if3 .left)) there read (bits-on (omega arith) there read)
+    let read = r-reads n (omega arith) (r .read .ensures .runs) in
+    summing-step n _ _ there (record { runs = read; inside = r .read .ensures .inside }) (bits-on (omega arith) there read)
     (omega (arith, c .struct-known .given)) (l .loop .inv)
 
 returns-4 : tie.Need-returns-4 Inv-loop μ-loop
 unfolding sumOfReads
 returns-4 c =
     let l = c .before .before in
-    let n = l .before .before .before .before .before .before .args .count in
+    let n = begun l .args .count in
     simp (ne-eqb _ _ (l .before .before .before .before .if1 .left), le-ltb _ _ (l .before .before .before .if2 .left))
-    (summing-end n (bits n) _ (omega (arith, l .before .before .if3 .left)) (sym (c .before .has .ensures .0) ∙ c .if4 .left) (l .loop .inv))
+    (summing-end n (bits n) _ (sym (c .before .has .ensures .0) ∙ c .if4 .left) (l .loop .inv))
 
 pub bench-read-spec : {M : Type 1} → statement M
 bench-read-spec =
@@ -71,8 +75,8 @@ bench-read-spec =
     returns-3
     (λ c κs. search needs)
     loop-holds
-    (λ c κs. search needs)
-    (λ c κs. search needs)
+    (λ c κs. c .loop .inv .going .inside .stream)
+    (λ c κs. c .before .before .loop .inv .going .inside)
     cast-sum
     add-sum
     (λ c. step c .0)

@@ -16,24 +16,38 @@ returns-2 c = let a = c .before .before .args in simp (le-leb 1 (a .across) (ome
 
 returns-3 : tie.Need-returns-3
 unfolding room
-returns-3 c = let a = c .before .before .before .args in simp (le-leb 1 (a .across) (omega arith), le-leb (a .across) 256 (omega arith), lt-leb (a .down) 256 (omega arith))
+returns-3 c =
+    let a = c .before .before .before .args in
+    simp (le-leb 1 (a .across) (omega arith), le-leb (a .across) 256 (omega arith), lt-leb (a .down) 256 (omega arith))
 
 returns-4 : tie.Need-returns-4
 unfolding room
-returns-4 c = let a = c .before .before .before .before .args in simp (le-leb 1 (a .across) (omega arith), le-leb (a .across) 256 (omega arith), le-leb (a .down) 256 (omega arith), lt-leb (a .unit) 1152 (omega arith))
+returns-4 c =
+    let a = c .before .before .before .before .args in
+    let high = le-leb (a .down) 256 (omega arith) in
+    simp (le-leb 1 (a .across) (omega arith), le-leb (a .across) 256 (omega arith), high, lt-leb (a .unit) 1152 (omega arith))
 
 blocks : (c : tie.Else4) → let a = c .before .before .before .before .args in a .across * a .down ≤ 65536
-blocks c = let a = c .before .before .before .before .args in let x : a .across ≤ 256 = omega arith in let y : a .down ≤ 256 = omega arith in mul-le-mul x y
+blocks c =
+    let a = c .before .before .before .before .args in
+    let x : a .across ≤ 256 = omega arith in
+    let y : a .down ≤ 256 = omega arith in
+    mul-le-mul x y
 
 mul-result : tie.Need-mul-result
 mul-result c = omega (arith, blocks c)
 
 mul-result-2 : tie.Need-mul-result-2
-mul-result-2 c = let a = c .before .before .before .before .args in let u : a .unit ≤ 1152 = omega arith in omega (arith, mul-le-mul (blocks c) u)
+mul-result-2 c =
+    let u : c .before .before .before .before .args .unit ≤ 1152 = omega arith in
+    omega (arith, mul-le-mul (blocks c) u)
 
 returns-5 : tie.Need-returns-5
 unfolding room
-returns-5 c = let a = c .before .before .before .before .args in simp (le-leb 1 (a .across) (omega arith), le-leb (a .across) 256 (omega arith), le-leb (a .down) 256 (omega arith), le-leb (a .unit) 1152 (omega arith))
+returns-5 c =
+    let a = c .before .before .before .before .args in
+    let high = le-leb (a .down) 256 (omega arith) in
+    simp (le-leb 1 (a .across) (omega arith), le-leb (a .across) 256 (omega arith), high, le-leb (a .unit) 1152 (omega arith))
 
 pub room-spec : {M : Type 1} → statement M
 room-spec = tie.close (tie.spec returns returns-2 returns-3 returns-4 mul-result mul-result-2 returns-5)

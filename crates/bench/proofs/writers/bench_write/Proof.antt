@@ -26,6 +26,10 @@ Inv-loop plane₀ across down intra lone value blocks results₀ n₀ plane resu
 abbrev μ-loop : tie.MeasureT-loop
 μ-loop plane₀ across down intra lone value blocks results₀ n₀ plane results n = across * down - n
 
+-- the turn in which a block's place was found
+abbrev turned : tie.After-chroma-place Inv-loop μ-loop → tie.In-loop Inv-loop μ-loop
+turned c = c .before .before .before
+
 whole : (c : tie.Else1 Inv-loop μ-loop) → let a = c .before .before .before .args in Room (a .across) (a .down) 64 (length (now (a .plane)))
 whole c = room-yes _ _ _ _ (sym (c .before .room .ensures) ∙ not-false _ (c .if1 .left))
 
@@ -53,11 +57,11 @@ chroma-place-requires : tie.Need-chroma-place-requires Inv-loop μ-loop
 chroma-place-requires c κs = c .before .macroblock-at .ensures .1
 
 mul-write-block : tie.Need-mul-write-block Inv-loop μ-loop
-mul-write-block c = omega (arith, whole (c .before .before .before .before .before) .wide)
+mul-write-block c = omega (arith, whole (turned c .before .before) .wide)
 
 write-block-requires : tie.Need-write-block-requires Inv-loop μ-loop
 write-block-requires c κs =
-    let l = c .before .before .before .before .before in
+    let l = turned (c .before) .before in
     let w = whole (l .before) in
     let p = rw (c .before .before .before .macroblock-at .ensures .0) at (c .before .chroma-place .ensures .1) in (
       omega (arith, w .some),
@@ -65,10 +69,10 @@ write-block-requires c κs =
     )
 
 cast-results : tie.Need-cast-results Inv-loop μ-loop
-cast-results c = eval-fits (ins (c .before .before .before .before .before .before .before)) (var 0) tt
+cast-results c = eval-fits (ins (turned (c .before .before .before .before))) (var 0) tt
 
 sub-results : tie.Need-sub-results Inv-loop μ-loop
-sub-results c = need (ins (c .before .before .before .before .before .before .before)) number tt
+sub-results c = need (ins (turned (c .before .before .before .before))) number tt
 
 mul-results : tie.Need-mul-results Inv-loop μ-loop
 mul-results c = omega arith
@@ -78,11 +82,11 @@ array-set-from-results c = omega arith
 
 add-n : tie.Need-add-n Inv-loop μ-loop
 add-n c =
-    let t = c .before .before .before .before .before .before .before in
+    let t = turned (c .before .before .before .before) in
     omega (arith, t .loop-test .taken, count-most (whole (t .before .before)))
 
 loop-less : tie.Need-loop-less Inv-loop μ-loop
-loop-less c = omega (arith, c .before .before .before .before .before .before .before .loop-test .taken)
+loop-less c = omega (arith, turned (c .before .before .before .before) .loop-test .taken)
 
 loop-again : tie.Need-loop-again Inv-loop μ-loop
 unfolding writeNumber resultsAt

@@ -1,10 +1,14 @@
 use mathlib.Core.Path.{ap, sym, _∙_}
+use Prim.Native.Nat.{ℕ}
 use native.Mathlib.Omega.{arith}
+use denote.Ref.{now}
+use lib.IntN.{ℤ}
 use mir.Syntax.{w32}
 use mir.Val.{ofZ, toZ}
 use mir.Facts.{toZ-ofZ}
 use Rattle.codes.proofs.Bounds.{bounded-of}
 use Rattle.lists.specs.Blocks.{blockOf}
+use Rattle.prediction.specs.declared.place.Macroblock.{Macroblock}
 use Rattle.prediction.specs.Planes.{planeOf, macroblocks}
 use Rattle.prediction.proofs.Macroblocks.{length-most}
 use Rattle.block_lists.proofs.BlockCases.{Bounds, Reads, in-bounds, compared, too-large, refused}
@@ -12,20 +16,47 @@ use borrow.Author.Needs.{needs, sfits-of}
 use Rattle.block_lists.proofs.block_list.blocks_agree.Statement.{statement}
 use Rattle.block_lists.proofs.block_list.blocks_agree.Tie as tie
 
--- what is read, and what is known of it, once it is possible. c is where the coefficients left over are read
-read : (c : tie.After-block-of) → Reads (c .before .before .before .before .before .before .before .before .listed-macroblock .result) (c .before .before .before .before .before .before .before .number-at .result) (c .before .before .before .before .before .before .number-at2 .result) (toZ w32 (ofZ w32 (c .before .before .before .before .signed .result))) (c .before .before .before .number-at4 .result) (c .before .before .number-at5 .result) (c .block-of .result) (c .before .before .before .before .before .before .before .before .before .before .args .case .now)
-read c =
-    record {
-      macroblock = c .before .before .before .before .before .before .before .before .listed-macroblock .ensures;
-      number-is = c .before .before .before .before .before .before .before .number-at .ensures;
-      intra-is = c .before .before .before .before .before .before .number-at2 .ensures;
-      predictor-is = toZ-ofZ {w = w32} (sfits-of (c .before .before .before .before .signed .ok)) ∙ c .before .before .before .before .signed .ensures ∙ ap (toZ w32) (c .before .before .before .before .before .number-at3 .ensures);
-      scale-is = c .before .before .before .number-at4 .ensures;
-      start-is = c .before .before .number-at5 .ensures;
-      left-is = c .block-of .ensures ∙ ap blockOf (c .before .part .ensures);
-    }
+-- the case as it is read. c is where the coefficients left over are read, the last of it
+module _ (c : tie.After-block-of) where
+  abbrev at-predictor : tie.After-signed
+  at-predictor = c .before .before .before .before
 
-within : (c : tie.Then1) → let b = c .before .before in Bounds (b .before .before .before .before .before .before .before .before .listed-macroblock .result) (toZ w32 (ofZ w32 (b .before .before .before .before .signed .result))) (b .before .before .before .number-at4 .result) (b .before .before .number-at5 .result)
+  abbrev at-macroblock : tie.After-listed-macroblock
+  at-macroblock = at-predictor .before .before .before .before
+
+  abbrev m : Macroblock
+  m = at-macroblock .listed-macroblock .result
+
+  abbrev number : ℕ
+  number = at-predictor .before .before .before .number-at .result
+
+  abbrev intra : ℕ
+  intra = at-predictor .before .before .number-at2 .result
+
+  abbrev predictor : ℤ
+  predictor = toZ w32 (ofZ w32 (at-predictor .signed .result))
+
+  abbrev scale : ℕ
+  scale = c .before .before .before .number-at4 .result
+
+  abbrev start : ℕ
+  start = c .before .before .number-at5 .result
+
+  read : Reads m number intra predictor scale start (c .block-of .result) (now (at-macroblock .before .before .args .case))
+  read =
+      record {
+        macroblock = at-macroblock .listed-macroblock .ensures;
+        number-is = at-predictor .before .before .before .number-at .ensures;
+        intra-is = at-predictor .before .before .number-at2 .ensures;
+        predictor-is =
+            toZ-ofZ {w = w32} (sfits-of (at-predictor .signed .ok)) ∙ at-predictor .signed .ensures ∙ ap (toZ w32) (at-predictor .before .number-at3 .ensures);
+        scale-is = c .before .before .before .number-at4 .ensures;
+        start-is = c .before .before .number-at5 .ensures;
+        left-is = c .block-of .ensures ∙ ap blockOf (c .before .part .ensures);
+      }
+
+-- what is known of it, once it is possible
+within : (c : tie.Then1) → let r = c .before .before in Bounds (m r) (predictor r) (scale r) (start r)
 within c = in-bounds _ _ _ _ _ _ (sym (c .before .possible .ensures) ∙ c .if1 .taken)
 
 block-place-requires : tie.Need-block-place-requires
@@ -34,13 +65,17 @@ block-place-requires c κs = within (c .before .before .before) .inside
 block-width-requires : tie.Need-block-width-requires
 block-width-requires c κs = within (c .before .before .before .before) .inside
 
+abbrev possible-there : tie.After-block-width → tie.Then1
+possible-there c = c .before .before .before .before .before
+
 ends-as-requires : tie.Need-ends-as-requires
 ends-as-requires c κs =
-    let h = within (c .before .before .before .before .before) in
+    let t = possible-there c in
+    let r = t .before .before in
+    let h = within t in
     let e = c .block-width .ensures in
-    let m = c .before .before .before .before .before .before .before .before .before .before .before .before .before .before .before .listed-macroblock .result in
-    let n = c .before .before .before .before .before .before .before .before .before .before .before .before .before .before .number-at .result in (
-      (e .1, rw (e .0) (omega (arith, c .before .block-place .ensures .1, length-most (planeOf n) (macroblocks m), h .few))),
+    let most = length-most (planeOf (number r)) (macroblocks (m r)) in (
+      (e .1, rw (e .0) (omega (arith, c .before .block-place .ensures .1, most, h .few))),
       (
         (h .start-most, h .scale-most, h .predictor-inside),
         bounded-of _ (sym (c .before .before .before .bounded .ensures) ∙ c .before .before .if2 .taken),
@@ -49,9 +84,11 @@ ends-as-requires c κs =
 
 returns : tie.Need-returns
 returns c =
-    let t = c .before .before .before .before .before .before in
+    let w = c .before in
+    let t = possible-there w in
     c .ends-as .ensures
-    ∙ compared _ _ _ _ _ _ _ (t .before .possible .ensures) (read (t .before .before)) (t .if1 .taken) (c .before .before .before .before .bounded .ensures) (c .before .before .before .if2 .taken) (c .before .before .block-place .ensures .0) (c .before .block-width .ensures .0)
+    ∙ compared _ _ _ _ _ _ _ (t .before .possible .ensures) (read (t .before .before)) (t .if1 .taken)
+    (w .before .before .before .bounded .ensures) (w .before .before .if2 .taken) (w .before .block-place .ensures .0) (w .block-width .ensures .0)
 
 returns-2 : tie.Need-returns-2
 returns-2 c =

@@ -1,3 +1,4 @@
+use mathlib.Core.Path.{_∙_}
 use mir.Facts.{toZ-ofZ}
 use mir.Syntax.{w32}
 use borrow.Author.Needs.{needs, sfits-of}
@@ -18,7 +19,8 @@ returns c =
     let h = c .before .before in
     let d = h .before in
     let s = d .before .before in
-    rw (h .held .ensures, toZ-ofZ {w = w32} (sfits-of (d .dequantise .ok)), d .dequantise .ensures .0, level-is (s .args .k) (s .pre .1), c .before .byte-at .ensures .0, c .byte-at2 .ensures .0)
+    let is = toZ-ofZ {w = w32} (sfits-of (d .dequantise .ok)) ∙ d .dequantise .ensures .0 in
+    rw (h .held .ensures, is, level-is (s .args .k) (s .pre .1), c .before .byte-at .ensures .0, c .byte-at2 .ensures .0)
 
 pub same-level-spec : {M : Type 1} → statement M
 same-level-spec =

@@ -8,10 +8,10 @@ use Rattle.block_lists.proofs.dequantised_list.same_levels.Statement.{s
 use Rattle.block_lists.proofs.dequantised_list.same_levels.Tie as tie
 
 abbrev Inv-loop : tie.InvT-loop
-Inv-loop case intra scale entry k₀ k = Passed (sameLevel intra scale entry case) 512 k
+Inv-loop case q entry k₀ k = Passed (sameLevel q entry case) 512 k
 
 abbrev μ-loop : tie.MeasureT-loop
-μ-loop case intra scale entry k₀ k = 512 - k
+μ-loop case q entry k₀ k = 512 - k
 
 same-level-requires : tie.Need-same-level-requires Inv-loop μ-loop
 same-level-requires c κs = (c .before .before .before .pre, c .loop-test .taken)
@@ -32,4 +32,15 @@ unfolding sameLevels
 returns-2 c = passed-all (c .before .loop .inv) (c .loop-test .left)
 
 pub same-levels-spec : {M : Type 1} → statement M
-same-levels-spec = tie.close (tie.spec Inv-loop μ-loop (λ c. passed-none) same-level-requires returns (λ c. omega arith) (λ c. omega arith) loop-again returns-2)
+same-levels-spec =
+    tie.close
+    (tie.spec
+    Inv-loop
+    μ-loop
+    (λ c. passed-none)
+    same-level-requires
+    returns
+    (λ c. omega arith)
+    (λ c. omega arith)
+    loop-again
+    returns-2)

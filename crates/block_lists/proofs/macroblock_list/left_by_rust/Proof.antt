@@ -11,7 +11,8 @@ returns c =
     let second = third .before .before .before .before in
     let first = second .before .before .before .before in
     third .lay-in3 .ensures
-    ∙ rw (second .lay-in2 .ensures, first .lay-in .ensures, first .before .before .before .stores .ensures, third .before .part3 .ensures, second .before .part2 .ensures, first .before .part .ensures)
+    ∙ rw (second .lay-in2 .ensures, first .lay-in .ensures, first .before .before .before .stores .ensures)
+    (rw (third .before .part3 .ensures, second .before .part2 .ensures, first .before .part .ensures))
 
 pub left-by-rust-spec : {M : Type 1} → statement M
 left-by-rust-spec =

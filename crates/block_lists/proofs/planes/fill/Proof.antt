@@ -24,9 +24,12 @@ loop-holds c = (omega arith, refl, refl)
 loop-again : tie.Need-loop-again Inv-loop μ-loop
 loop-again c =
     let l = c .before .before in
-    let d = l .before .before .args .d .now in
-    let e = ap (λ (n : ℕ). set (l .loop .d) n (c .noise .result)) (sym (zero-add (l .loop .i))) ∙ row-on d 0 (noise (l .before .before .args .seed)) (l .loop .i) (l .loop .inv .2) (c .noise .ensures) in
-    (omega arith, ap length e ∙ length-row d 0 (noise (l .before .before .args .seed)) (l .loop .i + 1), e)
+    let a = l .before .before .args in
+    let d = now (a .d) in
+    let i = l .loop .i in
+    let here = ap (λ (n : ℕ). set (l .loop .d) n (c .noise .result)) (sym (zero-add i)) in
+    let e = here ∙ row-on d 0 (noise (a .seed)) i (l .loop .inv .2) (c .noise .ensures) in
+    (omega arith, ap length e ∙ length-row d 0 (noise (a .seed)) (i + 1), e)
 
 returns : tie.Need-returns Inv-loop μ-loop
 returns c =
@@ -36,4 +39,16 @@ returns c =
     l .loop .inv .2 ∙ ap (storeRow (now (a .d)) 0 (noise (a .seed))) e
 
 pub fill-spec : {M : Type 1} → statement M
-fill-spec = tie.close (tie.spec Inv-loop μ-loop loop-holds (λ c κs. tt) (λ c. omega arith) (λ c. omega arith) (λ c. omega arith) loop-again (λ c. omega arith) returns)
+fill-spec =
+    tie.close
+    (tie.spec
+    Inv-loop
+    μ-loop
+    loop-holds
+    (λ c κs. tt)
+    (λ c. omega arith)
+    (λ c. omega arith)
+    (λ c. omega arith)
+    loop-again
+    (λ c. omega arith)
+    returns)

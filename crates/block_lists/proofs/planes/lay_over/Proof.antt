@@ -31,9 +31,11 @@ loop-again c =
     let l = c .before .before .before in
     let a = l .before .before .before .args in
     let g = f (a .d .now) (a .at) (a .dw) (a .size) (a .block .now) in
-    let under = ap (λ (z : List ℕ). getD z (l .loop .k) 0) (l .loop .inv .2) ∙ row-out (a .d .now) 0 g (l .loop .k) (l .loop .k) 0 (inr (omega arith)) in
-    let e = ap (λ (n : ℕ). set (l .loop .d) n (c .overlaid .result)) (sym (zero-add (l .loop .k))) ∙ row-on (a .d .now) 0 g (l .loop .k) (l .loop .inv .2) (c .overlaid .ensures ∙ rw under) in
-    (omega arith, ap length e ∙ length-row (a .d .now) 0 g (l .loop .k + 1), e)
+    let k = l .loop .k in
+    let under = ap (λ (z : List ℕ). getD z k 0) (l .loop .inv .2) ∙ row-out (a .d .now) 0 g k k 0 (inr (omega arith)) in
+    let here = ap (λ (n : ℕ). set (l .loop .d) n (c .overlaid .result)) (sym (zero-add k)) in
+    let e = here ∙ row-on (a .d .now) 0 g k (l .loop .inv .2) (c .overlaid .ensures ∙ rw under) in
+    (omega arith, ap length e ∙ length-row (a .d .now) 0 g (k + 1), e)
 
 returns : tie.Need-returns Inv-loop μ-loop
 unfolding laidOver
@@ -44,4 +46,17 @@ returns c =
     l .loop .inv .2 ∙ ap (storeRow (now (a .d)) 0 (f (now (a .d)) (a .at) (a .dw) (a .size) (now (a .block)))) e
 
 pub lay-over-spec : {M : Type 1} → statement M
-lay-over-spec = tie.close (tie.spec Inv-loop μ-loop loop-holds (λ c. omega arith) (λ c κs. tt) (λ c. omega arith) (λ c. omega arith) (λ c. omega arith) loop-again (λ c. omega arith) returns)
+lay-over-spec =
+    tie.close
+    (tie.spec
+    Inv-loop
+    μ-loop
+    loop-holds
+    (λ c. omega arith)
+    (λ c κs. tt)
+    (λ c. omega arith)
+    (λ c. omega arith)
+    (λ c. omega arith)
+    loop-again
+    (λ c. omega arith)
+    returns)

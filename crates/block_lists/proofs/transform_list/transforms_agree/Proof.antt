@@ -12,7 +12,8 @@ returns : tie.Need-returns
 unfolding transformAgrees
 returns c = let i = c .before .before .before in
     let b = i .before .before .before in
-    rw (← b .before .before .block-of .ensures, ← b .bounded .ensures, i .before .before .if1 .taken, ← c .before .before .part .ensures) (c .holds-block .ensures ∙ rw (i .idct .ensures .0))
+    rw (← b .before .before .block-of .ensures, ← b .bounded .ensures, i .before .before .if1 .taken, ← c .before .before .part .ensures)
+    (c .holds-block .ensures ∙ rw (i .idct .ensures .0))
 
 returns-2 : tie.Need-returns-2
 unfolding transformAgrees

@@ -9,8 +9,10 @@ use Rattle.block_lists.proofs.writer_list.ends_as.Tie as tie
 
 write-requires : tie.Need-write-requires
 write-requires c κs =
-    let s = c .before .before .before .before .before in
-    (s .pre .0, (omega (arith, s .pre .1 .0, ap length (c .before .before .plane .ensures), length-noisy (c .before .before .before .number-at .result) 2560), s .pre .1 .1))
+    let p = c .before .before in
+    let s = p .before .before .before in
+    let long = ap length (p .plane .ensures) ∙ length-noisy (p .before .number-at .result) 2560 in
+    (s .pre .0, (omega (arith, s .pre .1 .0, long), s .pre .1 .1))
 
 returns : tie.Need-returns
 unfolding endsAs
@@ -19,7 +21,8 @@ returns c =
     let q = l .before .before .before in
     let w = q .before .before in
     let p = w .before .before .before in
-    c .same .ensures ∙ rw (w .write .ensures, l .lay-over .ensures, l .before .part .ensures, q .plane2 .ensures, p .plane .ensures, p .before .number-at .ensures)
+    c .same .ensures
+    ∙ rw (w .write .ensures, l .lay-over .ensures, l .before .part .ensures, q .plane2 .ensures, p .plane .ensures, p .before .number-at .ensures)
 
 pub ends-as-spec : {M : Type 1} → statement M
 ends-as-spec =

@@ -1,17 +1,39 @@
-use mathlib.Core.Path.{refl}
+use mathlib.Core.Path.{_≡_, refl}
+use native.Mathlib.Omega.{arith}
+use lib.ListN.{length}
 use borrow.Author.Needs.{needs}
+use Rattle.codes.specs.Codes.{motion}
 use Rattle.codes.specs.Tables.{motionIndex, motionValue}
 use Rattle.codes.proofs.Good.{good-motion}
-use Rattle.codes.proofs.Values.{motion-bounded}
+use Rattle.codes.proofs.Parts.{places, lent-part}
 use Rattle.codes.proofs.codes.read_motion.Statement.{statement}
 use Rattle.codes.proofs.codes.read_motion.Tie as tie
 
-pub read-motion-spec : {M : Type 1} → statement M
+lengths : length motionValue ≡ length motionIndex
 unfolding motionIndex motionValue
+lengths = refl
+
+read-vlc-requires : tie.Need-read-vlc-requires
+read-vlc-requires c κs =
+    let begun = c .before .before .before .before in
+    let l = begun .pre .1 in
+    (begun .pre .0, rw (lent-part l 492 68 (omega arith) (places .vector .0), lent-part l 560 68 (omega arith) (places .vector .1)) (good-motion, lengths))
+
+returns : tie.Need-returns
+unfolding motion
+returns c =
+    let l = c .before .before .before .before .before .pre .1 in
+    rw (lent-part l 492 68 (omega arith) (places .vector .0), lent-part l 560 68 (omega arith) (places .vector .1)) at (c .read-vlc .ensures)
+
+pub read-motion-spec : {M : Type 1} → statement M
 read-motion-spec =
     tie.close
     (tie.spec
     (λ c. search needs)
     (λ c. search needs)
-    (λ c κs. let p = c .before .before .before .pre in (p .0, (p .1, (good-motion, refl))))
-    (λ c. motion-bounded refl refl (c .read-vlc .ensures)))
+    (λ c. search needs)
+    (λ c. search needs)
+    (λ c. search needs)
+    (λ c. search needs)
+    read-vlc-requires
+    returns)

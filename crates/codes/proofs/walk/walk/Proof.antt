@@ -1,16 +1,18 @@
 -- The loop's invariant: from the pair of entries at `at` on the program's walk ends where the whole walk does.
 use mathlib.Core.Path.{_≡_, _∙_}
-use Prim.Native.Nat.{_+_, _-_, _≤_, _<_}
+use Prim.Native.Nat.{_+_, _-_, _<_}
 use native.Mathlib.Omega.{arith}
 use lib.ListN.{length, getD}
 use lib.IntN.{ℤ, pos, natAbs}
-use mir.Syntax.{w16}
+use mir.Syntax.{w32}
 use mir.Facts.{toZ-ofZ}
 use denote.Ref.{now}
-use borrow.Author.Needs.{needs, sfits-of}
+use borrow.Author.Needs.{sfits-of}
 use Rattle.laws.proofs.Bytes.{cast-unsigned}
 use Rattle.laws.proofs.Ints.{reread}
-use Rattle.bits.proofs.Rules.{Loops, loop-start, loop-on, loop-end, r-call, r-yes, r-no, r-done}
+use Rattle.bits.specs.Runs.{Inside}
+use Rattle.bits.proofs.Gives.{given-by, g-bits}
+use Rattle.bits.proofs.Rules.{Loops, loop-start, loop-on, loop-end, r-call, r-yes, r-no, r-done, reading}
 use Rattle.codes.specs.Walk.{walk, walkTurn}
 use Rattle.codes.proofs.Entries.{above}
 use Rattle.codes.proofs.walk.walk.Statement.{statement}
@@ -18,14 +20,18 @@ use Rattle.codes.proofs.walk.walk.Tie as tie
 
 abbrev Inv-loop : tie.InvT-loop
 Inv-loop s index from₀ at₀ from at =
-    (from .at .0 ≤ 134217728) × (at + 1 < length index)
+    Inside s from × (at + 1 < length index)
     × Loops (length index) (walkTurn index) 0 0 s (from₀ .at .0) at (from .at .0) (length index - 1 - at)
 
 abbrev μ-loop : tie.MeasureT-loop
 μ-loop s index from₀ at₀ from at = length index - 1 - at
 
 loop-holds : tie.Need-loop-holds Inv-loop μ-loop
-loop-holds c = (omega arith, c .before .pre .1 .1 .two, loop-start (omega (arith, c .before .pre .1 .1 .two)))
+loop-holds c = (c .before .pre .0, c .before .pre .1 .two, loop-start (omega (arith, c .before .pre .1 .two)))
+
+-- the bit that was read, 0 or 1
+bit : (c : tie.After-read-bit Inv-loop μ-loop) → c .read-bit .result .value < 2
+bit c = given-by (g-bits 1) (c .read-bit .ensures .runs)
 
 returns : tie.Need-returns Inv-loop μ-loop
 unfolding walk walkTurn
@@ -33,7 +39,7 @@ returns c =
     let x = c .before .before .before .before in
     let r = x .before .loop .inv in
     let ends = rw (toZ-ofZ (sfits-of (c .before .before .next .given))) at (c .if1 .taken) in
-    (loop-end (r .2) (r-call _ (x .read-bit .ensures .0) (r-yes _ ends r-done)), (omega arith, omega arith))
+    (reading (x .before .before .before .pre .0) (loop-end (r .2) (r-call _ (x .read-bit .ensures .runs) (r-yes _ ends r-done))), omega (arith, bit x))
 
 -- the entry that the walk goes on from
 abbrev entry : tie.Else1 Inv-loop μ-loop → ℤ
@@ -41,11 +47,11 @@ entry c =
     let x = c .before .before .before .before in
     getD (now (x .before .before .before .args .index)) (x .before .loop .at + x .read-bit .result .value) (pos 0)
 
-back : (c : tie.Else1 Inv-loop μ-loop) → reread w16 (entry c) ≡ entry c
+back : (c : tie.Else1 Inv-loop μ-loop) → reread w32 (entry c) ≡ entry c
 back c = toZ-ofZ (sfits-of (c .before .before .next .given))
 
 record Next (c : tie.Else1 Inv-loop μ-loop) : Type 0 where
-  is : reread w16 (entry c) ≡ pos (natAbs (entry c))
+  is : reread w32 (entry c) ≡ pos (natAbs (entry c))
   further : c .before .before .before .before .before .loop .at < natAbs (entry c)
   inside : natAbs (entry c) + 1 < length (now (c .before .before .before .before .before .before .before .args .index))
 
@@ -53,7 +59,8 @@ next : (c : tie.Else1 Inv-loop μ-loop) → Next c
 next c =
     let x = c .before .before .before .before in
     let up = above (entry c) (rw (back c) at (c .if1 .left)) in
-    let good = x .before .before .before .pre .1 .1 .rule (x .before .loop .at + x .read-bit .result .value) (natAbs (entry c)) (omega arith) (up .0) (up .1) in
+    let good = x .before .before .before .pre .1 .rule (x .before .loop .at + x .read-bit .result .value) (natAbs (entry c)) (omega (arith, bit x)) (up .0)
+    (up .1) in
     record { is = back c ∙ up .0; further = omega (arith, good .1); inside = good .2 }
 
 cast-at : tie.Need-cast-at Inv-loop μ-loop
@@ -70,7 +77,7 @@ loop-again c =
     let n = next c in
     let goes = rw (back c) at (c .if1 .left) in
     rw (back c)
-    (x .read-bit .ensures .1 .1, n .inside, loop-on (r .2) (r-call _ (x .read-bit .ensures .0) (r-no _ goes r-done)) (rw (back c) at (loop-less c)))
+    (x .read-bit .ensures .inside, n .inside, loop-on (r .2) (r-call _ (x .read-bit .ensures .runs) (r-no _ goes r-done)) (rw (back c) at (loop-less c)))
 
 pub walk-spec : {M : Type 1} → statement M
 walk-spec =
@@ -79,11 +86,11 @@ walk-spec =
     Inv-loop
     μ-loop
     loop-holds
-    (λ c κs. search needs)
-    (λ c. omega arith)
-    (λ c. omega arith)
+    (λ c κs. c .loop .inv .0)
+    (λ c. omega (arith, bit (c .before)))
+    (λ c. omega (arith, bit (c .before)))
     (λ c. omega (arith, c .before .before .before .before .good))
-    (λ c. omega arith)
+    (λ c. omega (arith, bit (c .before)))
     returns
     cast-at
     loop-less

@@ -9,25 +9,28 @@ use types.Run.{OneOf}
 use lib.IntN.{ℤ}
 use Rattle.coefficients.specs.declared.block.BlockEnd.{BlockEnd}
 use Rattle.coefficients.specs.declared.block.BlockEnd.the-variants.{Whole, Dropped, Outside}
+use Rattle.coefficients.specs.declared.quantiser.Quantiser.{Quantiser}
 use Rattle.coefficients.specs.Blocks.{Filled, filled, leftOver}
-use Rattle.coefficients.proofs.Bounds.{bounded-zero}
 use Rattle.coefficients.proofs.block.BlockEnd.{the-type}
 use Rattle.coefficients.proofs.block.left_over.Statement.{statement}
 use Rattle.coefficients.proofs.block.left_over.Tie as tie
 
 -- an end other than the first of the three leaves the coefficients
-kept : (f : Filled) (p : ℤ) (e : BlockEnd) → OneOf (1 ∷ 2 ∷ []) (tagOf the-type e) → f .coefficients ≡ leftOver (record { filled = f; predictor = p; end = e })
+kept : (q : Quantiser) (f : Filled) (p : ℤ) (e : BlockEnd) → OneOf (1 ∷ 2 ∷ []) (tagOf the-type e)
+    → f .coefficients ≡ leftOver q (record { filled = f; predictor = p; end = e })
 unfolding leftOver
-kept f p Whole k = let z : ⊥ = ⊎-elim (λ h. omega arith) (λ h. omega arith) k in absurd z
-kept f p Dropped k = refl
-kept f p Outside k = refl
+kept q f p Whole k = let z : ⊥ = ⊎-elim (λ h. omega arith) (λ h. omega arith) k in absurd z
+kept q f p Dropped k = refl
+kept q f p Outside k = refl
 
 returns : tie.Need-returns
 unfolding leftOver
-returns c = (rw (c .before .enum-told .given .1), λ b. bounded-zero)
+returns c = rw (c .before .enum-told .given .1)
 
 returns-2 : tie.Need-returns-2
-returns-2 c = let b = c .before .args .block in (kept (filled (now (c .before .args .values)) (b .n)) (b .predictor) (b .end) (c .match .keys2), λ b. b)
+returns-2 c =
+    let a = c .before .args in
+    kept (a .q) (filled (now (a .values)) (a .block .n)) (a .block .predictor) (a .block .end) (c .match .keys2)
 
 pub left-over-spec : {M : Type 1} → statement M
 left-over-spec = tie.close (tie.spec (λ c. search needs) returns returns-2)

@@ -1,46 +1,30 @@
-use mathlib.Core.Path.{_≡_}
-use mathlib.Core.Bool.{Bool, true, false}
-use mathlib.Core.List.{List}
-use Prim.Native.Nat.{ℕ, zero-le}
-use lib.IntN.{ℤ}
+use Prim.Native.Nat.{zero-le}
+use denote.Ref.{now}
 use mir.Facts.{toZ-ofZ}
-use Rattle.bits.specs.Runs.{Runs}
-use Rattle.bits.proofs.Rules.{r-call, r-done}
-use Rattle.coefficients.specs.Blocks.{Coded, Read, readAs, quantiser, filled, coefficients, intraBlock, nonIntraBlock, block}
+use Rattle.bits.proofs.Rules.{reading}
+use Rattle.coefficients.proofs.Placing.{no-dc}
 use Rattle.coefficients.proofs.block.read_block.Statement.{statement}
 use Rattle.coefficients.proofs.block.read_block.Tie as tie
 
-module _ (intra : Bool) (scale : ℕ) (matrix : List ℕ) (luminance : Bool) (predictor : ℤ) (left : List ℤ) {s : List ℕ} {a e : ℕ} where
-  if-intra : {v : Read} → intra ≡ true → Runs (intraBlock (quantiser true scale matrix) luminance predictor left) s a v e
-      → Runs (block (quantiser intra scale matrix) luminance predictor left) s a v e
-  unfolding block
-  if-intra h r = rw h r
-
-  if-not : {c : Coded} → intra ≡ false → Runs (coefficients (quantiser false scale matrix) (filled left 0)) s a c e
-      → Runs (block (quantiser intra scale matrix) luminance predictor left) s a (readAs c predictor) e
-  unfolding block nonIntraBlock
-  if-not h r = rw h (r-call _ r r-done)
-
 read-intra-block-requires : tie.Need-read-intra-block-requires
-read-intra-block-requires c κs = let s = c .before .before .before .before in rw (toZ-ofZ (s .fits .predictor)) (s .pre)
+read-intra-block-requires c κs =
+    let s = c .before .before .before in
+    rw (toZ-ofZ (s .fits .predictor)) (s .pre .0, (s .pre .1 .0, (c .before .if1 .taken, s .pre .1 .1 .0, s .pre .1 .1 .1)))
 
 returns : tie.Need-returns
-returns c =
-    let s = c .before .before .before .before .before in
-    let r = rw (toZ-ofZ (s .fits .predictor)) at (c .read-intra-block .ensures) in
-    (if-intra _ _ _ _ _ _ (c .before .before .if1 .taken) (r .0), r .1)
+returns c = rw (toZ-ofZ (c .before .before .before .before .fits .predictor)) at (c .read-intra-block .ensures)
 
 read-coefficients-requires : tie.Need-read-coefficients-requires
-read-coefficients-requires c κs =
-    let p = c .before .before .before .before .pre in
-    (p .0, (p .1 .0, (p .1 .1 .0, (zero-le, p .1 .1 .1 .0))))
+read-coefficients-requires c κs = let s = c .before .before .before in (s .pre .0, (s .pre .1 .0, (zero-le, s .pre .1 .1 .0)))
 
 returns-2 : tie.Need-returns-2
 returns-2 c =
-    let r = c .before .read-coefficients .ensures in
-    let i = c .before .before .before in
-    let s = i .before .before .before in
-    rw (toZ-ofZ (s .fits .predictor)) (if-not _ _ _ _ _ _ (i .if1 .left) (r .0), (r .1 .0, r .1 .1, s .pre .1 .1 .1 .1, r .1 .2))
+    let r = c .before in
+    let i = r .before .before in
+    let s = i .before .before in
+    let a = s .args in
+    rw (toZ-ofZ (s .fits .predictor))
+    (reading (s .pre .0) (no-dc _ (a .luminance) (a .predictor) (now (a .values)) (a .q) (i .if1 .left) (r .read-coefficients .ensures .runs)))
 
 pub read-block-spec : {M : Type 1} → statement M
 read-block-spec = tie.close (tie.spec read-intra-block-requires returns read-coefficients-requires returns-2)

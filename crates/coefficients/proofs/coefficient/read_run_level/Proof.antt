@@ -4,7 +4,7 @@ use native.Mathlib.Omega.{arith}
 use borrow.Author.Tests.{eq-eqb, ne-eqb}
 use mir.Syntax.{w32}
 use Rattle.laws.proofs.Exprs.{var, neg, Input, natural, need, num-of, eval-fits}
-use Rattle.bits.proofs.Rules.{r-call, r-yes, r-no, r-done}
+use Rattle.bits.proofs.Rules.{r-call, r-yes, r-no, r-done, reading}
 use Rattle.coefficients.specs.Coefficients.{runLevel}
 use Rattle.coefficients.proofs.coefficient.read_run_level.Statement.{statement}
 use Rattle.coefficients.proofs.coefficient.read_run_level.Tie as tie
@@ -18,7 +18,7 @@ read-escape-requires c κs = c .before .before .pre
 
 returns : tie.Need-returns
 unfolding runLevel
-returns c = let r = c .read-escape .ensures in (r-yes _ (eq-eqb _ _ (c .before .if1 .taken)) (r .0), r .1)
+returns c = reading (c .before .before .before .pre) (r-yes _ (eq-eqb _ _ (c .before .if1 .taken)) (c .read-escape .ensures .runs))
 
 read-bit-requires : tie.Need-read-bit-requires
 read-bit-requires c κs = c .before .before .pre
@@ -33,7 +33,7 @@ returns-2 c =
     let s = x .before .before .before in
     let n = num-of (ρ s) (var 0) tt in
     rw (n .is)
-    (r-no _ (ne-eqb _ _ (x .before .if1 .left)) (r-call _ (x .read-bit .ensures .0) (r-yes _ (eq-eqb _ _ (c .if2 .taken)) r-done)), ((omega (arith, s .fits), omega arith), x .read-bit .ensures .1 .1))
+    (reading (s .pre) (r-no _ (ne-eqb _ _ (x .before .if1 .left)) (r-call _ (x .read-bit .ensures .runs) (r-yes _ (eq-eqb _ _ (c .if2 .taken)) r-done))))
 
 sub-level : tie.Need-sub-level
 sub-level c = need (ρ (c .before .before .before .before .before .before)) (neg (var 0)) tt
@@ -45,7 +45,7 @@ returns-3 c =
     let s = x .before .before .before in
     let n = num-of (ρ s) (neg (var 0)) tt in
     rw (n .is)
-    (r-no _ (ne-eqb _ _ (x .before .if1 .left)) (r-call _ (x .read-bit .ensures .0) (r-no _ (ne-eqb _ _ (c .if2 .left)) r-done)), ((omega (arith, s .fits), omega (arith, n .bound)), x .read-bit .ensures .1 .1))
+    (reading (s .pre) (r-no _ (ne-eqb _ _ (x .before .if1 .left)) (r-call _ (x .read-bit .ensures .runs) (r-no _ (ne-eqb _ _ (c .if2 .left)) r-done))))
 
 pub read-run-level-spec : {M : Type 1} → statement M
 read-run-level-spec =

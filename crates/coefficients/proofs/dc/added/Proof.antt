@@ -29,11 +29,13 @@ small s = omega (arith, power s)
 abbrev ρ : tie.Start → List (Input w32)
 ρ s =
     natural w32 (s .args .differential) 255 (small s)
-    ∷ local w32 (1 * 2 ^ (s .args .size) % 4294967296) (pos (2 ^ (s .args .size))) 256 (record { is = shl-one w32 (s .args .size) (omega arith); bound = power s })
+    ∷ local w32 (1 * 2 ^ (s .args .size) % 4294967296) (pos (2 ^ (s .args .size))) 256
+    (record { is = shl-one w32 (s .args .size) (omega arith); bound = power s })
     ∷ []
 
 -- the bit that the code tests
-mask : (s : tie.Start) → bitAnd (s .args .differential) (1 * 2 ^ (s .args .size - 1) % 4294967296) ≡ bitAnd (s .args .differential) (2 ^ (s .args .size - 1))
+mask : (s : tie.Start) → bitAnd (s .args .differential) (1 * 2 ^ (s .args .size - 1) % 4294967296) ≡ bitAnd (s .args .differential)
+    (2 ^ (s .args .size - 1))
 mask s = ap (bitAnd (s .args .differential)) (shl-one w32 (s .args .size - 1) (omega arith))
 
 cast-result : tie.Need-cast-result

@@ -19,7 +19,7 @@ product = scaled ×̇ var 2
 abbrev ρ : tie.After-doubled → List (Input w32)
 ρ c =
     signed w32 (c .doubled .result) 513 (c .doubled .ensures .1)
-    ∷ natural w32 (c .before .args .scale) 31 (c .before .pre .1)
+    ∷ natural w32 (c .before .args .q .scale) 31 (c .before .pre .1)
     ∷ natural w32 (c .before .args .entry) 255 (omega arith)
     ∷ []
 

@@ -25,7 +25,8 @@ loop-holds c = (omega arith, c .blank .ensures)
 loop-again : tie.Need-loop-again Inv-loop μ-loop
 loop-again c =
     let l = c .before .before .before in
-    (omega arith, stored _ (l .loop .i) (l .loop .inv .1) (toZ-ofZ {w = w32} (sfits-of (c .signed .ok)) ∙ c .signed .ensures ∙ ap (toZ w32) (c .before .number-at .ensures)))
+    let e = toZ-ofZ {w = w32} (sfits-of (c .signed .ok)) ∙ c .signed .ensures ∙ ap (toZ w32) (c .before .number-at .ensures) in
+    (omega arith, stored _ (l .loop .i) (l .loop .inv .1) e)
 
 returns : tie.Need-returns Inv-loop μ-loop
 unfolding blockOf

@@ -17,7 +17,9 @@ Inv-loop list block i₀ i = Passed (sameAt list block) 64 i
 abbrev μ-loop : tie.MeasureT-loop
 μ-loop list block i₀ i = 64 - i
 
-tested : (c : tie.After-held Inv-loop μ-loop) → sameAt (c .before .before .before .before .before .before .args .list .now) (c .before .before .before .before .before .before .args .block .now) (c .before .before .before .before .loop .i) ≡ eqb (c .held .result) (c .before .before .number-at .result)
+-- what is tested in a turn
+tested : (c : tie.After-held Inv-loop μ-loop) → let l = c .before .before .before .before in let a = l .before .before .args in
+    sameAt (a .list .now) (a .block .now) (l .loop .i) ≡ eqb (c .held .result) (c .before .before .number-at .result)
 tested c = rw (c .held .ensures, toZ-ofZ {w = w32} (sfits-of (c .before .z .given)), c .before .before .number-at .ensures)
 
 returns : tie.Need-returns Inv-loop μ-loop

@@ -12,13 +12,23 @@ returns : tie.Need-returns
 unfolding part
 returns c =
     let x = c .before .before .args in
-    rw (drop-of-length-le (x .list .now) {i = length (x .list .now)} (omega arith), drop-of-length-le (x .list .now) {i = x .from} (c .before .if1 .taken), take-nil (length (x .list .now) - length (x .list .now)), take-nil (x .count))
+    let l = x .list .now in
+    rw (
+      drop-of-length-le l {i = length l} (omega arith),
+      drop-of-length-le l {i = x .from} (c .before .if1 .taken),
+      take-nil (length l - length l),
+      take-nil (x .count),
+    )
 
 returns-2 : tie.Need-returns-2
 unfolding part
 returns-2 c =
     let x = c .before .before .before .args in
-    rw (take-all (length (x .list .now) - x .from) (drop (x .from) (x .list .now)) (rw length-drop (omega arith)), take-all (x .count) (drop (x .from) (x .list .now)) (rw length-drop (omega arith)))
+    let l = x .list .now in
+    rw (
+      take-all (length l - x .from) (drop (x .from) l) (rw length-drop (omega arith)),
+      take-all (x .count) (drop (x .from) l) (rw length-drop (omega arith)),
+    )
 
 returns-3 : tie.Need-returns-3
 unfolding part

@@ -10,7 +10,12 @@ unfolding numberAt
 returns c =
     let x = c .before .before .args in
     let h = c .if1 .taken in
-    rw (List·getD-eq-default (x .list .now) 0 {n = x .at} h, List·getD-eq-default (x .list .now) 0 {n = x .at + 1} (omega arith), List·getD-eq-default (x .list .now) 0 {n = x .at + 2} (omega arith), List·getD-eq-default (x .list .now) 0 {n = x .at + 3} (omega arith))
+    rw (
+      List·getD-eq-default (x .list .now) 0 {n = x .at} h,
+      List·getD-eq-default (x .list .now) 0 {n = x .at + 1} (omega arith),
+      List·getD-eq-default (x .list .now) 0 {n = x .at + 2} (omega arith),
+      List·getD-eq-default (x .list .now) 0 {n = x .at + 3} (omega arith),
+    )
 
 returns-2 : tie.Need-returns-2
 unfolding numberAt

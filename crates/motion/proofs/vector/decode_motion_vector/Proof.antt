@@ -9,12 +9,12 @@ use mir.Val.{SFits}
 use denote.Ref.{now}
 use borrow.Author.Needs.{needs, sfits-of}
 use Rattle.laws.proofs.Ints.{reread, v, lit, neg, _⊕_, le-of, lt-of, abs-by, abs-of, fits-by}
-use Rattle.bits.specs.Runs.{Runs}
-use Rattle.bits.proofs.Rules.{r-call, r-done, r-most}
-use Rattle.motion.specs.Displacement.{InRange, corrected}
+use Rattle.bits.specs.Runs.{Reading}
+use Rattle.bits.proofs.Gives.{given-by}
+use Rattle.bits.proofs.Rules.{r-call, r-done, reading}
+use Rattle.motion.specs.Displacement.{corrected}
 use Rattle.motion.specs.Vector.{motionVector}
-use Rattle.motion.proofs.Correction.{corrected-in}
-use Rattle.motion.proofs.OneStep.{runs-small}
+use Rattle.motion.proofs.OneStep.{displacement-most}
 use Rattle.motion.proofs.vector.decode_motion_vector.Statement.{statement}
 use Rattle.motion.proofs.vector.decode_motion_vector.Tie as tie
 
@@ -35,10 +35,10 @@ module _ (x : tie.After-read-displacement) where
   d = x .read-displacement .result .value
 
   small : natAbs d ≤ 16 * f
-  small = runs-small (s .args .r) (x .read-displacement .ensures)
+  small = given-by (displacement-most (s .args .r)) (x .read-displacement .ensures .runs)
 
   scaled : f ≤ 64
-  scaled = pow-mono (s .pre .1 .1 .1 .0)
+  scaled = pow-mono (s .pre .1 .1 .0)
 
   fits : SFits w32 d
   fits = let b = abs-of (v d) small in fits-by (v d) (omega (arith, scaled)) (omega (arith, scaled))
@@ -49,8 +49,8 @@ module _ (x : tie.After-read-displacement) where
 
   sum-small : natAbs (a +ℤ d) ≤ 2048
   sum-small =
-      let lo = le-of (neg (lit 1024)) (v a) (s .pre .1 .1 .1 .1 .low) in
-      let hi = lt-of (v a) (lit 1024) (s .pre .1 .1 .1 .1 .high) in
+      let lo = le-of (neg (lit 1024)) (v a) (s .pre .1 .1 .1 .low) in
+      let hi = lt-of (v a) (lit 1024) (s .pre .1 .1 .1 .high) in
       let b = abs-of (v d) small in
       abs-by 2048 (v a ⊕ v d) (omega (arith, scaled)) (omega (arith, scaled))
 
@@ -63,7 +63,7 @@ add-corrected c =
 corrected-requires : tie.Need-corrected-requires
 corrected-requires c κs =
     let x = c .before .before .before in
-    (s x .pre .1 .1 .1 .0, rw (toZ-ofZ (add-corrected c), sum-is x) (sum-small x))
+    (s x .pre .1 .1 .0, rw (toZ-ofZ (add-corrected c), sum-is x) (sum-small x))
 
 -- what is put into the result
 moved : (c : tie.After-corrected) → let x = c .before .before .before .before in
@@ -72,13 +72,11 @@ moved c =
     let x = c .before .before .before .before in
     toZ-ofZ (sfits-of (c .corrected .ok)) ∙ c .corrected .ensures ∙ ap (corrected (f x)) (toZ-ofZ (add-corrected (c .before)) ∙ sum-is x)
 
-stepped : (x : tie.After-read-displacement) {z : ℤ} → z ≡ corrected (f x) (a x +ℤ d x) → let e = x .read-displacement .result .reader .at .0 in
-    Runs (motionVector (s x .args .r) (a x)) (now (s x .args .s)) (s x .args .reader .at .0) z e × ((e ≤ 134217728) × InRange 64 z)
+-- so it is what a step gives
+stepped : (x : tie.After-read-displacement) {z : ℤ} → z ≡ corrected (f x) (a x +ℤ d x)
+    → Reading (motionVector (s x .args .r) (a x)) (now (s x .args .s)) (s x .args .reader) z (x .read-displacement .result .reader)
 unfolding motionVector
-stepped x is =
-    let p = s x .pre in
-    let read = x .read-displacement .ensures in
-    rw is (r-call _ read r-done, (r-most read (p .0) (p .1 .0), corrected-in (d x) (scaled x) (small x) (p .1 .1 .1 .1)))
+stepped x is = rw is (reading (s x .pre .0) (r-call _ (x .read-displacement .ensures .runs) r-done))
 
 returns : tie.Need-returns
 returns c = stepped (c .before .before .before .before) (moved c)

@@ -1,58 +1,29 @@
--- `blocks::gather` meets its contract: each turn of the loop gathers a row.
-use mathlib.Core.Path.{sym, ap, _∙_}
-use mathlib.Core.Bool.{cond}
-use Prim.Native.Nat.{ℕ, _+_, _*_, _-_, _≤_}
-use native.Mathlib.Nat.{zero-add}
+-- `blocks::gather` meets its contract: the size is 16, 8 or 0.
+use mathlib.Core.Path.{_≡_, refl}
+use Prim.Native.Nat.{ℕ}
 use native.Mathlib.Omega.{arith}
-use denote.Ref.{now}
-use lib.ListN.{length, replicate, length-replicate}
-use Rattle.laws.specs.Stores.{storeRow}
-use Rattle.laws.proofs.Lists.{last-row}
+use Rattle.laws.specs.Stores.{storeRows}
 use Rattle.prediction.specs.Predict.{gathered}
-use Rattle.prediction.specs.Samples.{sample}
-use Rattle.prediction.proofs.Lines.{Lines, no-line, line-on, lines-all, in-block}
 use Rattle.prediction.proofs.blocks.gather.Statement.{statement}
 use Rattle.prediction.proofs.blocks.gather.Tie as tie
 
-abbrev Inv-loop : tie.InvT-loop
-Inv-loop s from dw size across down out₀ y₀ out y = Lines (replicate 256 0) 0 size size size (λ old y x. sample s dw across down (from + y * dw + x)) out y
+gather-rows-requires : tie.Need-gather-rows-requires
+gather-rows-requires c κs = let h = rw (c .before .if1 .taken) at (c .before .before .before .pre) in (refl, (h .0 .1, h .1))
 
-abbrev μ-loop : tie.MeasureT-loop
-μ-loop s from dw size across down out₀ y₀ out y = size - y
+returns : tie.Need-returns
+unfolding gathered
+returns c = let i = c .before .before in rw (i .if1 .taken) (c .gather-rows .ensures)
 
--- the row in the block, and in the source
-here : (c : tie.After-out Inv-loop μ-loop) → let l = c .before .before in l .loop .y * l .before .before .args .size + l .before .before .args .size ≤ 256
-here c = let l = c .before .before in in-block (l .before .before .args .size) (l .loop .y) (omega arith) (omega arith)
+gather-rows-requires-2 : tie.Need-gather-rows-requires-2
+gather-rows-requires-2 c κs = let h = rw (c .before .if2 .taken) at (c .before .before .before .before .pre) in (refl, (h .0 .1, h .1))
 
-there : (c : tie.After-out Inv-loop μ-loop) → let l = c .before .before in let a = l .before .before .args in
-    a .from + l .loop .y * a .dw + (a .size + cond (a .down) (a .dw) 0 + cond (a .across) 1 0) ≤ length (now (a .s))
-there c =
-    let l = c .before .before in
-    let a = l .before .before .args in
-    last-row (a .from) (a .dw) (a .size + cond (a .down) (a .dw) 0 + cond (a .across) 1 0) (a .size) (length (now (a .s))) (omega arith) (l .loop .y) (c .before .loop-test .taken)
+returns-2 : tie.Need-returns-2
+unfolding gathered
+returns-2 c = let i = c .before .before in rw (i .if2 .taken) (c .gather-rows2 .ensures)
 
-loop-again : tie.Need-loop-again Inv-loop μ-loop
-loop-again c =
-    let t = c .before .before .before in
-    let l = t .before in
-    let a = l .before .before .args in
-    line-on (l .loop .inv) (t .loop-test .taken)
-    (c .before .gather-row .ensures ∙ ap (λ (m : ℕ). storeRow (l .loop .out) m (λ x. sample (now (a .s)) (a .dw) (a .across) (a .down) (a .from + l .loop .y * a .dw + x)) (a .size)) (sym (zero-add (l .loop .y * a .size))))
+returns-3 : tie.Need-returns-3
+unfolding gathered storeRows
+returns-3 c = let e : c .before .before .before .args .size ≡ 0 = omega arith in rw e
 
 pub gather-spec : {M : Type 1} → statement M
-unfolding gathered
-gather-spec =
-    tie.close
-    (tie.spec
-    Inv-loop
-    μ-loop
-    (λ c. let size = c .before .args .size in no-line (omega arith) (omega (arith, length-replicate {A = ℕ} 256 0, in-block size (size - 1) (omega arith) (omega arith))))
-    (λ c. omega (arith, length-replicate {A = ℕ} 256 0))
-    (λ c. omega (arith, here c))
-    (λ c. omega (arith, there c))
-    (λ c. omega (arith, there c))
-    (λ c κs. omega (arith, length-replicate {A = ℕ} 256 0, here c, there c))
-    (λ c. omega arith)
-    (λ c. omega arith)
-    loop-again
-    (λ c. lines-all (c .before .loop .inv) (c .loop-test .left)))
+gather-spec = tie.close (tie.spec gather-rows-requires returns gather-rows-requires-2 returns-2 returns-3)

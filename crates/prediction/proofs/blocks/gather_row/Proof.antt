@@ -1,4 +1,4 @@
--- `blocks::gather_row` meets its contract: each turn of the loop writes eight bytes more of the row.
+-- `blocks::gather_row` meets its contract: each turn of the loop writes a byte more of the row.
 use Prim.Native.Nat.{_-_}
 use native.Mathlib.Omega.{arith}
 use Rattle.prediction.specs.Samples.{sample}
@@ -18,12 +18,12 @@ gather-row-spec =
     (tie.spec
     Inv-loop
     μ-loop
-    (λ c. no-run (omega arith))
-    (λ c. omega arith)
+    (λ c. no-run)
     (λ c. omega arith)
     (λ c κs. omega arith)
     (λ c. omega arith)
     (λ c. omega arith)
-    (λ c. let t = c .before .before .before .before in run-on (t .before .loop .inv) (t .loop-test .taken) (c .before .before .gather-eight .ensures))
-    (λ c. c .before .loop .inv .long)
+    (λ c. omega arith)
+    (λ c. omega arith)
+    (λ c. let t = c .before in run-on (t .before .loop .inv) (t .loop-test .taken) (c .sample .ensures))
     (λ c. run-all (c .before .loop .inv) (c .loop-test .left)))

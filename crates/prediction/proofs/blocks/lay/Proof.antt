@@ -1,37 +1,28 @@
--- `blocks::lay` meets its contract: each turn of the loop lays a row.
-use Prim.Native.Nat.{_+_, _*_, _-_, _≤_}
+-- `blocks::lay` meets its contract: the size is 16, 8 or 0.
+use mathlib.Core.Path.{_≡_}
 use native.Mathlib.Omega.{arith}
-use lib.ListN.{getD}
+use borrow.Author.Needs.{needs}
+use Rattle.laws.specs.Stores.{storeRows}
 use Rattle.prediction.specs.Predict.{lay}
-use Rattle.prediction.specs.Samples.{laid}
-use Rattle.prediction.proofs.Lines.{Lines, no-line, in-line, line-on, lines-all, in-block}
 use Rattle.prediction.proofs.blocks.lay.Statement.{statement}
 use Rattle.prediction.proofs.blocks.lay.Tie as tie
 
-abbrev Inv-loop : tie.InvT-loop
-Inv-loop d₀ di dw size block interpolate y₀ d y = Lines d₀ di dw size size (λ old y x. laid interpolate old (getD block (y * size + x) 0)) d y
+lay-rows-requires : tie.Need-lay-rows-requires
+lay-rows-requires c κs = let h = rw (c .before .if1 .taken) at (c .before .before .before .pre) in ((h .0 .1, h .0 .2), h .1)
 
-abbrev μ-loop : tie.MeasureT-loop
-μ-loop d₀ di dw size block interpolate y₀ d y = size - y
+returns : tie.Need-returns
+returns c = let r = c .before .before in rw (r .before .before .if1 .taken) (r .lay-rows .ensures)
 
--- the row in the block
-here : (c : tie.After-lay-row-arg Inv-loop μ-loop) → let l = c .before .before in l .loop .y * l .before .before .args .size + l .before .before .args .size ≤ 256
-here c = let l = c .before .before in in-block (l .before .before .args .size) (l .loop .y) (omega arith) (omega arith)
+lay-rows-requires-2 : tie.Need-lay-rows-requires-2
+lay-rows-requires-2 c κs = let h = rw (c .before .if2 .taken) at (c .before .before .before .before .pre) in ((h .0 .1, h .0 .2), h .1)
+
+returns-2 : tie.Need-returns-2
+returns-2 c = let r = c .before .before in rw (r .before .before .if2 .taken) (r .lay-rows2 .ensures)
+
+returns-3 : tie.Need-returns-3
+unfolding lay storeRows
+returns-3 c = let e : c .before .before .before .args .size ≡ 0 = omega arith in rw e
 
 pub lay-spec : {M : Type 1} → statement M
-unfolding lay
 lay-spec =
-    tie.close
-    (tie.spec
-    Inv-loop
-    μ-loop
-    (λ c. no-line (omega arith) (omega arith))
-    (λ c. omega (arith, in-line (c .before .before .loop .inv) (c .before .loop-test .taken)))
-    (λ c. omega (arith, in-line (c .before .before .loop .inv) (c .before .loop-test .taken)))
-    (λ c. omega (arith, here c))
-    (λ c κs. omega (arith, here c, in-line (c .before .before .loop .inv) (c .before .loop-test .taken)))
-    (λ c. omega arith)
-    (λ c. omega arith)
-    (λ c. let t = c .before .before .before .before in line-on (t .before .loop .inv) (t .loop-test .taken) (c .before .before .lay-row .ensures))
-    (λ c. c .before .loop .inv .long)
-    (λ c. lines-all (c .before .loop .inv) (c .loop-test .left)))
+    tie.close (tie.spec lay-rows-requires (λ c. search needs) returns lay-rows-requires-2 (λ c. search needs) returns-2 returns-3)

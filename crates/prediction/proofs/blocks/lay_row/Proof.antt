@@ -1,4 +1,4 @@
--- `blocks::lay_row` meets its contract: each turn of the loop writes eight bytes more of the row.
+-- `blocks::lay_row` meets its contract: each turn of the loop writes a byte more of the row.
 use Prim.Native.Nat.{_-_}
 use native.Mathlib.Omega.{arith}
 use lib.ListN.{getD}
@@ -19,12 +19,16 @@ lay-row-spec =
     (tie.spec
     Inv-loop
     μ-loop
-    (λ c. no-run (omega arith))
+    (λ c. no-run)
+    (λ c. omega arith)
+    (λ c. omega arith)
     (λ c. omega arith)
     (λ c. omega arith)
     (λ c κs. omega arith)
     (λ c. omega arith)
     (λ c. omega arith)
-    (λ c. let t = c .before .before .before .before in run-on (t .before .loop .inv) (t .loop-test .taken) (c .before .before .lay-eight .ensures))
+    (λ c. omega arith)
+    (λ c. omega arith)
+    (λ c. let t = c .before .before .before in run-on (t .before .loop .inv) (t .loop-test .taken) (c .laid .ensures))
     (λ c. c .before .loop .inv .long)
     (λ c. run-all (c .before .loop .inv) (c .loop-test .left)))

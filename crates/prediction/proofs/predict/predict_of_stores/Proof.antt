@@ -1,16 +1,29 @@
 -- `predict::predict_of_stores` meets its contract.
 use mathlib.Core.Path.{_≡_, ap, _∙_}
+use Prim.Native.Nat.{ℕ, _+_, _≤_}
 use native.Mathlib.Omega.{arith}
 use denote.Ref.{now}
 use mir.Facts.{toZ-ofZ}
+use Rattle.prediction.specs.declared.place.Place.{Place}
 use Rattle.prediction.specs.Planes.{blockSize, After}
-use Rattle.prediction.specs.Predict.{blockOf}
+use Rattle.prediction.specs.Predict.{blockOf, bytes}
 use Rattle.prediction.proofs.Macroblocks.{count-most, placed, plane-in, alike}
 use Rattle.prediction.proofs.predict.predict_of_stores.Statement.{statement}
 use Rattle.prediction.proofs.predict.predict_of_stores.Tie as tie
 
-place-is : (c : tie.After-block) → let s = c .before .before .before .before .before .before in c .block .result ≡ blockOf (s .args .m) (blockSize (s .args .q))
-place-is c = c .block .ensures ∙ ap (blockOf (c .before .before .before .before .before .before .args .m)) (c .before .block-size .ensures)
+-- once the place is known: where the planes' starts are, and the entry
+abbrev started : tie.After-block → tie.After-plane-start2
+started k = k .before .before
+
+abbrev entry : tie.After-block → tie.Start
+entry k = started k .before .before .before .before
+
+place-is : (k : tie.After-block) → let a = entry k .args in k .block .result ≡ blockOf (a .m) (blockSize (a .q))
+place-is k = k .block .ensures ∙ ap (blockOf (entry k .args .m)) (k .before .block-size .ensures)
+
+-- a plane ends in the store, with the place and the start that the code has
+room : {p r : Place} {a b n : ℕ} → p ≡ r → a ≡ b → b + bytes r ≤ n → a + bytes p ≤ n
+room ep ea h = rw (ep, ea) h
 
 plane-start-requires : tie.Need-plane-start-requires
 plane-start-requires c κs = let s = c .before .before in (s .pre .1 .0 .0, count-most (s .pre .0))
@@ -21,23 +34,24 @@ plane-start-requires-2 c κs = let s = c .before .before .before in (s .pre .1 .
 predict-plane-requires : tie.Need-predict-plane-requires
 predict-plane-requires c κs =
     let k = c .before in
-    let s = c .before .before .before .before .before .before .before in (
+    let s = entry k in
+    let from = plane-in (s .args .m) (s .args .q) (s .args .from) (s .pre .1 .0 .0) in
+    let to = plane-in (s .args .m) (s .args .q) (s .args .to) (s .pre .1 .0 .1) in (
       rw (place-is k) (placed (s .pre .0) (s .args .q)),
       (
         rw (toZ-ofZ (s .fits .h), toZ-ofZ (s .fits .v)) (s .pre .1 .1 .0),
-        (
-          rw (place-is k, k .before .before .before .plane-start .ensures) (omega (arith, plane-in (s .args .m) (s .args .q) (s .args .from) (s .pre .1 .0 .0))),
-          rw (place-is k, k .before .before .plane-start2 .ensures) (omega (arith, plane-in (s .args .m) (s .args .q) (s .args .to) (s .pre .1 .0 .1))),
-        ),
+        (room (place-is k) (started k .before .plane-start .ensures) (omega arith), room (place-is k) (started k .plane-start2 .ensures) (omega arith)),
       ),
     )
 
 returns : tie.Need-returns
 returns c =
     let k = c .before .before .before .before in
-    let s = c .before .before .before .before .before .before .before .before .before .before in
-    let e = alike (s .args .interpolate) (now (s .args .store)) (place-is k) (k .before .before .before .plane-start .ensures) (k .before .before .plane-start2 .ensures) (toZ-ofZ (s .fits .h)) (toZ-ofZ (s .fits .v)) in
-    (c .before .before .predict-plane .ensures .0 ∙ ap (λ (o : After). o .answer) e, c .before .before .predict-plane .ensures .1 ∙ ap (λ (o : After). o .store) e)
+    let s = entry k in
+    let r = c .before .before .predict-plane .ensures in
+    let e = alike (s .args .interpolate) (now (s .args .store)) (place-is k) (started k .before .plane-start .ensures) (started k .plane-start2 .ensures)
+    (toZ-ofZ (s .fits .h)) (toZ-ofZ (s .fits .v)) in
+    (r .0 ∙ ap (λ (o : After). o .answer) e, r .1 ∙ ap (λ (o : After). o .store) e)
 
 pub predict-of-stores-spec : {M : Type 1} → statement M
 predict-of-stores-spec =

@@ -1,38 +1,45 @@
--- `predict::predict_plane` meets its contract, by the ways.
+-- `predict::predict_plane` meets its contract, by what is fetched.
 use mathlib.Core.Path.{_≡_, sym, ap, ap₂, _∙_}
+use mathlib.Core.List.{List}
+use Prim.Native.Nat.{ℕ}
 use native.Mathlib.Omega.{arith}
 use borrow.Author.Needs.{needs}
 use borrow.Rule.Slice.PartMut.{midOf, putMid}
 use denote.Ref.{now}
 use lib.IntN.{ℤ}
 use mir.Facts.{toZ-ofZ}
-use Rattle.prediction.specs.declared.place.Way.{Way}
+use Rattle.prediction.specs.declared.place.Fetch.{Fetch}
 use Rattle.prediction.specs.Planes.{After, follow}
-use Rattle.prediction.specs.Predict.{bytes, way, predicted}
-use Rattle.prediction.proofs.Ways.{copied-in}
+use Rattle.prediction.specs.Predict.{bytes, fetch, predicted}
+use Rattle.prediction.proofs.Fetches.{copied-in}
 use Rattle.prediction.proofs.predict.predict_plane.Statement.{statement}
 use Rattle.prediction.proofs.predict.predict_plane.Tie as tie
 
-way-is : (c : tie.After-way-of) → let a = c .before .before .args in c .way-of .result ≡ way (a .p) (a .h) (a .v)
-way-is c = c .way-of .ensures ∙ ap₂ (way (c .before .before .args .p)) (toZ-ofZ (c .before .before .fits .h)) (toZ-ofZ (c .before .before .fits .v))
+abbrev entry : tie.After-fetch-of → tie.Start
+entry c = c .before .before
 
-abbrev did : tie.Start → Way → After
+-- where the fetch is known, once it is a copy
+abbrev fetched : tie.After-at → tie.After-fetch-of
+fetched g = g .before .before
+
+fetch-is : (c : tie.After-fetch-of) → let a = entry c .args in c .fetch-of .result ≡ fetch (a .p) (a .h) (a .v)
+fetch-is c = let s = entry c in c .fetch-of .ensures ∙ ap₂ (fetch (s .args .p)) (toZ-ofZ (s .fits .h)) (toZ-ofZ (s .fits .v))
+
+abbrev did : tie.Start → Fetch → After
 did s w = follow w (s .args .p) (s .args .from) (s .args .to) (s .args .h) (s .args .v) (s .args .interpolate) (now (s .args .store))
 
--- what is done by the way that was found is what is to be done
-answered : (c : tie.After-way-of) {w : Way} → w ≡ c .way-of .result
-    → let s = c .before .before in let o = did s (way (s .args .p) (s .args .h) (s .args .v)) in (did s w .answer ≡ o .answer) × (did s w .store ≡ o .store)
-answered c e =
-    let s = c .before .before in
-    (ap (λ (w : Way). did s w .answer) (e ∙ way-is c), ap (λ (w : Way). did s w .store) (e ∙ way-is c))
+-- what is done by the fetch that was found is what is to be done
+answered : (c : tie.After-fetch-of) {w : Fetch} → w ≡ c .fetch-of .result → let s = entry c in
+    let o = did s (fetch (s .args .p) (s .args .h) (s .args .v)) in (did s w .answer ≡ o .answer) × (did s w .store ≡ o .store)
+answered c e = let s = entry c in (ap (λ (w : Fetch). did s w .answer) (e ∙ fetch-is c), ap (λ (w : Fetch). did s w .store) (e ∙ fetch-is c))
 
 copy-block-requires : tie.Need-copy-block-requires
 copy-block-requires c κs =
-    let s = c .before .before .before .before .before .before in
-    let at = c .before .before .at .given in (
-      s .pre .0,
-      (s .pre .1 .1, rw (toZ-ofZ (s .fits .h), toZ-ofZ (s .fits .v)) (copied-in (s .args .p) (s .args .h) (s .args .v) (at .0 .0) (sym (at .1) ∙ way-is (c .before .before .before .before)))),
-    )
+    let g = c .before .before in
+    let s = entry (fetched g) in
+    let at = g .at .given in
+    let far = copied-in (s .args .p) (s .args .h) (s .args .v) (at .0 .0) (sym (at .1) ∙ fetch-is (fetched g)) in
+    (s .pre .0, (s .pre .1 .1, rw (toZ-ofZ (s .fits .h), toZ-ofZ (s .fits .v)) far))
 
 returns : tie.Need-returns
 unfolding follow
@@ -42,17 +49,25 @@ returns-2 : tie.Need-returns-2
 unfolding follow
 returns-2 c = answered (c .before .before) (sym (c .enum-told2 .given .1))
 
+-- the store with the block copied, for a vector
+abbrev written : tie.After-at → ℤ → ℤ → List ℕ
+written g h v =
+    let a = entry (fetched g) .args in
+    let n = bytes (a .p) in
+    let l = now (a .store) in
+    putMid (a .to) n l (predicted (a .p) (midOf (a .from) n l) (midOf (a .to) n l) h v (a .interpolate) (g .at .given .0 .0))
+
+-- the copy, once it is done
+abbrev copied : tie.After-slice-known2 → tie.After-copy-block
+copied c = c .before .before
+
 returns-3 : tie.Need-returns-3
 unfolding follow
 returns-3 c =
-    let g = c .before .before .before .before .before in
-    let s = g .before .before .before .before in
-    let w = answered (g .before .before) (sym (g .at .given .1)) in (
-      w .0,
-      c .before .before .copy-block .ensures
-          ∙ ap₂ (λ (h v : ℤ). putMid (s .args .to) (bytes (s .args .p)) (now (s .args .store)) (predicted (s .args .p) (midOf (s .args .from) (bytes (s .args .p)) (now (s .args .store))) (midOf (s .args .to) (bytes (s .args .p)) (now (s .args .store))) h v (s .args .interpolate) (g .at .given .0 .0))) (toZ-ofZ (s .fits .h)) (toZ-ofZ (s .fits .v))
-          ∙ w .1,
-    )
+    let g = copied c .before .before .before in
+    let s = entry (fetched g) in
+    let w = answered (fetched g) (sym (g .at .given .1)) in
+    (w .0, copied c .copy-block .ensures ∙ ap₂ (written g) (toZ-ofZ (s .fits .h)) (toZ-ofZ (s .fits .v)) ∙ w .1)
 
 pub predict-plane-spec : {M : Type 1} → statement M
 predict-plane-spec =

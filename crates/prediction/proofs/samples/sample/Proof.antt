@@ -12,9 +12,13 @@ use Rattle.prediction.proofs.samples.sample.Tie as tie
 both : (c : tie.Then2) → c .before .before .before .args .i + c .before .before .before .args .dw + 1 < length (now (c .before .before .before .args .s))
 both c = let h = rw (c .before .if1 .taken, c .if2 .taken) at (c .before .before .before .pre) in omega arith
 
+-- the branch, once its four samples are read
+abbrev in-both : tie.After-average4 → tie.Then2
+in-both c = c .before .before .before .before .before
+
 returns : tie.Need-returns
 unfolding sample
-returns c = let b = c .before .before .before .before .before in c .average4 .ensures ∙ rw (b .before .if1 .taken, b .if2 .taken)
+returns c = c .average4 .ensures ∙ rw (in-both c .before .if1 .taken, in-both c .if2 .taken)
 
 shared-slice-read-average2-2 : tie.Need-shared-slice-read-average2-2
 shared-slice-read-average2-2 c =

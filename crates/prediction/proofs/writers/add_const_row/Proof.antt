@@ -1,4 +1,5 @@
--- `writers::add_const_row` meets its contract: `returns` is the eight calls and the store, and the other needs are sums that stay inside, and narrow results.
+-- `writers::add_const_row` meets its contract: `returns` is the eight calls and the store, and the other needs are sums that stay inside, and
+-- narrow results.
 use mathlib.Core.Path.{ap, _∙_}
 use Prim.Native.Nat.{_+_}
 use native.Mathlib.Omega.{arith}
@@ -15,11 +16,22 @@ use Rattle.prediction.proofs.Lines.{eight-row}
 use Rattle.prediction.proofs.writers.add_const_row.Statement.{statement}
 use Rattle.prediction.proofs.writers.add_const_row.Tie as tie
 
+-- once the row is written: where the eight bytes are known, and the entry
+abbrev known : tie.After-slice-known10 → tie.After-added8
+known c = c .before .before .before .before
+
+abbrev entry : tie.After-added8 → tie.Start
+entry c =
+    c .before .before .before .before .before .before .before .before
+    .before .before .before .before .before .before .before .before .before
+
 returns : tie.Need-returns
 returns c =
-    let a = c .before .before .before .before .before .before .before .before .before .before .before .before .before .before .before .before .before .before .before .before .before .args in
-    eight-row (now (a .d)) (a .at) (0) (λ old n. clamp255 (pos old +ℤ reread w32 (a .value))) (c .before .before .put-eight .ensures) (search) (search) (search) (search) (search) (search) (search) (search)
-    ∙ ap (λ (z : ℤ). storeRow (now (a .d)) (a .at) (λ x. clamp255 (pos (getD (now (a .d)) (a .at + x) 0) +ℤ z)) 8) (toZ-ofZ (c .before .before .before .before .before .before .before .before .before .before .before .before .before .before .before .before .before .before .before .before .before .fits .value))
+    let s = entry (known c) in
+    let a = s .args in
+    eight-row (now (a .d)) (a .at) 0 (λ old n. clamp255 (pos old +ℤ reread w32 (a .value))) (c .before .before .put-eight .ensures)
+    (search) (search) (search) (search) (search) (search) (search) (search)
+    ∙ ap (λ (z : ℤ). storeRow (now (a .d)) (a .at) (λ x. clamp255 (pos (getD (now (a .d)) (a .at + x) 0) +ℤ z)) 8) (toZ-ofZ (s .fits .value))
 
 pub add-const-row-spec : {M : Type 1} → statement M
 add-const-row-spec =

@@ -1,4 +1,5 @@
--- `writers::add_row` meets its contract: `returns` is the eight calls and the store, and the other needs are sums that stay inside, and narrow results.
+-- `writers::add_row` meets its contract: `returns` is the eight calls and the store, and the other needs are sums that stay inside, and narrow
+-- results.
 use native.Mathlib.Omega.{arith}
 use borrow.Author.Needs.{needs}
 use denote.Ref.{now}
@@ -9,10 +10,20 @@ use Rattle.prediction.proofs.Lines.{eight-row}
 use Rattle.prediction.proofs.writers.add_row.Statement.{statement}
 use Rattle.prediction.proofs.writers.add_row.Tie as tie
 
+-- once the row is written: where the eight bytes are known, and the entry
+abbrev known : tie.After-slice-known10 → tie.After-added-at8
+known c = c .before .before .before .before
+
+abbrev entry : tie.After-added-at8 → tie.Start
+entry c =
+    c .before .before .before .before .before .before .before .before
+    .before .before .before .before .before .before .before .before .before
+
 returns : tie.Need-returns
 returns c =
-    let a = c .before .before .before .before .before .before .before .before .before .before .before .before .before .before .before .before .before .before .before .before .before .args in
-    eight-row (now (a .d)) (a .at) (a .from) (λ old n. clamp255 (pos old +ℤ getD (now (a .s)) n (pos 0))) (c .before .before .put-eight .ensures) (search) (search) (search) (search) (search) (search) (search) (search)
+    let a = entry (known c) .args in
+    eight-row (now (a .d)) (a .at) (a .from) (λ old n. clamp255 (pos old +ℤ getD (now (a .s)) n (pos 0))) (c .before .before .put-eight .ensures)
+    (search) (search) (search) (search) (search) (search) (search) (search)
 
 pub add-row-spec : {M : Type 1} → statement M
 add-row-spec =

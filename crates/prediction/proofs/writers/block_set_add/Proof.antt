@@ -26,7 +26,8 @@ block-set-add-spec =
     (λ c. omega (arith, in-line (c .before .before .loop .inv) (c .before .loop-test .taken)))
     (λ c. omega (arith, in-line (c .before .before .loop .inv) (c .before .loop-test .taken)))
     (λ c. omega arith)
-    (λ c κs. (omega (arith, in-line (c .before .before .loop .inv) (c .before .loop-test .taken)), (omega arith, c .before .before .before .before .pre .1 .1)))
+    (λ c κs.
+    (omega (arith, in-line (c .before .before .loop .inv) (c .before .loop-test .taken)), (omega arith, c .before .before .before .before .pre .1 .1)))
     (λ c. omega arith)
     (λ c. omega arith)
     (λ c. let t = c .before .before .before .before in line-on (t .before .loop .inv) (t .loop-test .taken) (c .before .before .add-row .ensures))

@@ -21,13 +21,19 @@ Inv-loop d₀ di dw value y₀ d y = Lines d₀ di dw 8 8 (λ old y x. clamp255 
 abbrev μ-loop : tie.MeasureT-loop
 μ-loop d₀ di dw value y₀ d y = 8 - y
 
+add-const-row-requires : tie.Need-add-const-row-requires Inv-loop μ-loop
+add-const-row-requires c κs =
+    let s = c .before .before .before .before in
+    (omega (arith, in-line (c .before .before .loop .inv) (c .before .loop-test .taken)), rw (toZ-ofZ (s .fits .value)) (s .pre .1 .1))
+
 returns : tie.Need-returns Inv-loop μ-loop
 unfolding addConst
 returns c =
     let s = c .before .before .before in
     let a = s .args in
     lines-all (c .before .loop .inv) (c .loop-test .left)
-    ∙ ap (λ (z : ℤ). storeRows (now (a .d)) (a .di) (a .dw) 8 (λ y x. clamp255 (pos (getD (now (a .d)) (a .di + y * a .dw + x) 0) +ℤ z)) 8) (toZ-ofZ (s .fits .value))
+    ∙ ap (λ (z : ℤ). storeRows (now (a .d)) (a .di) (a .dw) 8 (λ y x. clamp255 (pos (getD (now (a .d)) (a .di + y * a .dw + x) 0) +ℤ z)) 8)
+    (toZ-ofZ (s .fits .value))
 
 pub block-set-add-const-spec : {M : Type 1} → statement M
 block-set-add-const-spec =
@@ -38,7 +44,7 @@ block-set-add-const-spec =
     (λ c. no-line (omega arith) (omega arith))
     (λ c. omega (arith, in-line (c .before .before .loop .inv) (c .before .loop-test .taken)))
     (λ c. omega (arith, in-line (c .before .before .loop .inv) (c .before .loop-test .taken)))
-    (λ c κs. let s = c .before .before .before .before in (omega (arith, in-line (c .before .before .loop .inv) (c .before .loop-test .taken)), rw (toZ-ofZ (s .fits .value)) (s .pre .1 .1)))
+    add-const-row-requires
     (λ c. omega arith)
     (λ c. omega arith)
     (λ c. let t = c .before .before .before .before in line-on (t .before .loop .inv) (t .loop-test .taken) (c .before .before .add-const-row .ensures))

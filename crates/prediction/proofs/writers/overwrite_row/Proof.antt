@@ -8,10 +8,18 @@ use Rattle.prediction.proofs.Lines.{eight-row}
 use Rattle.prediction.proofs.writers.overwrite_row.Statement.{statement}
 use Rattle.prediction.proofs.writers.overwrite_row.Tie as tie
 
+-- once the row is written: where the eight bytes are known, and the entry
+abbrev known : tie.After-slice-known2 → tie.After-clamped8
+known c = c .before .before .before .before
+
+abbrev entry : tie.After-clamped8 → tie.Start
+entry c = c .before .before .before .before .before .before .before .before .before
+
 returns : tie.Need-returns
 returns c =
-    let a = c .before .before .before .before .before .before .before .before .before .before .before .before .before .args in
-    eight-row (now (a .d)) (a .at) (a .from) (λ old n. clamp255 (getD (now (a .s)) n (pos 0))) (c .before .before .put-eight .ensures) (search) (search) (search) (search) (search) (search) (search) (search)
+    let a = entry (known c) .args in
+    eight-row (now (a .d)) (a .at) (a .from) (λ old n. clamp255 (getD (now (a .s)) n (pos 0))) (c .before .before .put-eight .ensures)
+    (search) (search) (search) (search) (search) (search) (search) (search)
 
 pub overwrite-row-spec : {M : Type 1} → statement M
 overwrite-row-spec =

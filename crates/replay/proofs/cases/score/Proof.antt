@@ -20,7 +20,8 @@ add-length c = omega (arith, bytes-fit (c .numbers .result) (c .before .number-a
 returns : tie.Need-returns Inv-loop μ-loop
 returns c =
     let k = c .before .before in
-    rw (c .counted .ensures, k .before .before .new .ensures) (not-sized _ _ _ (k .before .number-at .ensures) (rw (k .numbers .ensures .0) at (c .before .if1 .taken)))
+    rw (c .counted .ensures, k .before .before .new .ensures)
+    (not-sized _ _ _ (k .before .number-at .ensures) (rw (k .numbers .ensures .0) at (c .before .if1 .taken)))
 
 loop-holds : tie.Need-loop-holds Inv-loop μ-loop
 loop-holds c =
@@ -38,7 +39,10 @@ loop-again c =
     let t = c .before .before .before in
     let k = t .before .before .before in
     rw (k .numbers .ensures .0)
-    (scoring-on _ _ _ _ _ _ _ _ (t .before .loop .inv) (t .loop-test .taken) (c .before .case-agrees .ensures ∙ ap (agrees (k .before .before .before .before .args .kind)) (rw (k .numbers .ensures .0) at (c .before .before .part .ensures))) (c .counted2 .ensures))
+    (scoring-on _ _ _ _ _ _ _ _ (t .before .loop .inv) (t .loop-test .taken)
+    (c .before .case-agrees .ensures
+    ∙ ap (agrees (k .before .before .before .before .args .kind)) (rw (k .numbers .ensures .0) at (c .before .before .part .ensures)))
+    (c .counted2 .ensures))
 
 returns-2 : tie.Need-returns-2 Inv-loop μ-loop
 returns-2 c =

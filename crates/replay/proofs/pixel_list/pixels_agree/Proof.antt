@@ -18,14 +18,16 @@ returns-3 : tie.Need-returns-3
 unfolding pixelAgrees
 returns-3 c =
     let x = c .before .before .before in
-    rw (← x .before .before .number-at .ensures, ← x .before .number-at2 .ensures, ← x .number-at3 .ensures, le-leb _ _ (c .before .before .if1 .left), le-leb _ _ (c .before .if2 .left), lt-leb _ _ (c .if3 .taken))
+    rw (← x .before .before .number-at .ensures, ← x .before .number-at2 .ensures, ← x .number-at3 .ensures)
+    (rw (le-leb _ _ (c .before .before .if1 .left), le-leb _ _ (c .before .if2 .left), lt-leb _ _ (c .if3 .taken)))
 
 returns-4 : tie.Need-returns-4
 unfolding pixelAgrees
 returns-4 c =
     let p = c .before in
     let x = p .before .before .before .before in
-    rw (← x .before .before .number-at .ensures, ← x .before .number-at2 .ensures, ← x .number-at3 .ensures, le-leb _ _ (p .before .before .before .if1 .left), le-leb _ _ (p .before .before .if2 .left), le-leb _ _ (p .before .if3 .left), p .pixel .ensures, c .number-at4 .ensures)
+    rw (← x .before .before .number-at .ensures, ← x .before .number-at2 .ensures, ← x .number-at3 .ensures, p .pixel .ensures, c .number-at4 .ensures)
+    (rw (le-leb _ _ (p .before .before .before .if1 .left), le-leb _ _ (p .before .before .if2 .left), le-leb _ _ (p .before .if3 .left)))
 
 pub pixels-agree-spec : {M : Type 1} → statement M
 pixels-agree-spec =

@@ -10,6 +10,10 @@ use Rattle.lists.specs.Bytes.{sameBytes}
 use Rattle.replay.proofs.reader_list.bytes_agree.Statement.{statement}
 use Rattle.replay.proofs.reader_list.bytes_agree.Tie as tie
 
+-- the function's beginning, from where the bytes have been peeked
+abbrev begun : tie.After-peek-bytes → tie.Start
+begun p = p .before .before .before .before
+
 enum-told : tie.Need-enum-told
 enum-told c = search needs
 
@@ -17,21 +21,22 @@ returns : tie.Need-returns
 returns c =
     let t = c .before .before in
     let p = t .before .before in
-    let s = p .before .before .before .before in
+    let a = begun p .args in
     simp (eq-eqb _ _ (p .before .if1 .taken))
-    (c .same .ensures ∙ ap (λ (q : Part). sameBytes (s .args .bytes .now) (bytesOf (s .args .s .now) q)) (sym (t .enum-told .given .1) ∙ p .peek-bytes .ensures .0 .0))
+    (c .same .ensures ∙ ap (λ (q : Part). sameBytes (a .bytes .now) (bytesOf (a .s .now) q)) (sym (t .enum-told .given .1) ∙ p .peek-bytes .ensures .0 .0))
 
 -- the part lies inside
-inside : (c : tie.After-known-told) → let b = c .before .part .given .0 in (b .0 .0 ≤ b .1 .0 .0) × (b .1 .0 .0 ≤ length (c .before .before .before .before .before .before .before .args .s .now))
+inside : (c : tie.After-known-told) → let b = c .before .part .given .0 in
+    (b .0 .0 ≤ b .1 .0 .0) × (b .1 .0 .0 ≤ length (begun (c .before .before .before) .args .s .now))
 inside c = rw (c .before .part .given .1) at (c .before .before .before .peek-bytes .ensures .1)
 
 returns-2 : tie.Need-returns-2
 returns-2 c =
     let t = c .before .before .before in
     let p = t .before .before in
-    let s = p .before .before .before .before in
+    let a = begun p .args in
     simp (eq-eqb _ _ (p .before .if1 .taken))
-    (c .same2 .ensures ∙ ap (λ (q : Part). sameBytes (s .args .bytes .now) (bytesOf (s .args .s .now) q)) (sym (t .part .given .1) ∙ p .peek-bytes .ensures .0 .0))
+    (c .same2 .ensures ∙ ap (λ (q : Part). sameBytes (a .bytes .now) (bytesOf (a .s .now) q)) (sym (t .part .given .1) ∙ p .peek-bytes .ensures .0 .0))
 
 pub bytes-agree-spec : {M : Type 1} → statement M
 bytes-agree-spec =

@@ -1,17 +1,19 @@
 use mathlib.Core.Path.{_≡_, _∙_}
-use Prim.Native.Nat.{_≤_}
+use mathlib.Core.List.{List}
+use Prim.Native.Nat.{ℕ}
 use native.Mathlib.Omega.{arith}
 use borrow.Author.Needs.{sfits-of}
 use borrow.Author.Tests.{lt-ltb, le-ltb}
 use mir.Syntax.{w32}
 use mir.Facts.{toZ-ofZ}
+use Rattle.bits.specs.Runs.{Inside}
 use Rattle.replay.specs.declared.reader_operations.Outcome.{Outcome}
 use Rattle.replay.specs.Operations.{outcome}
 use Rattle.replay.proofs.reader_operations.operate.Statement.{statement}
 use Rattle.replay.proofs.reader_operations.operate.Tie as tie
 
 -- an outcome r that is p, and so o
-ends : {r p o : Outcome} → r ≡ p → p ≡ o → p .reader .at .0 ≤ 134217728 → (r ≡ o) × (r .reader .at .0 ≤ 134217728)
+ends : {s : List ℕ} {r p o : Outcome} → r ≡ p → p ≡ o → Inside s (p .reader) → (r ≡ o) × Inside s (r .reader)
 ends e q h = (e ∙ q, rw e h)
 
 enum-told : tie.Need-enum-told
@@ -19,94 +21,124 @@ enum-told c = c .match .keys1
 
 returns : tie.Need-returns
 unfolding outcome
-returns c = ends (c .refused .ensures) (rw (c .before .before .enum-told9 .given .1, lt-ltb _ _ (c .before .if1 .taken))) (omega arith)
+returns c =
+    let t = c .before .before in
+    ends (c .refused .ensures) (rw (t .enum-told9 .given .1, lt-ltb _ _ (c .before .if1 .taken))) (t .before .before .before .pre)
 
 returns-2 : tie.Need-returns-2
 unfolding outcome
-returns-2 c = ends (c .refused2 .ensures) (rw (c .before .before .enum-told10 .given .1, lt-ltb _ _ (c .before .if2 .taken))) (omega arith)
+returns-2 c =
+    let t = c .before .before in
+    ends (c .refused2 .ensures) (rw (t .enum-told10 .given .1, lt-ltb _ _ (c .before .if2 .taken))) (t .before .before .before .pre)
 
 returns-3 : tie.Need-returns-3
 unfolding outcome
-returns-3 c = ends (c .given .ensures) (rw (c .before .before .enum-told .given .1, c .before .new .ensures)) (omega arith)
+returns-3 c =
+    let t = c .before .before in
+    let at-0 = c .before .new .ensures in
+    ends (c .given .ensures) (rw (t .enum-told .given .1, at-0)) (record { place = omega arith; stream = t .before .before .before .pre .stream })
 
 returns-4 : tie.Need-returns-4
 unfolding outcome
-returns-4 c = ends (c .valued .ensures) (rw (c .before .before .enum-told2 .given .1, c .before .read .ensures .0 .is)) (omega arith)
+returns-4 c =
+    let r = c .before .read .ensures in
+    ends (c .valued .ensures) (rw (c .before .before .enum-told2 .given .1, r .runs .is)) (r .inside)
 
 returns-5 : tie.Need-returns-5
 unfolding outcome
-returns-5 c = ends (c .valued2 .ensures) (rw (c .before .before .enum-told3 .given .1, c .before .read-bit .ensures .0 .is)) (omega arith)
+returns-5 c =
+    let r = c .before .read-bit .ensures in
+    ends (c .valued2 .ensures) (rw (c .before .before .enum-told3 .given .1, r .runs .is)) (r .inside)
 
 returns-6 : tie.Need-returns-6
 unfolding outcome
 returns-6 c =
+    let t = c .before .before in
     let h = c .before .has .ensures in
-    ends (c .flagged .ensures) (rw (c .before .before .enum-told4 .given .1, h .0, h .1)) (omega arith)
+    ends (c .flagged .ensures) (rw (t .enum-told4 .given .1, h .0, h .1)) (rw (h .1) (t .before .before .before .pre))
 
 returns-7 : tie.Need-returns-7
 unfolding outcome
 returns-7 c =
+    let t = c .before .before in
     let h = c .before .has-ended .ensures in
-    ends (c .flagged2 .ensures) (rw (c .before .before .enum-told5 .given .1, h .0, h .1)) (omega arith)
+    ends (c .flagged2 .ensures) (rw (t .enum-told5 .given .1, h .0, h .1)) (rw (h .1) (t .before .before .before .pre))
 
 returns-8 : tie.Need-returns-8
 unfolding outcome
-returns-8 c = ends (c .given2 .ensures) (rw (c .before .before .enum-told6 .given .1, c .before .skip .ensures .0 .is)) (omega arith)
+returns-8 c =
+    let r = c .before .skip .ensures in
+    ends (c .given2 .ensures) (rw (c .before .before .enum-told6 .given .1, r .runs .is)) (r .inside)
 
 returns-9 : tie.Need-returns-9
 unfolding outcome
-returns-9 c = ends (c .given3 .ensures) (rw (c .before .before .enum-told7 .given .1, c .before .align .ensures .0)) (omega arith)
+returns-9 c =
+    let t = c .before .before in
+    let a = c .before .align .ensures in
+    ends (c .given3 .ensures) (rw (t .enum-told7 .given .1, a .0)) (record { place = a .1; stream = t .before .before .before .pre .stream })
 
 returns-10 : tie.Need-returns-10
 unfolding outcome
 returns-10 c =
     let x = c .before .before in
-    ends (c .given4 .ensures) (rw (x .before .enum-told8 .given .1, x .tell .ensures .0, x .tell .ensures .1)) (omega arith)
+    let t = x .before in
+    let e = x .tell .ensures in
+    ends (c .given4 .ensures) (rw (t .enum-told8 .given .1, e .0, e .1)) (rw (e .1) (t .before .before .before .pre))
 
 returns-11 : tie.Need-returns-11
 unfolding outcome
 returns-11 c =
-    let x = c .before .before .before in
-    ends (c .given5 .ensures) (rw (x .enum-told9 .given .1, le-ltb _ _ (c .before .before .if1 .left), c .before .seek .ensures .0)) (omega arith)
+    let t = c .before .before .before in
+    let e = c .before .seek .ensures in
+    ends (c .given5 .ensures) (rw (t .enum-told9 .given .1, le-ltb _ _ (c .before .before .if1 .left), e .0))
+    (record { place = e .1; stream = t .before .before .before .pre .stream })
 
 returns-12 : tie.Need-returns-12
 unfolding outcome
 returns-12 c =
     let r = c .before .before in
     let e = r .skip-bytes .ensures in
-    ends (c .given6 .ensures) (rw (r .before .before .enum-told10 .given .1, le-ltb _ _ (r .before .if2 .left), e .1 .0, e .0)) (omega arith)
+    ends (c .given6 .ensures) (rw (r .before .before .enum-told10 .given .1, le-ltb _ _ (r .before .if2 .left), e .1 .0, e .0)) (e .1 .1)
 
 returns-13 : tie.Need-returns-13
 unfolding outcome
-returns-13 c = ends (c .coded .ensures) (rw (c .before .before .enum-told11 .given .1, c .before .next-start-code .ensures .0 .is)) (omega arith)
+returns-13 c =
+    let r = c .before .next-start-code .ensures .0 in
+    ends (c .coded .ensures) (rw (c .before .before .enum-told11 .given .1, r .runs .is)) (r .inside)
 
 returns-14 : tie.Need-returns-14
 unfolding outcome
 returns-14 c =
     let f = c .before .find-start-code .ensures .0 in
-    let e = toZ-ofZ {w = w32} (sfits-of (c .before .before .signed .ok)) ∙ c .before .before .signed .ensures in
-    ends (c .coded2 .ensures) (rw (c .before .before .before .enum-told12 .given .1, ← e, f .is)) (omega arith)
+    let x = c .before .before in
+    let e = toZ-ofZ {w = w32} (sfits-of (x .signed .ok)) ∙ x .signed .ensures in
+    ends (c .coded2 .ensures) (rw (x .before .enum-told12 .given .1, ← e, f .runs .is)) (f .inside)
 
 returns-15 : tie.Need-returns-15
 unfolding outcome
 returns-15 c =
     let f = c .before .has-start-code .ensures .0 in
-    let e = toZ-ofZ {w = w32} (sfits-of (c .before .before .signed2 .ok)) ∙ c .before .before .signed2 .ensures in
-    ends (c .coded3 .ensures) (rw (c .before .before .before .enum-told13 .given .1, ← e, f .0, f .1)) (omega arith)
+    let x = c .before .before in
+    let e = toZ-ofZ {w = w32} (sfits-of (x .signed2 .ok)) ∙ x .signed2 .ensures in
+    ends (c .coded3 .ensures) (rw (x .before .enum-told13 .given .1, ← e, f .0, f .1)) (rw (f .1) (x .before .before .before .before .pre))
 
 returns-16 : tie.Need-returns-16
 unfolding outcome
 returns-16 c =
     let p = c .before .peek-non-zero .ensures in
-    ends (c .flagged3 .ensures) (rw (c .before .before .enum-told14 .given .1, p .0 .is, p .1)) (omega arith)
+    ends (c .flagged3 .ensures) (rw (c .before .before .enum-told14 .given .1, p .0 .runs .is, p .1)) (p .0 .inside)
 
 returns-17 : tie.Need-returns-17
 unfolding outcome
-returns-17 c = ends (c .peeked .ensures) (rw (c .before .enum-told15 .given .1)) (omega arith)
+returns-17 c =
+    let t = c .before in
+    ends (c .peeked .ensures) (rw (t .enum-told15 .given .1)) (t .before .before .before .pre)
 
 returns-18 : tie.Need-returns-18
 unfolding outcome
-returns-18 c = ends (c .refused3 .ensures) (rw (c .before .enum-told16 .given .1)) (omega arith)
+returns-18 c =
+    let t = c .before in
+    ends (c .refused3 .ensures) (rw (t .enum-told16 .given .1)) (t .before .before .before .pre)
 
 pub operate-spec : {M : Type 1} → statement M
 operate-spec =
@@ -122,16 +154,16 @@ operate-spec =
     (λ c κs. c .before .before .before .pre)
     (λ c κs. tt)
     (λ c. c .match .keys4)
-    (λ c κs. c .before .before .before .pre .1)
+    (λ c κs. c .before .before .before .pre .stream)
     (λ c κs. tt)
     (λ c. c .match .keys5)
-    (λ c κs. c .before .before .before .pre .1)
+    (λ c κs. c .before .before .before .pre .stream)
     (λ c κs. tt)
     (λ c. c .match .keys6)
     (λ c κs. c .before .before .before .pre)
     (λ c κs. tt)
     (λ c. c .match .keys7)
-    (λ c κs. c .before .before .before .pre .0)
+    (λ c κs. c .before .before .before .pre .place)
     (λ c κs. tt)
     (λ c. c .match .keys8)
     (λ c κs. tt)
@@ -164,7 +196,7 @@ operate-spec =
     (λ c κs. c .before .before .before .pre)
     (λ c κs. tt)
     (λ c. c .match .keys15)
-    (λ c κs. c .before .before .before .pre .1)
+    (λ c κs. c .before .before .before .pre .stream)
     (λ c. c .match .keys16)
     (λ c κs. tt)
     returns-3

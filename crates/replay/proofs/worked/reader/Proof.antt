@@ -17,9 +17,9 @@ unfolding run got next bitsAt bitAt
 returns c =
     let r = c .before .before .before .before in
     let s = c .before .before in
-    let one : (r .read .result .value ≡ 5) × (r .read .result .reader .at .0 ≡ 3) = gives (rw (r .before .before .new .ensures) at (r .read .ensures .0)) in
-    let two : (s .read2 .result .value ≡ 0) × (s .read2 .result .reader .at .0 ≡ 3) = gives (rw (one .1) at (s .read2 .ensures .0)) in
-    let three : (c .read3 .result .value ≡ 5) × (c .read3 .result .reader .at .0 ≡ 8) = gives (rw (two .1) at (c .read3 .ensures .0)) in
+    let one : (r .read .result .value ≡ 5) × (r .read .result .reader .at .0 ≡ 3) = gives (rw (r .before .before .new .ensures) at (r .read .ensures .runs)) in
+    let two : (s .read2 .result .value ≡ 0) × (s .read2 .result .reader .at .0 ≡ 3) = gives (rw (one .1) at (s .read2 .ensures .runs)) in
+    let three : (c .read3 .result .value ≡ 5) × (c .read3 .result .reader .at .0 ≡ 8) = gives (rw (two .1) at (c .read3 .ensures .runs)) in
     (one .0, two .0, three .0)
 
 pub reader-spec : {M : Type 1} → statement M

@@ -1,21 +1,32 @@
 use mathlib.Core.List.{List}
 use mir.Syntax.{w32}
-use Rattle.laws.proofs.Exprs.{var, cst, _⊹_, _∸_, _×̇_, neg, Input, term, eval, ok, need, value}
-use Rattle.laws.proofs.Tables.{at}
-use Rattle.transform.specs.Butterfly.{butterfly}
+use Rattle.laws.proofs.Exprs.{var, cst, _⊹_, _∸_, _×̇_, neg, Input, need, value}
 use Rattle.transform.specs.Bounds.{inputSize}
-use Rattle.transform.proofs.Eights.{eight-same}
-use Rattle.transform.proofs.Steps.{more, b3, b4, tmp1, tmp2, b6, b7, x4, x0, x1, x2, x3, y3, y4, y5, y6, y7, o0, o1, o2, o3, o4, o5, o6, o7, outs, out, inputs}
+use Rattle.transform.proofs.Steps.{more, b3, b4, tmp1, tmp2, b6, b7, x4, x0, x1, x2, x3, y3, y4, y5, y6, y7}
+use Rattle.transform.proofs.Steps.{o0, o1, o2, o3, o4, o5, o6, o7, inputs, step-is}
 use Rattle.transform.proofs.butterfly.butterfly.Statement.{statement}
 use Rattle.transform.proofs.butterfly.butterfly.Tie as tie
 
+-- where the function began, from behind its eight inputs
+abbrev start : tie.After-struct-told8 → tie.Start
+start c = c .before .before .before .before .before .before .before .before
+
 abbrev ins : tie.After-struct-told8 → List (Input w32)
-ins c = let s = c .before .before .before .before .before .before .before .before in inputs inputSize (s .args .a) (s .pre)
+ins c = inputs inputSize (start c .args .a) (start c .pre)
 
 returns : tie.Need-returns
-unfolding butterfly
 returns c =
-    eight-same (λ k. term (ins c) (out k)) (λ k. eval (ins c) (out k)) (λ k h. value (ins c) (out k) (at (λ j e. ok (ins c) e) outs (var 0) tt k h))
+    rw (step-is inputSize (start c .args .a) (start c .pre))
+    (λ i. record {
+      v0 = value (ins c) o0 tt i;
+      v1 = value (ins c) o1 tt i;
+      v2 = value (ins c) o2 tt i;
+      v3 = value (ins c) o3 tt i;
+      v4 = value (ins c) o4 tt i;
+      v5 = value (ins c) o5 tt i;
+      v6 = value (ins c) o6 tt i;
+      v7 = value (ins c) o7 tt i;
+    })
 
 pub butterfly-spec : {M : Type 1} → statement M
 butterfly-spec =

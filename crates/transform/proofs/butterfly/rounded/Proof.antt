@@ -6,11 +6,36 @@ use Rattle.transform.proofs.Steps.{more, rnd, inputs}
 use Rattle.transform.proofs.butterfly.rounded.Statement.{statement}
 use Rattle.transform.proofs.butterfly.rounded.Tie as tie
 
+-- where the function began, from behind its eight inputs
+abbrev start : tie.After-struct-told8 → tie.Start
+start c = c .before .before .before .before .before .before .before .before
+
 abbrev ins : tie.After-struct-told8 → List (Input w32)
-ins c = let s = c .before .before .before .before .before .before .before .before in inputs outputSize (s .args .o) (s .pre)
+ins c = inputs outputSize (start c .args .o) (start c .pre)
 
 returns : tie.Need-returns
-returns c = λ i. record { v0 = value (ins c) (rnd (var 0)) tt i; v1 = value (ins c) (rnd (var 1)) tt i; v2 = value (ins c) (rnd (var 2)) tt i; v3 = value (ins c) (rnd (var 3)) tt i; v4 = value (ins c) (rnd (var 4)) tt i; v5 = value (ins c) (rnd (var 5)) tt i; v6 = value (ins c) (rnd (var 6)) tt i; v7 = value (ins c) (rnd (var 7)) tt i }
+returns c =
+    λ i. record {
+      v0 = value (ins c) (rnd (var 0)) tt i;
+      v1 = value (ins c) (rnd (var 1)) tt i;
+      v2 = value (ins c) (rnd (var 2)) tt i;
+      v3 = value (ins c) (rnd (var 3)) tt i;
+      v4 = value (ins c) (rnd (var 4)) tt i;
+      v5 = value (ins c) (rnd (var 5)) tt i;
+      v6 = value (ins c) (rnd (var 6)) tt i;
+      v7 = value (ins c) (rnd (var 7)) tt i;
+    }
 
 pub rounded-spec : {M : Type 1} → statement M
-rounded-spec = tie.close (tie.spec (λ c. need (ins c) (more (var 0)) tt) (λ c. need (ins c) (more (var 1)) tt) (λ c. need (ins c) (more (var 2)) tt) (λ c. need (ins c) (more (var 3)) tt) (λ c. need (ins c) (more (var 4)) tt) (λ c. need (ins c) (more (var 5)) tt) (λ c. need (ins c) (more (var 6)) tt) (λ c. need (ins c) (more (var 7)) tt) returns)
+rounded-spec =
+    tie.close
+    (tie.spec
+    (λ c. need (ins c) (more (var 0)) tt)
+    (λ c. need (ins c) (more (var 1)) tt)
+    (λ c. need (ins c) (more (var 2)) tt)
+    (λ c. need (ins c) (more (var 3)) tt)
+    (λ c. need (ins c) (more (var 4)) tt)
+    (λ c. need (ins c) (more (var 5)) tt)
+    (λ c. need (ins c) (more (var 6)) tt)
+    (λ c. need (ins c) (more (var 7)) tt)
+    returns)

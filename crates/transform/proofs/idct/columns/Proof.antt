@@ -23,7 +23,8 @@ butterfly-requires c κs =
     let l = c .before .before .before in
     let s = l .before in
     let h = c .before .before .loop-test .taken in
-    kept by-columns butterfly (s .args .block .now) (l .loop .inv) h (λ e. AtMost 8 inputSize (nth e)) (c .lane .ensures) (column-within (s .args .block .now) (s .pre .1) (l .loop .i) h)
+    kept by-columns butterfly (s .args .block .now) (l .loop .inv) h (λ e. AtMost 8 inputSize (nth e)) (c .lane .ensures)
+    (column-within (s .args .block .now) (s .pre .1) (l .loop .i) h)
 
 loop-again : tie.Need-loop-again Inv-loop μ-loop
 loop-again c =

@@ -9,16 +9,20 @@ use Rattle.transform.proofs.Sizes.{middle, idct-narrow}
 use Rattle.transform.proofs.idct.idct.Statement.{statement}
 use Rattle.transform.proofs.idct.idct.Tie as tie
 
+-- where the function began, from behind the first pass
+abbrev start : tie.After-columns → tie.Start
+start c = c .before .before .before .before
+
 rows-requires : tie.Need-rows-requires
 rows-requires c κs =
-    let s = c .before .before .before .before .before in
+    let s = start (c .before) in
     let e = c .before .columns .ensures in
     (ap length e ∙ columns-length (s .args .block .now), subst Middle (sym e) (middle (s .args .block .now) (s .pre)))
 
 returns : tie.Need-returns
 unfolding idct
 returns c =
-    let s = c .before .before .before .before .before .before in
+    let s = start (c .before .before) in
     let e : c .rows .last .0 ≡ idct (s .args .block .now) = c .rows .ensures ∙ ap rows (c .before .before .columns .ensures) in
     (e, subst Narrow (sym e) (idct-narrow (s .args .block .now) (s .pre)))
 

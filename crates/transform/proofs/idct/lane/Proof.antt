@@ -16,15 +16,17 @@ read l k j h e = read-back (at l k) h ∙ ap (at l) e
 
 returns : tie.Need-returns
 returns c =
-    let a = c .before .before .before .before .before .before .before .before .args in
+    let after-v3 = c .before .before .before .before in
+    let after-v0 = after-v3 .before .before .before in
+    let a = after-v0 .before .args in
     let l = a .block .now in
     let s = a .start in
     let d = a .step in
     λ i. record {
-      v0 = read l s (s + 0 * d) (c .before .before .before .before .before .before .before .v0 .given) (omega arith) i;
-      v1 = read l (s + d) (s + 1 * d) (c .before .before .before .before .before .before .v1 .given) (omega arith) i;
-      v2 = read l (s + 2 * d) (s + 2 * d) (c .before .before .before .before .before .v2 .given) (omega arith) i;
-      v3 = read l (s + 3 * d) (s + 3 * d) (c .before .before .before .before .v3 .given) (omega arith) i;
+      v0 = read l s (s + 0 * d) (after-v0 .v0 .given) (omega arith) i;
+      v1 = read l (s + d) (s + 1 * d) (after-v3 .before .before .v1 .given) (omega arith) i;
+      v2 = read l (s + 2 * d) (s + 2 * d) (after-v3 .before .v2 .given) (omega arith) i;
+      v3 = read l (s + 3 * d) (s + 3 * d) (after-v3 .v3 .given) (omega arith) i;
       v4 = read l (s + 4 * d) (s + 4 * d) (c .before .before .before .v4 .given) (omega arith) i;
       v5 = read l (s + 5 * d) (s + 5 * d) (c .before .before .v5 .given) (omega arith) i;
       v6 = read l (s + 6 * d) (s + 6 * d) (c .before .v6 .given) (omega arith) i;

@@ -16,16 +16,22 @@ use Rattle.transform.proofs.idct.put_lane.Tie as tie
 
 -- the eight stores, one after the other
 abbrev stored : List ℤ → ℕ → ℕ → Eight → List ℤ
-stored l s d e = set (set (set (set (set (set (set (set l s (e .v0)) (s + d) (e .v1)) (s + 2 * d) (e .v2)) (s + 3 * d) (e .v3)) (s + 4 * d) (e .v4)) (s + 5 * d) (e .v5)) (s + 6 * d) (e .v6)) (s + 7 * d) (e .v7)
+stored l s d e =
+    let first = set (set (set (set l s (e .v0)) (s + d) (e .v1)) (s + 2 * d) (e .v2)) (s + 3 * d) (e .v3) in
+    set (set (set (set first (s + 4 * d) (e .v4)) (s + 5 * d) (e .v5)) (s + 6 * d) (e .v6)) (s + 7 * d) (e .v7)
 
 stored-is : (l : List ℤ) (s d : ℕ) (e : Eight) → stored l s d e ≡ storeRows l s d 1 (λ k x. nth e k) 8
 unfolding storeRow storeRows
 stored-is l s d e = simp (add-zero, zero-mul, one-mul)
 
+-- behind the first read of e, which tells that its fields fit
+abbrev first-read : tie.After-struct-told8 → tie.After-struct-told
+first-read c = c .before .before .before .before .before .before .before
+
 returns : tie.Need-returns
 returns c =
-    let a = c .before .before .before .before .before .before .before .before .args in
-    let g = c .before .before .before .before .before .before .before .struct-told .given in
+    let a = first-read c .before .args in
+    let g = first-read c .struct-told .given in
     let p : _≡_ {A = Eight} (eight (λ k. reread w32 (nth (a .e) k))) (a .e)
     = λ i. record {
       v0 = read-back (a .e .v0) (g .0 .1) i;

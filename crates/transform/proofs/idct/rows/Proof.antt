@@ -24,7 +24,8 @@ butterfly-requires c κs =
     let l = c .before .before .before in
     let s = l .before in
     let h = c .before .before .loop-test .taken in
-    kept by-rows row-step (s .args .block .now) (l .loop .inv) h (λ e. AtMost 8 inputSize (nth e)) (c .lane .ensures) (row-within (s .args .block .now) (s .pre .1) (l .loop .i) h)
+    kept by-rows row-step (s .args .block .now) (l .loop .inv) h (λ e. AtMost 8 inputSize (nth e)) (c .lane .ensures)
+    (row-within (s .args .block .now) (s .pre .1) (l .loop .i) h)
 
 rounded-requires : tie.Need-rounded-requires Inv-loop μ-loop
 rounded-requires c κs =

@@ -1,7 +1,7 @@
 -- The loop's invariant: from the reader's place on the program's loop gives what it gives from the start.
 use mathlib.Core.Path.{_≡_, ap, _∙_}
 use mathlib.Core.Bool.{true, false, _||_, or-true}
-use Prim.Native.Nat.{_≤_, _-_}
+use Prim.Native.Nat.{_-_}
 use native.Mathlib.Omega.{arith}
 use lib.IntN.{ℤ, negsuc}
 use mir.Syntax.{w32}
@@ -9,15 +9,16 @@ use mir.Val.{toZ, ofZ}
 use mir.Facts.{toZ-ofZ}
 use borrow.Author.Needs.{needs}
 use Rattle.laws.proofs.Ints.{same-bits}
+use Rattle.bits.specs.Runs.{Inside}
 use Rattle.bits.specs.Programs.{eqZ, findTurn, findStartCode, many}
 use Rattle.bits.proofs.Codes.{eqZ-yes, eqZ-no, code-fits}
-use Rattle.bits.proofs.Rules.{Loops, loop-start, loop-on, loop-end, r-call, r-yes, r-no, r-done, r-start-past}
+use Rattle.bits.proofs.Rules.{Loops, loop-start, loop-on, loop-end, r-call, r-yes, r-no, r-done, r-start-past, reading}
 use Rattle.bits.proofs.reader.Reader.find_start_code.Statement.{statement}
 use Rattle.bits.proofs.reader.Reader.find_start_code.Tie as tie
 
 abbrev Inv-loop : tie.InvT-loop
 Inv-loop s code reader₀ reader =
-    (reader .at .0 ≤ 134217728)
+    Inside s reader
     × Loops many (findTurn (toZ w32 code)) (negsuc 0) tt s (reader₀ .at .0) tt (reader .at .0) (134217728 - reader .at .0)
 
 abbrev μ-loop : tie.MeasureT-loop
@@ -34,7 +35,7 @@ other : (k c : ℤ) → (k ≡ c → ⊥) → (k ≡ negsuc 0 → ⊥) → (eqZ 
 other k c p q = rw (eqZ-no k c p, eqZ-no k (negsuc 0) q)
 
 loop-holds : tie.Need-loop-holds Inv-loop μ-loop
-loop-holds c = (omega arith, loop-start (omega arith))
+loop-holds c = (c .before .pre, loop-start (omega arith))
 
 returns : tie.Need-returns Inv-loop μ-loop
 unfolding findStartCode findTurn
@@ -42,9 +43,10 @@ returns c =
     let x = c .before .before in
     let fits = x .before .before .before .fits .code in
     let k = x .next-start-code .result .code in
-    let e = same-bits w32 (code-fits k (x .next-start-code .ensures .1 .1)) fits (c .if1 .taken) in
+    let e = same-bits w32 (code-fits k (x .next-start-code .ensures .1)) fits (c .if1 .taken) in
     let l = rw (toZ-ofZ fits) at (x .before .loop .inv .1) in (
-      loop-end l (r-call _ (x .next-start-code .ensures .0) (r-yes _ (sought k (x .before .before .before .args .code) e) r-done)),
+      reading (x .before .before .before .pre)
+          (loop-end l (r-call _ (x .next-start-code .ensures .0 .runs) (r-yes _ (sought k (x .before .before .before .args .code) e) r-done))),
       x .next-start-code .ensures .1,
     )
 
@@ -54,16 +56,22 @@ returns-2 c =
     let x = c .before .before .before in
     let fits = x .before .before .before .fits .code in
     let k = x .next-start-code .result .code in
-    let e = same-bits w32 (code-fits k (x .next-start-code .ensures .1 .1)) (code-fits (negsuc 0) (omega arith)) (c .if2 .taken) in
+    let e = same-bits w32 (code-fits k (x .next-start-code .ensures .1)) (code-fits (negsuc 0) (omega arith)) (c .if2 .taken) in
     let l = rw (toZ-ofZ fits) at (x .before .loop .inv .1) in (
-      loop-end l (r-call _ (x .next-start-code .ensures .0) (r-yes _ (none k (x .before .before .before .args .code) e) r-done)),
+      reading (x .before .before .before .pre)
+          (loop-end l (r-call _ (x .next-start-code .ensures .0 .runs) (r-yes _ (none k (x .before .before .before .args .code) e) r-done))),
       x .next-start-code .ensures .1,
     )
 
 loop-less : tie.Need-loop-less Inv-loop μ-loop
 loop-less c =
     let x = c .before .before .before .before in
-    omega (arith, r-start-past (x .next-start-code .ensures .0) (λ e. c .before .if2 .left (ap (ofZ w32) e)))
+    omega (
+      arith,
+      x .next-start-code .ensures .0 .inside .place,
+      r-start-past (x .next-start-code .ensures .0 .runs)
+          (λ e. c .before .if2 .left (ap (ofZ w32) e)),
+    )
 
 loop-again : tie.Need-loop-again Inv-loop μ-loop
 unfolding findTurn
@@ -71,10 +79,11 @@ loop-again c =
     let x = c .before .before .before .before in
     let fits = x .before .before .before .fits .code in
     let stops =
-    other (x .next-start-code .result .code) (toZ w32 (ofZ w32 (x .before .before .before .args .code))) (λ e. c .before .before .if1 .left (ap (ofZ w32) (e ∙ toZ-ofZ fits))) (λ e. c .before .if2 .left (ap (ofZ w32) e))
+    other (x .next-start-code .result .code) (toZ w32 (ofZ w32 (x .before .before .before .args .code)))
+    (λ e. c .before .before .if1 .left (ap (ofZ w32) (e ∙ toZ-ofZ fits))) (λ e. c .before .if2 .left (ap (ofZ w32) e))
     in (
-      x .next-start-code .ensures .1 .0,
-      loop-on (x .before .loop .inv .1) (r-call _ (x .next-start-code .ensures .0) (r-no _ stops r-done)) (loop-less c),
+      x .next-start-code .ensures .0 .inside,
+      loop-on (x .before .loop .inv .1) (r-call _ (x .next-start-code .ensures .0 .runs) (r-no _ stops r-done)) (loop-less c),
     )
 
 pub find-start-code-spec : {M : Type 1} → statement M

@@ -10,8 +10,8 @@ use Rattle.bits.proofs.reader.Reader.has_start_code.Tie as tie
 returns : tie.Need-returns
 returns c =
     let x = c .before in
-    let small = x .find-start-code .ensures .1 .1 in
-    let runs = rw (toZ-ofZ (x .before .before .fits .code)) at (x .find-start-code .ensures .0) in
+    let small = x .find-start-code .ensures .1 in
+    let runs = rw (toZ-ofZ (x .before .before .fits .code)) at (x .find-start-code .ensures .0 .runs) in
     rw (toZ-ofZ (code-fits (x .find-start-code .result .code) small))
     ((sym (ap (λ (o : Out ℤ). o .value) (runs .is)), refl), small)
 

@@ -8,7 +8,7 @@ use mir.ValLaws.{toZ-pos}
 use denote.Ref.{now}
 use borrow.Author.Needs.{needs}
 use Rattle.bits.specs.Bits.{codeFrom}
-use Rattle.bits.proofs.Rules.{is-start}
+use Rattle.bits.proofs.Rules.{is-start, reading}
 use Rattle.bits.proofs.Start.{found-by, found-here, found-end, found-on-by-one}
 use Rattle.bits.proofs.reader.Reader.next_start_code.Statement.{statement}
 use Rattle.bits.proofs.reader.Reader.next_start_code.Tie as tie
@@ -34,7 +34,7 @@ returns c =
     let here = found-here s b (p .before .loop-test .taken) (sym (p .has-prefix .ensures) ∙ c .before .before .if1 .taken) in
     let e = found-by s (x .before .before .before .before .args .self .at .0) _ b (omega arith) (x .loop .inv .1) here in
     rw (toZ-pos w32 (getD s (b + 3) 0) (omega (arith, c .shared-slice-known2 .given (b + 3))))
-    (is-start (rw (c .before .bit-of .ensures) e), (omega arith, omega (arith, c .shared-slice-known2 .given (b + 3))))
+    (reading (x .before .before .before .before .pre) (is-start (rw (c .before .bit-of .ensures) e)), omega (arith, c .shared-slice-known2 .given (b + 3)))
 
 loop-again : tie.Need-loop-again Inv-loop μ-loop
 loop-again c =
@@ -49,7 +49,7 @@ returns-2 c =
     let s = now (x .before .before .before .before .args .s) in
     let end = found-end s (x .loop .b) (c .before .loop-test .left) in
     let e = found-by s (x .before .before .before .before .args .self .at .0) _ (x .loop .b) (omega arith) (x .loop .inv .1) end in
-    (is-start (rw (c .bit-of2 .ensures) e), (omega arith, omega arith))
+    (reading (x .before .before .before .before .pre) (is-start (rw (c .bit-of2 .ensures) e)), omega arith)
 
 pub next-start-code-spec : {M : Type 1} → statement M
 next-start-code-spec =

@@ -5,7 +5,7 @@ use lib.ListN.{length}
 use denote.Ref.{now}
 use Rattle.bits.proofs.Bits.{one-bit}
 use Rattle.bits.proofs.Programs.{served-got, served-next, refused-got, refused-next}
-use Rattle.bits.proofs.Rules.{is-bits}
+use Rattle.bits.proofs.Rules.{is-bits, reading}
 use borrow.Author.Needs.{needs}
 use Rattle.bits.proofs.reader.Reader.read_bit.Statement.{statement}
 use Rattle.bits.proofs.reader.Reader.read_bit.Tie as tie
@@ -16,13 +16,13 @@ returns c =
     let at = a .self .at .0 in
     let s = now (a .s) in
     let inside : at + 1 ≤ length s * 8 = omega arith in
-    (is-bits (one-bit s at ∙ sym (served-got s at 1 inside)) (sym (served-next s at 1 inside)), omega arith)
+    reading (c .before .before .pre) (is-bits (one-bit s at ∙ sym (served-got s at 1 inside)) (sym (served-next s at 1 inside)))
 
 returns-2 : tie.Need-returns-2
 returns-2 c =
     let a = c .before .args in
     let past : length (now (a .s)) * 8 < a .self .at .0 + 1 = omega arith in
-    (is-bits (sym (refused-got (now (a .s)) (a .self .at .0) 1 past)) (sym (refused-next (now (a .s)) (a .self .at .0) 1 past)), omega arith)
+    reading (c .before .pre) (is-bits (sym (refused-got (now (a .s)) (a .self .at .0) 1 past)) (sym (refused-next (now (a .s)) (a .self .at .0) 1 past)))
 
 pub read-bit-spec : {M : Type 1} → statement M
 read-bit-spec =

@@ -24,7 +24,8 @@ returns c =
     let x = c .before .before .before .before in
     let a = x .before .before .before .before .args in
     let at : x .before .tell .result .at .0 ≡ boundary (a .self .at .0) = omega arith in (
-      rw (← at) (omega (arith, x .loop .inv .2, equal-off (now (a .s)) (a .v) (x .loop .b) (c .before .before .before .loop-test .taken) (c .before .if1 .taken))),
+      rw (← at)
+          (omega (arith, x .loop .inv .2, equal-off (now (a .s)) (a .v) (x .loop .b) (c .before .before .before .loop-test .taken) (c .before .if1 .taken))),
       (omega arith, omega arith),
     )
 

@@ -20,4 +20,11 @@ returns c = rw (c .before .before .before .width .ensures)
 pub max-address-spec : {M : Type 1} → statement M
 max-address-spec =
     tie.close
-    (tie.spec (λ c κs. search needs) (λ c. omega (arith, height-most (c .before .before .pre))) (λ c. omega (arith, row-in (c .before .before .before .pre))) add-result mul-result-2 sub-result-2 returns)
+    (tie.spec
+    (λ c κs. search needs)
+    (λ c. omega (arith, height-most (c .before .before .pre)))
+    (λ c. omega (arith, row-in (c .before .before .before .pre)))
+    add-result
+    mul-result-2
+    sub-result-2
+    returns)

@@ -10,8 +10,11 @@ use Rattle.prediction.proofs.Places.{width-most}
 use Rattle.prediction.proofs.place.Place.reach.Statement.{statement}
 use Rattle.prediction.proofs.place.Place.reach.Tie as tie
 
-v-is : (c : tie.After-is-odd2) → c .is-odd2 .result ≡ odd (c .before .before .args .v)
-v-is c = c .is-odd2 .ensures ∙ ap odd (toZ-ofZ (c .before .before .fits .v))
+abbrev entry : tie.After-is-odd2 → tie.Start
+entry c = c .before .before
+
+v-is : (c : tie.After-is-odd2) → c .is-odd2 .result ≡ odd (entry c .args .v)
+v-is c = c .is-odd2 .ensures ∙ ap odd (toZ-ofZ (entry c .fits .v))
 
 h-is : (c : tie.After-is-odd) → c .is-odd .result ≡ odd (c .before .args .h)
 h-is c = c .is-odd .ensures ∙ ap odd (toZ-ofZ (c .before .fits .h))
@@ -39,7 +42,7 @@ reach-spec =
     (λ c κs. omega arith)
     (λ c κs. omega arith)
     (λ c κs. search needs)
-    (λ c. omega (arith, c .width .ensures, width-most (c .before .before .before .before .before .pre)))
+    (λ c. omega (arith, c .width .ensures, width-most (entry (c .before .before .before) .pre)))
     returns
     (λ c κs. search needs)
     returns-2

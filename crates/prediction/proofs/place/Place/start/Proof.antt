@@ -55,7 +55,8 @@ returns : tie.Need-returns
 returns c =
     let a = c .before .before .before .args in
     value (ρ c) whole tt
-    ∙ ap (λ (w : ℕ). (pos (a .self .row * a .self .size) +ℤ shrZ (a .v) 2) *ℤ pos w +ℤ pos (a .self .column * a .self .size) +ℤ shrZ (a .h) 2) (c .before .before .width .ensures)
+    ∙ ap (λ (w : ℕ). (pos (a .self .row * a .self .size) +ℤ shrZ (a .v) 2) *ℤ pos w +ℤ pos (a .self .column * a .self .size) +ℤ shrZ (a .h) 2)
+    (c .before .before .width .ensures)
 
 pub start-spec : {M : Type 1} → statement M
 start-spec =

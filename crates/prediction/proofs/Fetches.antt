@@ -1,4 +1,4 @@
--- The four cases of `way`, and what is known of a block that is copied.
+-- The four cases of `fetch`, and what is known of a block that is copied.
 use mathlib.Core.Path.{_≡_, refl}
 use mathlib.Core.Bool.{Bool, true, false, cond, _||_}
 use Prim.Native.Nat.{ℕ, _+_, _≤_, _<_}
@@ -8,9 +8,9 @@ use lib.Dec.{ltb}
 use lib.IntN.{ℤ, pos, natAbs}
 use lib.Signed.{ltZ}
 use Rattle.laws.proofs.Ints.{v, lit, natAbs-is, one-side, lt-no, yes-lt, no-lt}
+use Rattle.prediction.specs.declared.place.Fetch.the-variants.{Alone, Past, Copied}
 use Rattle.prediction.specs.declared.place.Place.{Place}
-use Rattle.prediction.specs.declared.place.Way.the-variants.{Alone, Past, Copied}
-use Rattle.prediction.specs.Predict.{start, maxAddress, reach, way}
+use Rattle.prediction.specs.Predict.{start, maxAddress, reach, fetch}
 
 -- a number that is not negative, against a natural number
 above : (z : ℤ) (m : ℕ) → ltZ z (pos 0) ≡ false → m < natAbs z → ltZ (pos m) z ≡ true
@@ -20,27 +20,27 @@ not-above : (z : ℤ) (m : ℕ) → natAbs z ≤ m → ltZ (pos m) z ≡ false
 not-above z m h = no-lt (lit m) (v z) (omega (arith, natAbs-is z))
 
 module _ (p : Place) (h v : ℤ) where
-  pub below : ltZ (start p h v) (pos 0) ≡ true → Alone ≡ way p h v
-  unfolding way
+  pub below : ltZ (start p h v) (pos 0) ≡ true → Alone ≡ fetch p h v
+  unfolding fetch
   below e = rw e
 
   module _ (e : ltZ (start p h v) (pos 0) ≡ false) where
-    pub beyond : maxAddress p < natAbs (start p h v) → Alone ≡ way p h v
-    unfolding way
+    pub beyond : maxAddress p < natAbs (start p h v) → Alone ≡ fetch p h v
+    unfolding fetch
     beyond g = rw (e, above (start p h v) (maxAddress p) e g)
 
     module _ (g : natAbs (start p h v) ≤ maxAddress p) where
-      pub past : maxAddress p < natAbs (start p h v) + reach p h v → Past ≡ way p h v
-      unfolding way
+      pub past : maxAddress p < natAbs (start p h v) + reach p h v → Past ≡ fetch p h v
+      unfolding fetch
       past q = rw (e, not-above (start p h v) (maxAddress p) g, lt-ltb (maxAddress p) (natAbs (start p h v) + reach p h v) q)
 
-      pub inside : natAbs (start p h v) + reach p h v ≤ maxAddress p → Copied (natAbs (start p h v)) ≡ way p h v
-      unfolding way
+      pub inside : natAbs (start p h v) + reach p h v ≤ maxAddress p → Copied (natAbs (start p h v)) ≡ fetch p h v
+      unfolding fetch
       inside q = rw (e, not-above (start p h v) (maxAddress p) g, le-ltb (maxAddress p) (natAbs (start p h v) + reach p h v) q)
 
   -- a block that is copied reaches no further than the last
-  pub copied-in : (a : ℕ) → Copied a ≡ way p h v → a + reach p h v ≤ maxAddress p
-  unfolding way
+  pub copied-in : (a : ℕ) → Copied a ≡ fetch p h v → a + reach p h v ≤ maxAddress p
+  unfolding fetch
   copied-in a = go (ltZ (start p h v) (pos 0) || ltZ (pos (maxAddress p)) (start p h v)) (ltb (maxAddress p) (natAbs (start p h v) + reach p h v)) refl
     where
       go : (s t : Bool) → ltb (maxAddress p) (natAbs (start p h v) + reach p h v) ≡ t → Copied a ≡ cond s Alone (cond t Past (Copied (natAbs (start p h v))))

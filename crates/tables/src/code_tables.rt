@@ -1,6 +1,6 @@
 // RULES 2.1: the nine code tables of the Rust, each as two flat arrays: index and value of each entry.
 
-pub const MACROBLOCK_ADDRESS_INCREMENT_INDEX: [i16; 80] = [
+pub const MACROBLOCK_ADDRESS_INCREMENT_INDEX: [i32; 80] = [
     2,
     0,
     4,
@@ -83,7 +83,7 @@ pub const MACROBLOCK_ADDRESS_INCREMENT_INDEX: [i16; 80] = [
     0,
 ];
 
-pub const MACROBLOCK_ADDRESS_INCREMENT_VALUE: [i16; 80] = [
+pub const MACROBLOCK_ADDRESS_INCREMENT_VALUE: [i32; 80] = [
     0,
     1,
     0,
@@ -166,11 +166,11 @@ pub const MACROBLOCK_ADDRESS_INCREMENT_VALUE: [i16; 80] = [
     22,
 ];
 
-pub const MACROBLOCK_TYPE_INTRA_INDEX: [i16; 4] = [2, 0, -1, 0];
+pub const MACROBLOCK_TYPE_INTRA_INDEX: [i32; 4] = [2, 0, -1, 0];
 
-pub const MACROBLOCK_TYPE_INTRA_VALUE: [i16; 4] = [0x00, 0x01, 0x00, 0x11];
+pub const MACROBLOCK_TYPE_INTRA_VALUE: [i32; 4] = [0x00, 0x01, 0x00, 0x11];
 
-pub const MACROBLOCK_TYPE_PREDICTIVE_INDEX: [i16; 14] = [
+pub const MACROBLOCK_TYPE_PREDICTIVE_INDEX: [i32; 14] = [
     2,
     0,
     4,
@@ -187,7 +187,7 @@ pub const MACROBLOCK_TYPE_PREDICTIVE_INDEX: [i16; 14] = [
     0,
 ];
 
-pub const MACROBLOCK_TYPE_PREDICTIVE_VALUE: [i16; 14] = [
+pub const MACROBLOCK_TYPE_PREDICTIVE_VALUE: [i32; 14] = [
     0x00,
     0x0a,
     0x00,
@@ -204,7 +204,7 @@ pub const MACROBLOCK_TYPE_PREDICTIVE_VALUE: [i16; 14] = [
     0x11,
 ];
 
-pub const MACROBLOCK_TYPE_B_INDEX: [i16; 22] = [
+pub const MACROBLOCK_TYPE_B_INDEX: [i32; 22] = [
     2,
     4,
     6,
@@ -229,7 +229,7 @@ pub const MACROBLOCK_TYPE_B_INDEX: [i16; 22] = [
     0,
 ];
 
-pub const MACROBLOCK_TYPE_B_VALUE: [i16; 22] = [
+pub const MACROBLOCK_TYPE_B_VALUE: [i32; 22] = [
     0x00,
     0x00,
     0x00,
@@ -254,7 +254,7 @@ pub const MACROBLOCK_TYPE_B_VALUE: [i16; 22] = [
     0x1a,
 ];
 
-pub const CODE_BLOCK_PATTERN_INDEX: [i16; 126] = [
+pub const CODE_BLOCK_PATTERN_INDEX: [i32; 126] = [
     2,
     4,
     6,
@@ -383,7 +383,7 @@ pub const CODE_BLOCK_PATTERN_INDEX: [i16; 126] = [
     0,
 ];
 
-pub const CODE_BLOCK_PATTERN_VALUE: [i16; 126] = [
+pub const CODE_BLOCK_PATTERN_VALUE: [i32; 126] = [
     0,
     0,
     0,
@@ -512,7 +512,7 @@ pub const CODE_BLOCK_PATTERN_VALUE: [i16; 126] = [
     31,
 ];
 
-pub const MOTION_INDEX: [i16; 68] = [
+pub const MOTION_INDEX: [i32; 68] = [
     2,
     0,
     4,
@@ -583,7 +583,7 @@ pub const MOTION_INDEX: [i16; 68] = [
     0,
 ];
 
-pub const MOTION_VALUE: [i16; 68] = [
+pub const MOTION_VALUE: [i32; 68] = [
     0,
     0,
     0,
@@ -654,7 +654,7 @@ pub const MOTION_VALUE: [i16; 68] = [
     -11,
 ];
 
-pub const DCT_SIZE_LUMINANCE_INDEX: [i16; 18] = [
+pub const DCT_SIZE_LUMINANCE_INDEX: [i32; 18] = [
     2,
     4,
     0,
@@ -675,7 +675,7 @@ pub const DCT_SIZE_LUMINANCE_INDEX: [i16; 18] = [
     -1,
 ];
 
-pub const DCT_SIZE_LUMINANCE_VALUE: [i16; 18] = [
+pub const DCT_SIZE_LUMINANCE_VALUE: [i32; 18] = [
     0,
     0,
     1,
@@ -696,7 +696,7 @@ pub const DCT_SIZE_LUMINANCE_VALUE: [i16; 18] = [
     0,
 ];
 
-pub const DCT_SIZE_CHROMINANCE_INDEX: [i16; 18] = [
+pub const DCT_SIZE_CHROMINANCE_INDEX: [i32; 18] = [
     2,
     4,
     0,
@@ -717,7 +717,7 @@ pub const DCT_SIZE_CHROMINANCE_INDEX: [i16; 18] = [
     -1,
 ];
 
-pub const DCT_SIZE_CHROMINANCE_VALUE: [i16; 18] = [
+pub const DCT_SIZE_CHROMINANCE_VALUE: [i32; 18] = [
     0,
     0,
     0,
@@ -738,7 +738,7 @@ pub const DCT_SIZE_CHROMINANCE_VALUE: [i16; 18] = [
     0,
 ];
 
-pub const DCT_COEFF_INDEX: [i16; 224] = [
+pub const DCT_COEFF_INDEX: [i32; 224] = [
     2,
     0,
     4,
@@ -965,7 +965,7 @@ pub const DCT_COEFF_INDEX: [i16; 224] = [
     0,
 ];
 
-pub const DCT_COEFF_VALUE: [u16; 224] = [
+pub const DCT_COEFF_VALUE: [i32; 224] = [
     0x0000,
     0x0001,
     0x0000,

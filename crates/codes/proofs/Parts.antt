@@ -1,0 +1,149 @@
+-- The parts of the tables that are lent. Assumes nothing.
+use mathlib.Core.Path.{_≡_, refl, ap, sym, _∙_}
+use mathlib.Core.Bool.{Bool, cond}
+use mathlib.Core.List.{List, [], _∷_, map}
+use Prim.Native.Nat.{ℕ, zero, suc, _+_, _-_, _≤_, _<_}
+use native.Mathlib.Omega.{arith}
+use lib.Dec.{T, leb, leb→le}
+use lib.IntN.{ℤ, pos, negsuc, natAbs}
+use lib.ListN.{length, getD, take, drop}
+use lib.Seq.{take-take, getD-take, getD-drop}
+use lib.Signed.{nonNeg}
+use Rattle.bits.specs.Runs.{Reading}
+use Rattle.bits.specs.declared.reader.Reader.{Reader}
+use mir.Facts.{and-yes}
+use mir.Syntax.{w32}
+use Rattle.laws.proofs.Ints.{reread}
+use Rattle.laws.proofs.Nums.{Num, num, rd}
+use Rattle.codes.specs.Lent.{Lent, fixedTables, matrixOf}
+use Rattle.codes.specs.Matrices.{zigZag, downFrom, diagonals, premultiplierMatrix}
+use Rattle.codes.specs.Tables.{macroblockAddressIncrementIndex, macroblockAddressIncrementValue, macroblockTypeIntraIndex, macroblockTypeIntraValue}
+use Rattle.codes.specs.Tables.{macroblockTypePredictiveIndex, macroblockTypePredictiveValue, macroblockTypeBIndex, macroblockTypeBValue}
+use Rattle.codes.specs.Tables.{codeBlockPatternIndex, codeBlockPatternValue, motionIndex, motionValue}
+use Rattle.codes.specs.Tables.{dctSizeLuminanceIndex, dctSizeLuminanceValue, dctSizeChrominanceIndex, dctSizeChrominanceValue, dctCoeffIndex}
+use Rattle.codes.specs.Tables.{dctCoeffValue}
+use Rattle.codes.proofs.Bounds.{premultiplier-small, zig-zag-inside}
+use Rattle.codes.specs.Rule.{Good}
+use Rattle.codes.specs.Walk.{Naturals, vlc}
+
+-- ---- lists
+
+-- a part that ends before the place m
+part-front : {A : Type 0} (a n m : ℕ) (l : List A) → a + n ≤ m → take n (drop a (take m l)) ≡ take n (drop a l)
+part-front zero n m l h = take-take n m l (omega arith)
+part-front (suc a) n zero l h = let no : ⊥ = omega arith in absurd no
+part-front (suc a) n (suc m) [] h = refl
+part-front (suc a) n (suc m) (x ∷ l) h = part-front a n m l (omega arith)
+
+pub part-at : {A : Type 0} (a n i : ℕ) (l : List A) (d : A) → i < n → getD (take n (drop a l)) i d ≡ getD l (a + i) d
+part-at a n i l d h = getD-take n (drop a l) i d h ∙ getD-drop a l i d
+
+pub map-at : {A B : Type 0} (f : A → B) (l : List A) (d : A) (i : ℕ) → getD (map f l) i (f d) ≡ f (getD l i d)
+map-at f [] d i = refl
+map-at f (x ∷ l) d zero = refl
+map-at f (x ∷ l) d (suc i) = map-at f l d i
+
+pub length-map : {A B : Type 0} (f : A → B) (l : List A) → length (map f l) ≡ length l
+length-map f [] = refl
+length-map f (x ∷ l) = ap suc (length-map f l)
+
+-- ---- natural numbers
+
+pub natural : (z : ℤ) → T (nonNeg z) → z ≡ pos (natAbs z)
+natural (pos n) t = refl
+natural (negsuc n) t = absurd t
+
+naturals-of : (vs : List ℕ) (k : ℕ) → T (nonNeg (getD (map pos vs) k (pos 0)))
+naturals-of [] k = tt
+naturals-of (x ∷ vs) zero = tt
+naturals-of (x ∷ vs) (suc k) = naturals-of vs k
+
+pub back : (vs : List ℕ) → map natAbs (map pos vs) ≡ vs
+back [] = refl
+back (x ∷ vs) = ap (λ (l : List ℕ). x ∷ l) (back vs)
+
+-- ---- parts of the tables
+
+-- where each table stands
+pub record Places : Type 0 where
+  pub increment : (take 80 (drop 0 fixedTables) ≡ macroblockAddressIncrementIndex)
+      × (take 80 (drop 80 fixedTables) ≡ map pos macroblockAddressIncrementValue)
+  pub type-intra : (take 4 (drop 160 fixedTables) ≡ macroblockTypeIntraIndex) × (take 4 (drop 164 fixedTables) ≡ map pos macroblockTypeIntraValue)
+  pub type-predictive : (take 14 (drop 168 fixedTables) ≡ macroblockTypePredictiveIndex)
+      × (take 14 (drop 182 fixedTables) ≡ map pos macroblockTypePredictiveValue)
+  pub type-b : (take 22 (drop 196 fixedTables) ≡ macroblockTypeBIndex) × (take 22 (drop 218 fixedTables) ≡ map pos macroblockTypeBValue)
+  pub pattern : (take 126 (drop 240 fixedTables) ≡ codeBlockPatternIndex) × (take 126 (drop 366 fixedTables) ≡ map pos codeBlockPatternValue)
+  pub vector : (take 68 (drop 492 fixedTables) ≡ motionIndex) × (take 68 (drop 560 fixedTables) ≡ motionValue)
+  pub luminance : (take 18 (drop 628 fixedTables) ≡ dctSizeLuminanceIndex) × (take 18 (drop 646 fixedTables) ≡ map pos dctSizeLuminanceValue)
+  pub chrominance : (take 18 (drop 664 fixedTables) ≡ dctSizeChrominanceIndex) × (take 18 (drop 682 fixedTables) ≡ map pos dctSizeChrominanceValue)
+  pub coefficient : (take 224 (drop 700 fixedTables) ≡ dctCoeffIndex) × (take 224 (drop 924 fixedTables) ≡ map pos dctCoeffValue)
+  pub order : take 64 (drop 1148 fixedTables) ≡ map pos zigZag
+  pub premultipliers : take 64 (drop 1212 fixedTables) ≡ premultiplierMatrix
+
+pub places : Places
+unfolding fixedTables macroblockAddressIncrementIndex macroblockAddressIncrementValue macroblockTypeIntraIndex macroblockTypeIntraValue
+    macroblockTypePredictiveIndex macroblockTypePredictiveValue macroblockTypeBIndex macroblockTypeBValue codeBlockPatternIndex codeBlockPatternValue
+    motionIndex motionValue dctSizeLuminanceIndex dctSizeLuminanceValue dctSizeChrominanceIndex dctSizeChrominanceValue dctCoeffIndex dctCoeffValue
+    zigZag downFrom diagonals premultiplierMatrix
+places =
+    record {
+      increment = (refl, refl);
+      type-intra = (refl, refl);
+      type-predictive = (refl, refl);
+      type-b = (refl, refl);
+      pattern = (refl, refl);
+      vector = (refl, refl);
+      luminance = (refl, refl);
+      chrominance = (refl, refl);
+      coefficient = (refl, refl);
+      order = refl;
+      premultipliers = refl;
+    }
+
+module _ {t : List ℤ} (l : Lent t) where
+  -- a part of the fixed tables, xs
+  pub lent-part : (a n : ℕ) {xs : List ℤ} → a + n ≤ 1276 → take n (drop a fixedTables) ≡ xs → take n (drop a t) ≡ xs
+  lent-part a n h e = sym (part-front a n 1276 t h) ∙ ap (λ (x : List ℤ). take n (drop a x)) (l .fixed) ∙ e
+
+  pub lent-at : (a n i : ℕ) {xs : List ℤ} → a + n ≤ 1276 → i < n → take n (drop a fixedTables) ≡ xs
+      → getD t (a + i) (pos 0) ≡ getD xs i (pos 0)
+  lent-at a n i h k e = sym (part-at a n i t (pos 0) k) ∙ ap (λ (x : List ℤ). getD x i (pos 0)) (lent-part a n h e)
+
+  -- a code table of n entries at the place a: indices and natural values
+  module _ (a n : ℕ) {index : List ℤ} (value : List ℕ) (h : T (leb (a + n + n) 1276))
+      (p : (take n (drop a fixedTables) ≡ index) × (take n (drop (a + n) fixedTables) ≡ map pos value)) where
+    -- its walk, by the parts and by the definition
+    pub natural-code : {s : List ℕ} {from to : Reader} {v : ℕ}
+        → Reading (vlc (take n (drop a t)) (map natAbs (take n (drop (a + n) t))) 0) s from v to → Reading (vlc index value 0) s from v to
+    natural-code r =
+        let most = leb→le (a + n + n) 1276 h in
+        rw (lent-part a n (omega arith) (p .0), lent-part (a + n) n (omega arith) (p .1), back value) at r
+
+    pub natural-table : Good index → length index ≡ length value
+        → Good (take n (drop a t)) × ((length (take n (drop (a + n) t)) ≡ length (take n (drop a t))) × Naturals (take n (drop (a + n) t)))
+    natural-table g e =
+        let most = leb→le (a + n + n) 1276 h in
+        rw (lent-part a n (omega arith) (p .0), lent-part (a + n) n (omega arith) (p .1))
+        (g, (length-map pos value ∙ sym e, record { each = naturals-of value }))
+
+-- an entry behind the fixed tables is a byte
+pub lent-byte : {t : List ℤ} → Lent t → (a i : ℕ) → 1276 ≤ a
+    → Num (reread w32 (getD t (a + i) (pos 0))) (pos (natAbs (getD t (a + i) (pos 0)))) 255
+lent-byte {t} l a i h =
+    let z = getD t (a + i) (pos 0) in
+    let b = and-yes (nonNeg z) (leb (natAbs z) 255) (l .bytes (a + i) (omega arith)) in
+    let n = rd w32 (num {s = z} (leb→le (natAbs z) 255 (b .1))) tt in
+    record { is = n .is ∙ natural z (b .0); bound = n .bound }
+
+-- and one of the matrices
+pub matrix-at : (t : List ℤ) (intra : Bool) (i : ℕ) → i < 64 → getD (matrixOf t intra) i 0 ≡ natAbs (getD t (cond intra 1276 1340 + i) (pos 0))
+unfolding matrixOf
+matrix-at t intra i h = let a : ℕ = cond intra 1276 1340 in map-at natAbs (take 64 (drop a t)) (pos 0) i ∙ ap natAbs (part-at a 64 i t (pos 0) h)
+
+-- the zig-zag order and the premultipliers
+pub place-at : {t : List ℤ} → Lent t → (n : ℕ) → n < 64 → Num (reread w32 (getD t (1148 + n) (pos 0))) (pos (getD zigZag n 0)) 63
+place-at l n h =
+    rw (lent-at l 1148 64 n (omega arith) h (places .order) ∙ map-at pos zigZag 0 n) (rd w32 (num (omega (arith, zig-zag-inside n))) tt)
+
+pub premultiplier-at : {t : List ℤ} → Lent t → (n : ℕ) → n < 64 → reread w32 (getD t (1212 + n) (pos 0)) ≡ getD premultiplierMatrix n (pos 0)
+premultiplier-at l n h = rw (lent-at l 1212 64 n (omega arith) h (places .premultipliers)) (rd w32 (num (premultiplier-small n)) tt .is)

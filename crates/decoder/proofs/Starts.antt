@@ -1,0 +1,21 @@
+-- RULES O.1: what holds of the record that opening begins with. The theorems on opening ask no more of it, and the fresh record has it.
+use mathlib.Core.Path.{_≡_, refl}
+use mathlib.Core.Bool.{true}
+use lib.IntN.{negsuc}
+use Rattle.laws.specs.Each.{allBelow}
+use Rattle.codes.specs.Matrices.{premultiplierMatrix, bounded}
+use Rattle.picture.specs.Possible.{possiblePicture}
+use Rattle.decoder.specs.declared.record.Decoder.{Decoder}
+use Rattle.decoder.specs.Record.{fresh, place, startCode}
+
+-- nothing is read, nothing is handed out, and what a picture changes is possible
+pub record Starts (d : Decoder) : Type 0 where
+  pub unread : place d ≡ 0
+  pub code : startCode d ≡ negsuc 0
+  pub picture : possiblePicture (d .picture) ≡ true
+  pub none : d .«frames_decoded» ≡ 0
+  pub mark : d .stop ≡ 0
+
+pub fresh-starts : Starts fresh
+unfolding fresh allBelow premultiplierMatrix bounded
+fresh-starts = record { unread = refl; code = refl; picture = refl; none = refl; mark = refl }

@@ -1,0 +1,142 @@
+-- The tables that are made of the constant arrays, and that they are what is lent. Assumes nothing.
+use mathlib.Core.Path.{_≡_, refl, ap, sym, _∙_}
+use mathlib.Core.Bool.{Bool, true, false, cond}
+use mathlib.Core.List.{List, [], _∷_, map, _++_, append-assoc}
+use Prim.Native.Nat.{ℕ, zero, suc, _+_, _-_, _≤_, _<_}
+use native.Mathlib.Numerals.{add-one}
+use native.Mathlib.Omega.{arith}
+use lib.Dec.{T, ltb, ltb→lt, leb, leb→le, le→leb}
+use lib.IntN.{ℤ, pos, natAbs}
+use lib.ListN.{length, getD, set, take, drop, length-set, length-append}
+use lib.Seq.{take-at, drop-at, getD-append-add, take-all, take-paste, length-paste, paste-zero, paste-suc, paste}
+use Rattle.laws.proofs.Tables.{anywhere}
+use Rattle.codes.specs.Lent.{Lent, fixedTables, tablesWith, matrixOf, isByte}
+use Rattle.codes.specs.Matrices.{zigZag, downFrom, diagonals, intraQuantMatrix, nonIntraQuantMatrix, premultiplierMatrix}
+use Rattle.codes.specs.Tables.{macroblockAddressIncrementIndex, macroblockAddressIncrementValue, macroblockTypeIntraIndex, macroblockTypeIntraValue}
+use Rattle.codes.specs.Tables.{macroblockTypePredictiveIndex, macroblockTypePredictiveValue, macroblockTypeBIndex, macroblockTypeBValue}
+use Rattle.codes.specs.Tables.{codeBlockPatternIndex, codeBlockPatternValue, motionIndex, motionValue}
+use Rattle.codes.specs.Tables.{dctSizeLuminanceIndex, dctSizeLuminanceValue, dctSizeChrominanceIndex, dctSizeChrominanceValue, dctCoeffIndex}
+use Rattle.codes.specs.Tables.{dctCoeffValue}
+use Rattle.codes.proofs.Parts.{length-map, back}
+
+-- ---- the tables as they are made
+
+-- a loop that copies the table to the place `at` has copied k entries
+pub record Copied (before table : List ℤ) (at : ℕ) (now : List ℤ) (k : ℕ) : Type 0 where
+  pub most : k ≤ length table
+  pub long : length now ≡ length before
+  pub is : now ≡ paste before at table k
+
+module _ (before table : List ℤ) (at : ℕ) where
+  pub copied-none : Copied before table at before 0
+  copied-none = record { most = omega arith; long = refl; is = paste-zero before at table }
+
+  pub copied-one : (now : List ℤ) (k : ℕ) → at + length table ≤ length before → k < length table → Copied before table at now k
+      → Copied before table at (set now (at + k) (getD table k (pos 0))) (k + 1)
+  copied-one now k h l c =
+      record {
+        most = omega arith;
+        long = length-set now (at + k) (getD table k (pos 0)) ∙ c .long;
+        is = ap (λ (xs : List ℤ). set xs (at + k) (getD table k (pos 0))) (c .is) ∙ paste-suc before at table k (pos 0) (omega arith) l
+            ∙ ap (paste before at table) (sym (add-one k));
+      }
+
+  pub copied-all : (now : List ℤ) (k : ℕ) → length table ≤ k → Copied before table at now k → now ≡ paste before at table (length table)
+  copied-all now k h c = let all : k ≡ length table = omega (arith, c .most) in c .is ∙ ap (paste before at table) all
+
+-- the first n of the numbers t are those of `front`
+pub record Front (t : List ℤ) (n : ℕ) (front : List ℤ) : Type 0 where
+  pub long : length t ≡ 1404
+  pub is : take n t ≡ front
+
+pub front-none : {t : List ℤ} → length t ≡ 1404 → Front t 0 []
+front-none h = record { long = h; is = refl }
+
+-- one table more, of m entries, which are n
+pub front-on : {t front after : List ℤ} (table : List ℤ) (at n : ℕ) {m : ℕ} → Front t at front → length table ≡ n → T (leb (at + n) 1404)
+    → m ≡ n
+    → after ≡ paste t at table m → Front after (at + n) (front ++ table)
+front-on {t} {front} {after} table at n f k h q r =
+    let most = leb→le (at + n) 1404 h in
+    let e = r ∙ ap (paste t at table) q in
+    let l = f .long in
+    record {
+      long = ap length e ∙ length-paste t at table n (omega arith) (omega arith) ∙ l;
+      is =
+          ap (take (at + n)) e
+          ∙ take-paste t at table n (omega arith) (omega arith)
+          ∙ ap (λ (x : List ℤ). x ++ take n table) (f .is)
+          ∙ ap (λ (x : List ℤ). front ++ x) (take-all n table (omega arith));
+    }
+
+pub front-all : {t front : List ℤ} → Front t 1404 front → t ≡ front
+front-all {t} f = sym (take-all 1404 t (omega (arith, f .long))) ∙ f .is
+
+-- ---- what has been made is what is lent
+
+-- matrices of 64 bytes each
+pub record Bytes64 (m : List ℕ) : Type 0 where
+  pub long : length m ≡ 64
+  pub bytes : (k : ℕ) → getD m k 0 < 256
+
+fixed-length : length fixedTables ≡ 1276
+unfolding fixedTables macroblockAddressIncrementIndex macroblockAddressIncrementValue macroblockTypeIntraIndex macroblockTypeIntraValue
+    macroblockTypePredictiveIndex macroblockTypePredictiveValue macroblockTypeBIndex macroblockTypeBValue codeBlockPatternIndex codeBlockPatternValue
+    motionIndex motionValue dctSizeLuminanceIndex dctSizeLuminanceValue dctSizeChrominanceIndex dctSizeChrominanceValue dctCoeffIndex dctCoeffValue
+    zigZag downFrom diagonals premultiplierMatrix
+fixed-length = refl
+
+-- bytes, as they stand in the tables
+bytes-in : (l m : List ℕ) → ((k : ℕ) → getD l k 0 < 256) → ((k : ℕ) → getD m k 0 < 256) → (j : ℕ)
+    → T (isByte (getD (map pos l ++ map pos m) j (pos 0)))
+bytes-in [] [] f g j = tt
+bytes-in [] (y ∷ m) f g zero = le→leb y 255 (omega (arith, g 0))
+bytes-in [] (y ∷ m) f g (suc j) = bytes-in [] m f (λ k. g (suc k)) j
+bytes-in (x ∷ l) m f g zero = le→leb x 255 (omega (arith, f 0))
+bytes-in (x ∷ l) m f g (suc j) = bytes-in l m (λ k. f (suc k)) g j
+
+module _ (intra other : List ℕ) (i : Bytes64 intra) (o : Bytes64 other) where
+  abbrev matrices : List ℤ
+  matrices = map pos intra ++ map pos other
+
+  split : tablesWith intra other ≡ fixedTables ++ matrices
+  split = append-assoc fixedTables (map pos intra) (map pos other)
+
+  behind : (k : ℕ) → 1276 ≤ k → getD (fixedTables ++ matrices) k (pos 0) ≡ getD matrices (k - 1276) (pos 0)
+  behind k h =
+      let e : k ≡ length fixedTables + (k - 1276) = omega (arith, fixed-length) in
+      ap (λ (n : ℕ). getD (fixedTables ++ matrices) n (pos 0)) e ∙ getD-append-add fixedTables matrices (k - 1276) (pos 0)
+
+  pub lent-with : Lent (tablesWith intra other)
+  lent-with =
+      rw split
+      (record {
+        fixed = take-at fixedTables matrices 1276 fixed-length;
+        bytes = λ k h. rw (behind k h) (bytes-in intra other (i .bytes) (o .bytes) (k - 1276));
+      })
+
+  pub matrix-with : (b : Bool) → matrixOf (tablesWith intra other) b ≡ cond b intra other
+  unfolding matrixOf
+  matrix-with true =
+      ap (λ (l : List ℤ). map natAbs (take 64 (drop 1276 l))) split
+      ∙ ap (λ (l : List ℤ). map natAbs (take 64 l)) (drop-at fixedTables matrices 1276 fixed-length)
+      ∙ ap (map natAbs) (take-at (map pos intra) (map pos other) 64 (length-map pos intra ∙ i .long))
+      ∙ back intra
+  matrix-with false =
+      let front : length (fixedTables ++ map pos intra) ≡ 1340 =
+      omega (arith, length-append fixedTables (map pos intra), fixed-length, length-map pos intra, i .long) in
+      ap (λ (l : List ℤ). map natAbs (take 64 l)) (drop-at (fixedTables ++ map pos intra) (map pos other) 1340 front)
+      ∙ ap (map natAbs) (take-all 64 (map pos other) (omega (arith, length-map pos other, o .long)))
+      ∙ back other
+
+-- RULES 2.7: the default matrices, and the tables with them
+pub intra-bytes : Bytes64 intraQuantMatrix
+unfolding intraQuantMatrix
+intra-bytes = record { long = refl; bytes = λ k. ltb→lt _ 256 (anywhere (λ x. ltb x 256) intraQuantMatrix 0 tt tt k) }
+
+pub non-intra-bytes : Bytes64 nonIntraQuantMatrix
+unfolding nonIntraQuantMatrix
+non-intra-bytes = record { long = refl; bytes = λ k. ltb→lt _ 256 (anywhere (λ x. ltb x 256) nonIntraQuantMatrix 0 tt tt k) }
+
+pub lent-default : Lent (tablesWith intraQuantMatrix nonIntraQuantMatrix)
+lent-default = lent-with intraQuantMatrix nonIntraQuantMatrix intra-bytes non-intra-bytes

@@ -1,0 +1,113 @@
+// The array of tables, made of the constant arrays once a picture: a constant array is built anew at each use.
+use crate::code_tables::CODE_BLOCK_PATTERN_INDEX;
+use crate::code_tables::CODE_BLOCK_PATTERN_VALUE;
+use crate::code_tables::DCT_COEFF_INDEX;
+use crate::code_tables::DCT_COEFF_VALUE;
+use crate::code_tables::DCT_SIZE_CHROMINANCE_INDEX;
+use crate::code_tables::DCT_SIZE_CHROMINANCE_VALUE;
+use crate::code_tables::DCT_SIZE_LUMINANCE_INDEX;
+use crate::code_tables::DCT_SIZE_LUMINANCE_VALUE;
+use crate::code_tables::MACROBLOCK_ADDRESS_INCREMENT_INDEX;
+use crate::code_tables::MACROBLOCK_ADDRESS_INCREMENT_VALUE;
+use crate::code_tables::MACROBLOCK_TYPE_B_INDEX;
+use crate::code_tables::MACROBLOCK_TYPE_B_VALUE;
+use crate::code_tables::MACROBLOCK_TYPE_INTRA_INDEX;
+use crate::code_tables::MACROBLOCK_TYPE_INTRA_VALUE;
+use crate::code_tables::MACROBLOCK_TYPE_PREDICTIVE_INDEX;
+use crate::code_tables::MACROBLOCK_TYPE_PREDICTIVE_VALUE;
+use crate::code_tables::MOTION_INDEX;
+use crate::code_tables::MOTION_VALUE;
+use codes::lent::CHROMINANCE_INDEX;
+use codes::lent::CHROMINANCE_VALUE;
+use codes::lent::COEFFICIENT_INDEX;
+use codes::lent::COEFFICIENT_VALUE;
+use codes::lent::INCREMENT_INDEX;
+use codes::lent::INCREMENT_VALUE;
+use codes::lent::INTRA_MATRIX;
+use codes::lent::LUMINANCE_INDEX;
+use codes::lent::LUMINANCE_VALUE;
+use codes::lent::ORDER;
+use codes::lent::OTHER_MATRIX;
+use codes::lent::PATTERN_INDEX;
+use codes::lent::PATTERN_VALUE;
+use codes::lent::PREMULTIPLIERS;
+use codes::lent::TYPE_B_INDEX;
+use codes::lent::TYPE_B_VALUE;
+use codes::lent::TYPE_I_INDEX;
+use codes::lent::TYPE_I_VALUE;
+use codes::lent::TYPE_P_INDEX;
+use codes::lent::TYPE_P_VALUE;
+use codes::lent::Tables;
+use codes::lent::VECTOR_INDEX;
+use codes::lent::VECTOR_VALUE;
+use codes::matrices::PREMULTIPLIER_MATRIX;
+use codes::matrices::ZIG_ZAG;
+ghost use mathlib.Core.Path.{_≡_};
+ghost use mathlib.Core.List.{map};
+ghost use Prim.Native.Nat.{_+_, _≤_};
+ghost use lib.IntN.{pos};
+ghost use lib.ListN.{length};
+ghost use lib.Seq.{paste};
+ghost use Rattle.codes.specs.Lent.{tablesWith};
+
+fn put(tables: &mut [i32], at: usize, table: &[i32])
+    requires { ⌜ at + length (now table) ≤ length (now tables) ⌝ }
+    ensures { λ _. ⌜ now (tables .exit) ≡ paste (now (tables .entry)) at (now (table .entry)) (length (now (table .entry))) ⌝ }
+{
+    let mut k: usize = 0;
+    while k < table.len() {
+        let entry = table[k];
+        tables[at + k] = entry;
+        k += 1;
+    }
+}
+
+fn put_bytes(tables: &mut [i32], at: usize, table: &[u8])
+    requires { ⌜ at + length (now table) ≤ length (now tables) ⌝ }
+    ensures { λ _. ⌜ now (tables .exit) ≡ paste (now (tables .entry)) at (map pos (now (table .entry))) (length (now (table .entry))) ⌝ }
+{
+    let mut k: usize = 0;
+    while k < table.len() {
+        let entry = table[k] as i32;
+        tables[at + k] = entry;
+        k += 1;
+    }
+}
+
+// The tables with these matrices.
+pub fn tables_with(intra_matrix: &[u8; 64], other_matrix: &[u8; 64]) -> Tables
+    ensures { λ r. ⌜ r ≡ tablesWith (now («intra_matrix» .entry)) (now («other_matrix» .entry)) ⌝ }
+{
+    let mut tables = [0i32; 1404];
+    put(
+        &mut tables,
+        INCREMENT_INDEX,
+        &MACROBLOCK_ADDRESS_INCREMENT_INDEX,
+    );
+    put(
+        &mut tables,
+        INCREMENT_VALUE,
+        &MACROBLOCK_ADDRESS_INCREMENT_VALUE,
+    );
+    put(&mut tables, TYPE_I_INDEX, &MACROBLOCK_TYPE_INTRA_INDEX);
+    put(&mut tables, TYPE_I_VALUE, &MACROBLOCK_TYPE_INTRA_VALUE);
+    put(&mut tables, TYPE_P_INDEX, &MACROBLOCK_TYPE_PREDICTIVE_INDEX);
+    put(&mut tables, TYPE_P_VALUE, &MACROBLOCK_TYPE_PREDICTIVE_VALUE);
+    put(&mut tables, TYPE_B_INDEX, &MACROBLOCK_TYPE_B_INDEX);
+    put(&mut tables, TYPE_B_VALUE, &MACROBLOCK_TYPE_B_VALUE);
+    put(&mut tables, PATTERN_INDEX, &CODE_BLOCK_PATTERN_INDEX);
+    put(&mut tables, PATTERN_VALUE, &CODE_BLOCK_PATTERN_VALUE);
+    put(&mut tables, VECTOR_INDEX, &MOTION_INDEX);
+    put(&mut tables, VECTOR_VALUE, &MOTION_VALUE);
+    put(&mut tables, LUMINANCE_INDEX, &DCT_SIZE_LUMINANCE_INDEX);
+    put(&mut tables, LUMINANCE_VALUE, &DCT_SIZE_LUMINANCE_VALUE);
+    put(&mut tables, CHROMINANCE_INDEX, &DCT_SIZE_CHROMINANCE_INDEX);
+    put(&mut tables, CHROMINANCE_VALUE, &DCT_SIZE_CHROMINANCE_VALUE);
+    put(&mut tables, COEFFICIENT_INDEX, &DCT_COEFF_INDEX);
+    put(&mut tables, COEFFICIENT_VALUE, &DCT_COEFF_VALUE);
+    put_bytes(&mut tables, ORDER, &ZIG_ZAG);
+    put(&mut tables, PREMULTIPLIERS, &PREMULTIPLIER_MATRIX);
+    put_bytes(&mut tables, INTRA_MATRIX, intra_matrix);
+    put_bytes(&mut tables, OTHER_MATRIX, other_matrix);
+    tables
+}
