@@ -31,7 +31,7 @@ use Rattle.picture.specs.Pictures as P
 use Rattle.picture.proofs.Increments.{code-served}
 
 -- a turn from the place a to e that goes on has taken a bit of a stream of m bits
-abbrev Takes : {S A : Type 0} → ℕ → ℕ → Turn S A → ℕ → Type 0
+abbrev pub Takes : {S A : Type 0} → ℕ → ℕ → Turn S A → ℕ → Type 0
 Takes m a (again y) e = (a < e) × (a < m)
 Takes m a (stop v) e = Unit {0}
 
@@ -58,7 +58,7 @@ unfolding macroblockAddressIncrement
 code-takes s a h = vlc-takes macroblockAddressIncrementIndex macroblockAddressIncrementValue 0 {s = s} {a = a}
     (record { is = refl }) good-macroblock-address-increment h
 
-increment-takes : (s : List ℕ) (sum a : ℕ) → Takes (length s * 8) a (run (incrementTurn sum) s a .value) (run (incrementTurn sum) s a .at)
+pub increment-takes : (s : List ℕ) (sum a : ℕ) → Takes (length s * 8) a (run (incrementTurn sum) s a .value) (run (incrementTurn sum) s a .at)
 unfolding incrementTurn run
 increment-takes s sum a =
     let c = run macroblockAddressIncrement s a .value in
@@ -77,7 +77,7 @@ increment-fuel s l n m d a = enough s incrementTurn (increment-takes s) l n m d 
 
 -- ---- the extra bytes of a slice
 
-extra-takes : (s : List ℕ) (x : Unit {0}) (a : ℕ) → Takes (length s * 8) a (run (extraTurn x) s a .value) (run (extraTurn x) s a .at)
+pub extra-takes : (s : List ℕ) (x : Unit {0}) (a : ℕ) → Takes (length s * 8) a (run (extraTurn x) s a .value) (run (extraTurn x) s a .at)
 unfolding extraTurn run bind
 extra-takes s x a =
     by-case (λ (p : Prog (Turn (Unit {0}) (Unit {0}))). Takes (length s * 8) a (run p s (next s a 1) .value) (run p s (next s a 1) .at))
@@ -111,7 +111,7 @@ past-takes g s a (on w) e h k =
     by-case Ends (has s e 23 && not (eqb (got s e 23) 0)) (λ q. let i = leb-true 23 (length s * 8 - e) (both _ _ q .0) in (k (omega arith), omega arith))
     (λ q. tt))
 
-slice-takes : (g : Given) (s : List ℕ) (x : Slicing) (a : ℕ) → Takes (length s * 8) a (run (sliceTurn g x) s a .value) (run (sliceTurn g x) s a .at)
+pub slice-takes : (g : Given) (s : List ℕ) (x : Slicing) (a : ℕ) → Takes (length s * 8) a (run (sliceTurn g x) s a .value) (run (sliceTurn g x) s a .at)
 unfolding sliceTurn
 slice-takes g s x a =
     rw (run-bind (macroblock g (x .first) (x .world)) (pastMacroblock g) s a)
@@ -131,7 +131,7 @@ found-takes s a g = go (found s a) (found-is-first s a) g
     go f (first p w q) k = (omega (arith, w .from, ap (λ (f : Found). f .at) q), omega (arith, w .from, w .five))
     go f (none w q) k = absurd (k (ap (λ (f : Found). f .code) q))
 
-slices-take : (g : Given) (s : List ℕ) (x : P.Slices) (a : ℕ) → Takes (length s * 8) a (run (P.slicesTurn g x) s a .value)
+pub slices-take : (g : Given) (s : List ℕ) (x : P.Slices) (a : ℕ) → Takes (length s * 8) a (run (P.slicesTurn g x) s a .value)
     (run (P.slicesTurn g x) s a .at)
 unfolding P.slicesTurn run bind
 slices-take g s x a =

@@ -112,7 +112,7 @@ module _ (s : List ℕ) (sum a : ℕ) (i : Sum s sum a) where
       go (yes h) = omega (arith, i .before h, code-small s a)
       go (no h) = omega (arith, i .most, code-idle s a (omega arith))
 
-turn-sum : (s : List ℕ) (sum a : ℕ) → Sum s sum a → Leaves (Sum s) (λ n. n ≤ 24 * length s + 33) (run (incrementTurn sum) s a .value)
+pub turn-sum : (s : List ℕ) (sum a : ℕ) → Sum s sum a → Leaves (Sum s) (λ n. n ≤ 24 * length s + 33) (run (incrementTurn sum) s a .value)
     (run (incrementTurn sum) s a .at)
 unfolding incrementTurn run
 turn-sum s sum a i =

@@ -45,7 +45,8 @@ use Rattle.picture.specs.Slices.{Slicing, slicing, sliceStart, isLast, e
 use Rattle.picture.specs.Pictures as P
 use Rattle.picture.proofs.Increments.{increment-most}
 use Rattle.picture.proofs.Lengths.{planes-length, written-length}
-use Rattle.picture.proofs.Possible.{PossibleStores, PossibleSlice, PossiblePicture, between-of, between-by, picture-of, picture-by}
+use Rattle.picture.specs.Possible.{PossibleStores, PossibleSlice, PossiblePicture}
+use Rattle.picture.proofs.Possible.{between-of, between-by, picture-of, picture-by}
 use Rattle.picture.proofs.Syntax.{motions-kept, block-kept, still-kept, reset-kept, predictors-reset, head-gives, header-gives}
 
 -- a way goes on with P, or leaves with 8 or 9 and a store of n numbers
@@ -90,9 +91,9 @@ module _ {s : List ℕ} where
 abbrev Long : ℕ → List ℕ → Type 0
 Long n l = length l ≡ n
 
-record WorldKept (H : Type 0) (n : ℕ) (w : World) : Type 0 where
-  slice : H → PossibleSlice (w .slice)
-  store : length (w .store) ≡ n
+pub record WorldKept (H : Type 0) (n : ℕ) (w : World) : Type 0 where
+  pub slice : H → PossibleSlice (w .slice)
+  pub store : length (w .store) ≡ n
 
 -- ---- prediction: RULES Q9
 
@@ -104,7 +105,7 @@ refused-ends n o h = go (o .answer)
     go Done = h
     go Refused = (inr refl, h)
 
-from-ends : (n : ℕ) (g : Given) (address k : ℕ) (m : Motion) (interpolate : Bool) (l : List ℕ) → Long n l
+pub from-ends : (n : ℕ) (g : Given) (address k : ℕ) (m : Motion) (interpolate : Bool) (l : List ℕ) → Long n l
     → Ends n (Long n) (predictFrom g address k m interpolate l)
 unfolding predictFrom
 from-ends n g address k m interpolate l e = refused-ends n _ (planes-length _ _ _ _ _ interpolate l ∙ e)
@@ -115,14 +116,14 @@ both-end n g address s l e =
     also-ends n (Long n) (Long n) _ _ (from-ends n g address _ _ _ l e) (λ l₁ e₁.
     by-case (Ends n (Long n)) (s .«motion_backward» .«is_set») (λ b. from-ends n g address _ _ _ l₁ e₁) (λ b. e₁))
 
-predict-ends : (n : ℕ) (g : Given) (address : ℕ) (s : Slice) (l : List ℕ) → Long n l → Ends n (Long n) (predict g address s l)
+pub predict-ends : (n : ℕ) (g : Given) (address : ℕ) (s : Slice) (l : List ℕ) → Long n l → Ends n (Long n) (predict g address s l)
 unfolding predict
 predict-ends n g address s l e =
     by-case (Ends n (Long n)) (eqb (g .type) 3 && s .«motion_forward» .«is_set») (λ b. both-end n g address s l e) (λ b.
     by-case (Ends n (Long n)) (eqb (g .type) 3) (λ b. from-ends n g address (g .stores .bwd) (s .«motion_backward») false l e)
     (λ b. from-ends n g address (g .stores .fwd) (s .«motion_forward») false l e))
 
-skipped-end : (n : ℕ) (g : Given) (s : Slice) (address k : ℕ) (l : List ℕ) → Long n l → Ends n (Long n) (predictSkipped g s address k l)
+pub skipped-end : (n : ℕ) (g : Given) (s : Slice) (address k : ℕ) (l : List ℕ) → Long n l → Ends n (Long n) (predictSkipped g s address k l)
 unfolding predictSkipped
 skipped-end n g s address zero l e = e
 skipped-end n g s address (suc k) l e = also-ends n (Long n) (Long n) _ _ (predict-ends n g address s l e)
@@ -131,14 +132,14 @@ skipped-end n g s address (suc k) l e = also-ends n (Long n) (Long n) _ _ (predi
 -- ---- macroblocks
 
 -- what a picture's slices are read in: H says that the sizes are possible, and the stream one of bytes
-record Domain (H : Type 0) (s : List ℕ) (z : Sizes) : Type 0 where
-  width : H → z .«mb_width» ≤ 256
-  size : H → z .«mb_size» ≤ 65536
-  stream : H → length s ≤ 16777216
-  bytes : H → (k : ℕ) → getD s k 0 < 256
+pub record Domain (H : Type 0) (s : List ℕ) (z : Sizes) : Type 0 where
+  pub width : H → z .«mb_width» ≤ 256
+  pub size : H → z .«mb_size» ≤ 65536
+  pub stream : H → length s ≤ 16777216
+  pub bytes : H → (k : ℕ) → getD s k 0 < 256
 
 -- a DC predictor is put in its place
-predictors-set : (d : List ℤ) (j : ℕ) (x : ℤ) → ((i : ℕ) → i < 3 → dcInside (getD d i (pos 0)) ≡ true) → dcInside x ≡ true → (i : ℕ)
+pub predictors-set : (d : List ℤ) (j : ℕ) (x : ℤ) → ((i : ℕ) → i < 3 → dcInside (getD d i (pos 0)) ≡ true) → dcInside x ≡ true → (i : ℕ)
     → i < 3 → dcInside (getD (set d j x) i (pos 0)) ≡ true
 predictors-set d j x h e i l = go (eqb i j) refl (decLt j (length d))
   where
@@ -168,14 +169,15 @@ module _ (H : Type 0) {s : List ℕ} (n : ℕ) (g : Given) (c : Domain H s (g .s
       go Dropped = record { slice = next; store = k .store }
       go Outside = (inl refl, k .store)
 
-  block-ends : (intra : Bool) (number : ℕ) (w : World) → number ≤ 5 → WorldKept H n w → Gives s (Ends n (WorldKept H n)) (oneBlock g intra number w)
+  pub block-ends : (intra : Bool) (number : ℕ) (w : World) → number ≤ 5 → WorldKept H n w
+      → Gives s (Ends n (WorldKept H n)) (oneBlock g intra number w)
   unfolding oneBlock
   block-ends intra number w h k =
       plain-gives {P = λ r. H → Kept r} _
       (g-when H (λ η. block-gives _ _ _ _ (k .slice η .predictors (predictorOf number) (omega arith)) (k .slice η .block) _))
       (λ r i. g-done (end-ends (quantiser intra (w .slice .«quantizer_scale»)) number w r k i))
 
-  last-end : (intra : Bool) (pattern m : ℕ) (w : World) → WorldKept H n w → Gives s (Ends n (WorldKept H n)) (lastBlocks g intra pattern m w)
+  pub last-end : (intra : Bool) (pattern m : ℕ) (w : World) → WorldKept H n w → Gives s (Ends n (WorldKept H n)) (lastBlocks g intra pattern m w)
   unfolding lastBlocks
   last-end intra pattern zero w k = g-done k
   last-end intra pattern (suc m) w k =
@@ -183,7 +185,7 @@ module _ (H : Type 0) {s : List ℕ} (n : ℕ) (g : Given) (c : Domain H s (g .s
       (λ x i. last-end intra pattern m x i)
 
   -- the address goes on by i
-  further-kept : (i : ℕ) (w : World) → WorldKept H n w
+  pub further-kept : (i : ℕ) (w : World) → WorldKept H n w
       → (H → up (w .slice .«macroblock_address») + i ≤ dn (w .slice .«macroblock_address») + 402700000) → WorldKept H n (further i w)
   further-kept i w k h = record {
     slice = λ η.
@@ -200,7 +202,7 @@ module _ (H : Type 0) {s : List ℕ} (n : ℕ) (g : Given) (c : Domain H s (g .s
     store = k .store;
   }
 
-  skip-kept : {x : Slice} → PossibleSlice x → PossibleSlice (skipReset g x)
+  pub skip-kept : {x : Slice} → PossibleSlice x → PossibleSlice (skipReset g x)
   unfolding skipReset
   skip-kept {x} k =
       by-case PossibleSlice (eqb (g .type) 2) (λ e. motions-kept (reset-kept k) (still-kept k .forward) (k .backward)) (λ e. reset-kept k)
@@ -209,7 +211,7 @@ module _ (H : Type 0) {s : List ℕ} (n : ℕ) (g : Given) (c : Domain H s (g .s
   unfolding skipReset
   skip-address x = by-case (λ (y : Slice). y .«macroblock_address» ≡ x .«macroblock_address») (eqb (g .type) 2) (λ e. refl) (λ e. refl)
 
-  advance-ends : (i : ℕ) (w : World) → WorldKept H n w → leZ (pos (g .sizes .«mb_size»)) (w .slice .«macroblock_address» +ℤ pos i) ≡ false
+  pub advance-ends : (i : ℕ) (w : World) → WorldKept H n w → leZ (pos (g .sizes .«mb_size»)) (w .slice .«macroblock_address» +ℤ pos i) ≡ false
       → Ends n (WorldKept H n) (advance g i w)
   unfolding advance
   advance-ends i w k h =
@@ -220,11 +222,11 @@ module _ (H : Type 0) {s : List ℕ} (n : ℕ) (g : Given) (c : Domain H s (g .s
       further-kept i (world (skipReset g (w .slice)) l) (record { slice = λ η. skip-kept (k .slice η); store = j })
       (λ η. rw (skip-address (w .slice)) (omega (arith, c .size η)))))
 
-  unless-ends : (t : ℕ) (w : World) → Long n (w .store) → Ends n (Long n) (predictUnlessIntra g t w)
+  pub unless-ends : (t : ℕ) (w : World) → Long n (w .store) → Ends n (Long n) (predictUnlessIntra g t w)
   unfolding predictUnlessIntra
   unless-ends t w e = by-case (Ends n (Long n)) (isIntra t) (λ b. e) (λ b. predict-ends n g _ _ _ e)
 
-  body-ends : (w : World) → WorldKept H n w → Gives s (Ends n (WorldKept H n)) (body g w)
+  pub body-ends : (w : World) → WorldKept H n w → Gives s (Ends n (WorldKept H n)) (body g w)
   unfolding body blocks
   body-ends w k =
       plain-gives _ (g-any (macroblockType (g .type))) (λ t u.
@@ -232,7 +234,7 @@ module _ (H : Type 0) {s : List ℕ} (n : ℕ) (g : Given) (c : Domain H s (g .s
       onward-gives {P = Long n} _ (g-done (unless-ends t (world x (w .store)) (k .store))) (λ l e.
       plain-gives _ (g-any (pattern t)) (λ q u. last-end (isIntra t) q 6 (world x l) (record { slice = i; store = e })))))
 
-  macroblock-ends : (first : Bool) (w : World) → WorldKept H n w
+  pub macroblock-ends : (first : Bool) (w : World) → WorldKept H n w
       → (first ≡ true → H → up (w .slice .«macroblock_address») ≤ dn (w .slice .«macroblock_address») + 44543)
       → Gives s (Ends n (WorldKept H n)) (macroblock g first w)
   unfolding macroblock firstOf laterOf

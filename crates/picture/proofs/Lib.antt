@@ -5,4 +5,7 @@ pub mod Kept
 pub mod Lengths
 pub mod Places
 pub mod Possible
+pub mod Ready
+pub mod Signed
 pub mod Syntax
+pub mod Ways

@@ -19,6 +19,7 @@ use Rattle.picture.specs.declared.state.Motion.{Motion}
 use Rattle.picture.specs.declared.state.Stores.{Stores}
 use Rattle.picture.specs.declared.state.Slice.{Slice}
 use Rattle.picture.specs.declared.state.Picture.{Picture}
+use Rattle.picture.specs.Possible.{PossibleStores, PossibleMotion, PossibleSlice, PossiblePicture}
 use Rattle.picture.specs.Possible.{between, possibleStores, possibleMotion, possibleSlice, possiblePicture}
 
 -- ---- ranges
@@ -40,14 +41,6 @@ range-by {z} i = between-by 1024 1023 (v z) (omega (arith, le-of (neg (lit 1024)
 
 -- ---- the parts of a state
 
-pub record PossibleStores (t : Stores) : Type 0 where
-  pub cur : t .cur ≤ 2
-  pub fwd : t .fwd ≤ 2
-  pub bwd : t .bwd ≤ 2
-  pub cur-fwd : t .cur ≡ t .fwd → ⊥
-  pub cur-bwd : t .cur ≡ t .bwd → ⊥
-  pub fwd-bwd : t .fwd ≡ t .bwd → ⊥
-
 pub stores-of : (t : Stores) → possibleStores t ≡ true → PossibleStores t
 stores-of t e =
     let h = each _ (_ ∷ _ ∷ _ ∷ _ ∷ _ ∷ []) e in
@@ -64,11 +57,6 @@ pub stores-by : {t : Stores} → PossibleStores t → possibleStores t ≡ true
 stores-by k =
     rw (le-leb _ _ (k .cur), le-leb _ _ (k .fwd), le-leb _ _ (k .bwd), ne-eqb _ _ (k .cur-fwd), ne-eqb _ _ (k .cur-bwd), ne-eqb _ _ (k .fwd-bwd))
 
-pub record PossibleMotion (m : Motion) : Type 0 where
-  pub size : m .«r_size» ≤ 6
-  pub h : InRange 64 (m .h)
-  pub v : InRange 64 (m .v)
-
 pub motion-of : (m : Motion) → possibleMotion m ≡ true → PossibleMotion m
 motion-of m e =
     let x = each _ (_ ∷ _ ∷ []) e in
@@ -76,14 +64,6 @@ motion-of m e =
 
 pub motion-by : {m : Motion} → PossibleMotion m → possibleMotion m ≡ true
 motion-by k = rw (le-leb _ _ (k .size), range-by (k .h), range-by (k .v))
-
-pub record PossibleSlice (s : Slice) : Type 0 where
-  pub scale : s .«quantizer_scale» ≤ 31
-  pub address : between (negℤ (pos 1)) (pos 402700000) (s .«macroblock_address») ≡ true
-  pub forward : PossibleMotion (s .«motion_forward»)
-  pub backward : PossibleMotion (s .«motion_backward»)
-  pub predictors : (k : ℕ) → k < 3 → dcInside (getD (s .«dc_predictor») k (pos 0)) ≡ true
-  pub block : Bounded (s .«block_data»)
 
 pub slice-of : (s : Slice) → possibleSlice s ≡ true → PossibleSlice s
 slice-of s e =
@@ -100,12 +80,6 @@ slice-of s e =
 pub slice-by : {s : Slice} → PossibleSlice s → possibleSlice s ≡ true
 slice-by k =
     rw (le-leb _ _ (k .scale), k .address, motion-by (k .forward), motion-by (k .backward), all-by _ 3 (k .predictors), bounded-by (k .block))
-
-pub record PossiblePicture (p : Picture) : Type 0 where
-  pub type : p .«picture_type» ≤ 7
-  pub code : between (negℤ (pos 1)) (pos 255) (p .«start_code») ≡ true
-  pub stores : PossibleStores (p .stores)
-  pub slice : PossibleSlice (p .slice)
 
 pub picture-of : (p : Picture) → possiblePicture p ≡ true → PossiblePicture p
 picture-of p e =

@@ -17,11 +17,11 @@ use Rattle.picture.specs.declared.state.Picture.{Picture}
 use Rattle.picture.specs.State.{zeroed, isSetAs, scaleAs, motionsAs, dcReset, blockAs, typeAs, sliceAs}
 use Rattle.picture.specs.Heads.{flag, isIntra, scale, vector, forward, backward, vectors, flagged, still, head}
 use Rattle.picture.specs.Pictures.{Direction, direction, Headed, backwardHeader, forwardHeader, pictureHeader}
-use Rattle.picture.proofs.Possible.{PossibleMotion, PossibleSlice, PossiblePicture}
+use Rattle.picture.specs.Possible.{PossibleMotion, PossibleSlice, PossiblePicture}
 
 -- ---- changes of a state
 
-zeroed-kept : {m : Motion} → PossibleMotion m → PossibleMotion (zeroed m)
+pub zeroed-kept : {m : Motion} → PossibleMotion m → PossibleMotion (zeroed m)
 zeroed-kept k =
     record {
       size = k .size;
@@ -30,11 +30,11 @@ zeroed-kept k =
           record { low = record { le = tt }; high = record { lt = tt } };
     }
 
-set-kept : {m : Motion} (b : Bool) → PossibleMotion m → PossibleMotion (isSetAs b m)
+pub set-kept : {m : Motion} (b : Bool) → PossibleMotion m → PossibleMotion (isSetAs b m)
 set-kept b k = record { size = k .size; h = k .h; v = k .v }
 
 module _ {s : Slice} (k : PossibleSlice s) where
-  scale-kept : {q : ℕ} → q ≤ 31 → PossibleSlice (scaleAs q s)
+  pub scale-kept : {q : ℕ} → q ≤ 31 → PossibleSlice (scaleAs q s)
   scale-kept h = record { scale = h; address = k .address; forward = k .forward; backward = k .backward; predictors = k .predictors; block = k .block }
 
   pub motions-kept : {f b : Motion} → PossibleMotion f → PossibleMotion b → PossibleSlice (motionsAs f b s)
@@ -46,7 +46,7 @@ module _ {s : Slice} (k : PossibleSlice s) where
   pub still-kept : PossibleSlice (still s)
   still-kept = motions-kept (zeroed-kept (k .forward)) (zeroed-kept (k .backward))
 
-  flagged-kept : (t : ℕ) → PossibleSlice (flagged t s)
+  pub flagged-kept : (t : ℕ) → PossibleSlice (flagged t s)
   flagged-kept t = motions-kept (set-kept (flag t 8) (k .forward)) (set-kept (flag t 4) (k .backward))
 
 -- the DC predictors at 128
@@ -59,25 +59,25 @@ reset-kept k = block-kept k predictors-reset (k .block)
 module _ {s : List ℕ} where
   -- ---- the head of a macroblock
 
-  vector-gives : {m : Motion} → PossibleMotion m → Gives s PossibleMotion (vector m)
+  pub vector-gives : {m : Motion} → PossibleMotion m → Gives s PossibleMotion (vector m)
   unfolding vector
   vector-gives {m} k =
       g-bind _ (component-in (m .«r_size») (m .h) (k .size) (k .h)) (λ h i.
       g-bind _ (component-in (m .«r_size») (m .v) (k .size) (k .v)) (λ v j. g-done (record { size = k .size; h = i; v = j })))
 
-  forward-gives : (type : ℕ) {m : Motion} → PossibleMotion m → Gives s PossibleMotion (forward type m)
+  pub forward-gives : (type : ℕ) {m : Motion} → PossibleMotion m → Gives s PossibleMotion (forward type m)
   unfolding forward
   forward-gives type {m} k = g-if (m .«is_set») (λ e. vector-gives k) (λ e. g-if (eqb type 2) (λ e. g-done (zeroed-kept k)) (λ e. g-done k))
 
-  backward-gives : {m : Motion} → PossibleMotion m → Gives s PossibleMotion (backward m)
+  pub backward-gives : {m : Motion} → PossibleMotion m → Gives s PossibleMotion (backward m)
   unfolding backward
   backward-gives {m} k = g-if (m .«is_set») (λ e. vector-gives k) (λ e. g-done k)
 
-  vectors-give : (type : ℕ) {x : Slice} → PossibleSlice x → Gives s PossibleSlice (vectors type x)
+  pub vectors-give : (type : ℕ) {x : Slice} → PossibleSlice x → Gives s PossibleSlice (vectors type x)
   unfolding vectors
   vectors-give type k = g-bind _ (forward-gives type (k .forward)) (λ f i. g-bind _ (backward-gives (k .backward)) (λ b j. g-done (motions-kept k i j)))
 
-  scale-gives : (t : ℕ) {x : Slice} → PossibleSlice x → Gives s PossibleSlice (scale t x)
+  pub scale-gives : (t : ℕ) {x : Slice} → PossibleSlice x → Gives s PossibleSlice (scale t x)
   unfolding scale
   scale-gives t k = g-if (flag t 16) (λ e. g-bind _ (g-bits 5) (λ q h. g-done (scale-kept k (omega arith)))) (λ e. g-done k)
 

@@ -8,3 +8,4 @@ pub mod Blocks
 pub mod Macroblocks
 pub mod Slices
 pub mod Pictures
+pub mod Views

@@ -1,11 +1,14 @@
 -- RULES Q2: is a picture's state possible?
-use mathlib.Core.Bool.{Bool, not, _&&_}
+use mathlib.Core.Path.{_≡_}
+use mathlib.Core.Bool.{Bool, true, not, _&&_}
+use Prim.Native.Nat.{ℕ, _≤_, _<_}
 use lib.Dec.{eqb, leb}
 use lib.IntN.{ℤ, pos, negℤ}
 use lib.ListN.{getD}
 use lib.Signed.{leZ}
 use Rattle.laws.specs.Each.{allBelow}
-use Rattle.codes.specs.Matrices.{bounded}
+use Rattle.codes.specs.Matrices.{bounded, Bounded}
+use Rattle.motion.specs.Displacement.{InRange}
 use Rattle.coefficients.specs.Dcs.{dcInside}
 use Rattle.picture.specs.declared.state.Motion.{Motion}
 use Rattle.picture.specs.declared.state.Stores.{Stores}
@@ -34,5 +37,33 @@ possibleSlice s =
 
 -- type, start code, stores
 abbrev pub possiblePicture : Picture → Bool
-possiblePicture p = leb (p .«picture_type») 7 && between (negℤ (pos 1)) (pos 255) (p .«start_code») && possibleStores (p .stores) && possibleSlice
-    (p .slice)
+possiblePicture p =
+    leb (p .«picture_type») 7 && between (negℤ (pos 1)) (pos 255) (p .«start_code») && possibleStores (p .stores) && possibleSlice (p .slice)
+
+-- RULES Q2: the same as facts
+pub record PossibleStores (t : Stores) : Type 0 where
+  pub cur : t .cur ≤ 2
+  pub fwd : t .fwd ≤ 2
+  pub bwd : t .bwd ≤ 2
+  pub cur-fwd : t .cur ≡ t .fwd → ⊥
+  pub cur-bwd : t .cur ≡ t .bwd → ⊥
+  pub fwd-bwd : t .fwd ≡ t .bwd → ⊥
+
+pub record PossibleMotion (m : Motion) : Type 0 where
+  pub size : m .«r_size» ≤ 6
+  pub h : InRange 64 (m .h)
+  pub v : InRange 64 (m .v)
+
+pub record PossibleSlice (s : Slice) : Type 0 where
+  pub scale : s .«quantizer_scale» ≤ 31
+  pub address : between (negℤ (pos 1)) (pos 402700000) (s .«macroblock_address») ≡ true
+  pub forward : PossibleMotion (s .«motion_forward»)
+  pub backward : PossibleMotion (s .«motion_backward»)
+  pub predictors : (k : ℕ) → k < 3 → dcInside (getD (s .«dc_predictor») k (pos 0)) ≡ true
+  pub block : Bounded (s .«block_data»)
+
+pub record PossiblePicture (p : Picture) : Type 0 where
+  pub type : p .«picture_type» ≤ 7
+  pub code : between (negℤ (pos 1)) (pos 255) (p .«start_code») ≡ true
+  pub stores : PossibleStores (p .stores)
+  pub slice : PossibleSlice (p .slice)

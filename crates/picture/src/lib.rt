@@ -1,2 +1,3 @@
 // Macroblocks, slices and pictures (RULES part 7).
+pub mod flags;
 pub mod state;

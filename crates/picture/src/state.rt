@@ -1,4 +1,5 @@
 // What decoding a picture reads and changes, by value. The reader is beside it, and the store is lent.
+use bits::reader::Reader;
 
 // A vector of one direction, with the flags and the size that its reading needs.
 pub struct Motion {
@@ -44,4 +45,44 @@ pub struct Picture {
     pub start_code: i32,
     pub stores: Stores,
     pub slice: Slice,
+}
+
+// What stays the same while the slices of a picture are read. The two matrices are among the tables that are lent.
+pub struct Setting {
+    pub picture_type: u32,
+    pub sizes: Sizes,
+    pub stores: Stores,
+}
+
+// A slice's state without the left-over coefficients, which are lent beside it.
+pub struct SliceState {
+    pub quantizer_scale: u32,
+    pub macroblock_address: i32,
+    pub motion_forward: Motion,
+    pub motion_backward: Motion,
+    pub dc_predictor: [i32; 3],
+}
+
+// Where a part of a slice ended. `stop`: 0, or 8 or 9.
+pub struct Progress {
+    pub reader: Reader,
+    pub state: SliceState,
+    pub stop: u32,
+}
+
+// Where a turn over the slices of a picture ended. `again`: another start code follows. `begun`: a slice has been read.
+pub struct SlicesProgress {
+    pub reader: Reader,
+    pub code: i32,
+    pub state: SliceState,
+    pub begun: bool,
+    pub again: bool,
+    pub stop: u32,
+}
+
+// Where a picture ended.
+pub struct PictureProgress {
+    pub reader: Reader,
+    pub picture: Picture,
+    pub stop: u32,
 }
