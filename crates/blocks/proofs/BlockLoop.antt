@@ -1,0 +1,85 @@
+-- A block of the pattern, and the loop over the six: its invariant, as a record, and its turns. Assumes nothing.
+use mathlib.Core.Path.{_≡_, refl, _∙_}
+use mathlib.Core.Bool.{true, false}
+use mathlib.Core.List.{List}
+use Prim.Native.Nat.{ℕ, suc, _+_, _-_, _^_, _≤_, _<_}
+use native.Mathlib.Omega.{arith}
+use lib.IntN.{ℤ}
+use lib.ListN.{length}
+use Rattle.bits.specs.declared.reader.Reader.{Reader}
+use Rattle.bits.specs.Runs.{Runs}
+use Rattle.bits.specs.Programs.{Prog}
+use Rattle.bits.proofs.Rules.{r-yes, r-no, r-done}
+use Rattle.picture.specs.State.{World}
+use Rattle.picture.specs.Ways.{Way, on, onward}
+use Rattle.picture.specs.Heads.{flag}
+use Rattle.picture.specs.Blocks.{oneBlock, lastBlocks, blocks}
+use Rattle.picture.specs.declared.state.SliceState.{SliceState}
+use Rattle.picture.specs.declared.state.Progress.{Progress}
+use Rattle.picture.specs.Views.{given, worldOf, patternBlock, Ready, Went}
+use Rattle.picture.proofs.Ways.{Follows, f-start, f-end, f-onward, f-leave, way-out}
+use Rattle.blocks.specs.declared.blocks.CodedBlocks.{CodedBlocks}
+
+-- a macroblock's blocks, the last n of them, and the one with this number
+abbrev all : CodedBlocks → List ℤ → World → Prog (Way World)
+all c t w = blocks (given (c .setting) t) (c .intra) (c .pattern) w
+
+abbrev last : CodedBlocks → List ℤ → ℕ → World → Prog (Way World)
+last c t n w = lastBlocks (given (c .setting) t) (c .intra) (c .pattern) n w
+
+abbrev numbered : CodedBlocks → List ℤ → ℕ → World → Prog (Way World)
+numbered c t number w = patternBlock (given (c .setting) t) (c .intra) (c .pattern) (2 ^ (5 - number)) number w
+
+-- a block whose bit is not in the pattern, and one whose bit is
+module _ (c : CodedBlocks) (t : List ℤ) (number : ℕ) (x : SliceState) (left : List ℤ) (store : List ℕ) {s : List ℕ} {from : Reader} where
+  pub bit-no : flag (c .pattern) (2 ^ (5 - number)) ≡ false → Ready (c .setting) s from x left store
+      → Went (numbered c t number (worldOf x left store)) (c .setting) s from (record { reader = from; state = x; stop = 0 }) left store
+  bit-no h k = record { runs = r-no _ h r-done; ready = k }
+
+  pub bit-yes : {r : Progress} {left₁ : List ℤ} {store₁ : List ℕ} → flag (c .pattern) (2 ^ (5 - number)) ≡ true
+      → Went (oneBlock (given (c .setting) t) (c .intra) number (worldOf x left store)) (c .setting) s from r left₁ store₁
+      → Went (numbered c t number (worldOf x left store)) (c .setting) s from r left₁ store₁
+  bit-yes h w = record { runs = r-yes _ h (w .runs); ready = w .ready }
+
+-- before the block with this number, in the state x, `left`, `store` at `from`; the loop began in w₀ at from₀
+pub record AtBlock (c : CodedBlocks) (t : List ℤ) (s : List ℕ) (from₀ : Reader) (w₀ : World)
+    (from : Reader) (x : SliceState) (left : List ℤ) (store : List ℕ) (number : ℕ) : Type 0 where
+  pub few : number ≤ 6
+  pub ready : Ready (c .setting) s from x left store
+  pub long : length store ≡ length (w₀ .store)
+  pub rest : Follows (all c t w₀) s (from₀ .at .0) (last c t (6 - number) (worldOf x left store)) (from .at .0)
+
+pub at-first : {c : CodedBlocks} {t : List ℤ} {s : List ℕ} {from : Reader} {x : SliceState} {left : List ℤ} {store : List ℕ}
+    → Ready (c .setting) s from x left store → AtBlock c t s from (worldOf x left store) from x left store 0
+unfolding blocks
+at-first k = record { few = omega arith; ready = k; long = refl; rest = f-start }
+
+module _ {c : CodedBlocks} {t : List ℤ} {s : List ℕ} {from₀ : Reader} {w₀ : World} {from : Reader} {x : SliceState} {left : List ℤ}
+    {store : List ℕ} {number : ℕ} (i : AtBlock c t s from₀ w₀ from x left store number) where
+  -- the program's next block
+  next : number < 6
+      → Follows (all c t w₀) s (from₀ .at .0) (onward (numbered c t number (worldOf x left store)) (last c t (5 - number))) (from .at .0)
+  unfolding lastBlocks
+  next h =
+      let e : 6 - number ≡ suc (5 - number) = omega arith in
+      let n : 5 - (5 - number) ≡ number = omega arith in
+      rw (e, n) at (i .rest)
+
+  module _ (h : number < 6) {r : Progress} {left₁ : List ℤ} {store₁ : List ℕ}
+      (w : Went (numbered c t number (worldOf x left store)) (c .setting) s from r left₁ store₁) where
+    -- a turn that goes on
+    pub at-next : r .stop ≡ 0 → length store₁ ≡ length store → AtBlock c t s from₀ w₀ (r .reader) (r .state) left₁ store₁ (number + 1)
+    at-next z e =
+        let n : 6 - (number + 1) ≡ 5 - number = omega arith in
+        record { few = omega arith; ready = w .ready; long = e ∙ i .long; rest = rw n (f-onward _ (next h) (rw z at (w .runs))) }
+
+    -- one that leaves
+    pub at-stop : (r .stop ≡ 0 → ⊥) → Went (all c t w₀) (c .setting) s from₀ r left₁ store₁
+    at-stop z =
+        let e = way-out (worldOf (r .state) left₁ store₁) store₁ z in
+        record { runs = rw e (f-leave _ (next h) (rw e at (w .runs))); ready = w .ready }
+
+  -- and the end
+  pub at-end : 6 ≤ number → Runs (all c t w₀) s (from₀ .at .0) (on (worldOf x left store)) (from .at .0)
+  unfolding lastBlocks
+  at-end h = let e : 6 - number ≡ 0 = omega arith in f-end (rw e at (i .rest)) r-done

@@ -1,0 +1,4 @@
+pub mod BlockEnds
+pub mod BlockLoop
+pub mod Results
+pub mod Stores

@@ -1,0 +1,103 @@
+// RULES 6.12, 6.13: a block that was read, in the store.
+use coefficients::block::Block;
+use coefficients::block::BlockEnd;
+use coefficients::block::left_over;
+use coefficients::quantiser::Quantiser;
+use laws::clamp_u8;
+use picture::state::Setting;
+use prediction::place::macroblock_at;
+use prediction::planes::plane_length;
+use prediction::planes::plane_of;
+use prediction::planes::plane_start;
+use prediction::writers::block_place;
+use prediction::writers::block_set_add;
+use prediction::writers::block_set_add_const;
+use prediction::writers::block_set_const;
+use prediction::writers::block_set_overwrite;
+use prediction::writers::block_width;
+use transform::idct::dc_only;
+use transform::idct::idct;
+ghost use mathlib.Core.Path.{_≡_};
+ghost use Prim.Native.Nat.{_+_, _*_, _≤_};
+ghost use lib.IntN.{natAbs};
+ghost use lib.ListN.{length};
+ghost use Rattle.codes.specs.Matrices.{Bounded};
+ghost use Rattle.coefficients.specs.Blocks.{filled, readOf, leftOver};
+ghost use Rattle.picture.specs.Blocks.{results};
+ghost use Rattle.picture.specs.Views.{Held, Here, inStore, storeAfter};
+
+// RULES 4.3, 6.13: the results of coefficients, n places of which are used, in a plane. The coefficients are used up.
+fn results(d: &mut [u8], di: usize, dw: usize, values: &mut [i32; 64], q: Quantiser, n: usize)
+    requires { ⌜ 8 ≤ dw ⌝ }
+    requires { ⌜ di + 7 * dw + 8 ≤ length (now d) ⌝ }
+    requires { ⌜ Bounded (now values) ⌝ }
+    ensures { λ _. ⌜ now (d .exit) ≡ results q (filled (now (values .entry)) n) di dw (now (d .entry)) ⌝ }
+{
+    let intra = q.intra;
+    if n == 1 {
+        let first = dc_only(values[0]);
+        if intra {
+            block_set_const(d, di, dw, clamp_u8(first));
+            return;
+        }
+        block_set_add_const(d, di, dw, first);
+        return;
+    }
+    idct(values);
+    if intra {
+        block_set_overwrite(d, di, dw, values);
+        return;
+    }
+    block_set_add(d, di, dw, values);
+}
+
+// The results of a block that was read whole, in the store.
+fn write_results(
+    store: &mut [u8],
+    values: &mut [i32; 64],
+    g: Setting,
+    address: i32,
+    number: usize,
+    q: Quantiser,
+    n: usize,
+)
+    requires { ⌜ Held g (now store) ⌝ }
+    requires { ⌜ Here g address ⌝ }
+    requires { ⌜ Bounded (now values) ⌝ }
+    ensures { λ _. ⌜
+        now (store .exit) ≡ inStore g q number (natAbs address) (filled (now (values .entry)) n) (now (store .entry))
+        ⌝ }
+{
+    let m = macroblock_at(g.sizes.mb_width, g.sizes.mb_height, address as usize);
+    let plane = plane_of(number);
+    let start = plane_start(g.stores.cur, plane, g.sizes.mb_size);
+    let end = start + plane_length(plane, g.sizes.mb_size);
+    let di = block_place(m, number);
+    let dw = block_width(m, number);
+    results(&mut store[start..end], di, dw, values, q, n);
+}
+
+// What a block that was read does: only a whole one is written. The coefficients become what is left over.
+pub fn write_block(
+    store: &mut [u8],
+    values: &mut [i32; 64],
+    g: Setting,
+    address: i32,
+    number: usize,
+    q: Quantiser,
+    r: Block,
+)
+    requires { ⌜ Held g (now store) ⌝ }
+    requires { ⌜ Here g address ⌝ }
+    requires { ⌜ Bounded (now values) ⌝ }
+    ensures { λ _. ⌜
+        now (store .exit) ≡ storeAfter g q number (natAbs address) (readOf (now (values .entry)) r) (now (store .entry))
+        ⌝ }
+    ensures { λ _. ⌜ now (values .exit) ≡ leftOver q (readOf (now (values .entry)) r) ⌝ }
+{
+    let end = r.end;
+    if let BlockEnd::Whole = end {
+        write_results(store, values, g, address, number, q, r.n);
+        left_over(values, q, r);
+    }
+}

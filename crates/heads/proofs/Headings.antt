@@ -1,0 +1,72 @@
+-- What a macroblock has before its blocks, as the code reads it. Assumes nothing.
+use mathlib.Core.Path.{_≡_}
+use mathlib.Core.Bool.{true, false}
+use mathlib.Core.List.{List, []}
+use Prim.Native.Nat.{ℕ, _≤_}
+use native.Mathlib.Omega.{arith}
+use borrow.Author.Tests.{eq-eqb}
+use lib.IntN.{ℤ, natAbs}
+use mir.Syntax.{w32}
+use mir.Val.{toZ, ofZ}
+use Rattle.laws.proofs.Ints.{v, lit, neg, le-of, lt-of, abs-by}
+use Rattle.laws.proofs.Nums.{num, rd}
+use Rattle.bits.specs.declared.reader.Reader.{Reader}
+use Rattle.bits.specs.Runs.{Inside, Reading}
+use Rattle.bits.proofs.Gives.{given-by}
+use Rattle.bits.proofs.Rules.{r-call, r-yes, r-no, r-done}
+use Rattle.motion.specs.Displacement.{InRange}
+use Rattle.motion.specs.Vector.{motionVector}
+use Rattle.motion.proofs.OneStep.{component-in}
+use Rattle.picture.specs.declared.state.Motion.{Motion}
+use Rattle.picture.specs.declared.state.SliceState.{SliceState}
+use Rattle.picture.specs.Possible.{PossibleMotion, PossibleSlice}
+use Rattle.picture.specs.State.{zeroed, vectorAs}
+use Rattle.picture.specs.Heads.{isIntra, scale, vector, forward, vectors, head}
+use Rattle.picture.specs.Views.{sliceOf, motions, flaggedOf, stillOf, resetOf, Leads}
+use Rattle.picture.proofs.Syntax.{flagged-kept, scale-gives}
+
+-- ---- components
+
+pub range-small : {z : ℤ} → InRange 64 z → natAbs z ≤ 1024
+range-small {z} i =
+    abs-by 1024 (v z) (omega (arith, lt-of (v z) (lit 1024) (i .high))) (omega (arith, le-of (neg (lit 1024)) (v z) (i .low)))
+
+pub range-read : {z : ℤ} → InRange 64 z → toZ w32 (ofZ w32 z) ≡ z
+range-read i = rd w32 (num (range-small i)) tt .is
+
+-- ---- vectors
+
+module _ (m : Motion) (k : PossibleMotion m) {s : List ℕ} {from across to : Reader} {h v : ℤ}
+    (r : Reading (motionVector (m .«r_size») (toZ w32 (ofZ w32 (m .h)))) s from h across)
+    (w : Reading (motionVector (m .«r_size») (toZ w32 (ofZ w32 (m .v)))) s across v to) where
+  -- the components as the code has them
+  pub vector-read : Reading (vector m) s from (vectorAs (toZ w32 (ofZ w32 h)) (toZ w32 (ofZ w32 v)) m) to
+  unfolding vector
+  vector-read =
+      let p = rw (range-read (k .h)) at (r .runs) in
+      let q = rw (range-read (k .v)) at (w .runs) in
+      let i = given-by (component-in (m .«r_size») (m .h) (k .size) (k .h)) p in
+      let j = given-by (component-in (m .«r_size») (m .v) (k .size) (k .v)) q in
+      rw (range-read i, range-read j) (record { runs = r-call _ p (r-call _ q r-done); inside = w .inside })
+
+pub forward-zero : (type : ℕ) (m : Motion) {n : Motion} {s : List ℕ} {from : Reader} → Inside s from → m .«is_set» ≡ false → type ≡ 2 → n ≡ zeroed m
+    → Reading (forward type m) s from n from
+unfolding forward
+forward-zero type m i f t e = rw e (record { runs = r-no _ f (r-yes _ (eq-eqb type 2 t) r-done); inside = i })
+
+-- ---- the head
+
+module _ (t : ℕ) (x : SliceState) {f q : SliceState} {s : List ℕ} {from to : Reader} (is : f ≡ flaggedOf t x)
+    (l : Leads (λ left. scale t (sliceOf f left)) s from to q) where
+  pub scaled-possible : PossibleSlice (motions x) → PossibleSlice (motions q)
+  scaled-possible k = given-by (scale-gives t (flagged-kept k t)) (rw is at (l .runs []))
+
+  pub head-still : (type : ℕ) {y : SliceState} → isIntra t ≡ true → y ≡ stillOf q → Leads (λ left. head type t (sliceOf x left)) s from to y
+  unfolding head
+  head-still type e w = rw w (record { runs = λ left. r-call _ (rw is at (l .runs left)) (r-yes _ e r-done); inside = l .inside })
+
+  pub head-vectors : (type : ℕ) {r : SliceState} {end : Reader} {y : SliceState} → isIntra t ≡ false → r ≡ resetOf q
+      → Leads (λ left. vectors type (sliceOf r left)) s to end y → Leads (λ left. head type t (sliceOf x left)) s from end y
+  unfolding head
+  head-vectors type e w k =
+      record { runs = λ left. r-call _ (rw is at (l .runs left)) (r-no _ e (rw w at (k .runs left))); inside = k .inside }

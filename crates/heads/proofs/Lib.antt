@@ -1,0 +1,5 @@
+pub mod Sums
+pub mod Reached
+pub mod Headings
+pub mod Foretelling
+pub mod Skips
