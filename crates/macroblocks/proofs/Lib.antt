@@ -1,0 +1,4 @@
+pub mod Advancing
+pub mod Bodies
+pub mod Firsts
+pub mod Laters

@@ -1,0 +1,97 @@
+-- `macroblock::later_of` meets its contract: nothing past the last macroblock, else on to the next one and its body.
+use mathlib.Core.Path.{_≡_, ap, sym, _∙_}
+use denote.Ref.{now}
+use lib.IntN.{ℤ, pos, _+ℤ_}
+use lib.Signed.{leZ}
+use borrow.Author.Needs.{needs}
+use Rattle.picture.proofs.Signed.{address-read}
+use Rattle.blocks.proofs.Stores.{size-most}
+use Rattle.macroblocks.proofs.Bodies.{motions-possible}
+use Rattle.macroblocks.proofs.Laters.{later-past, later-stop, later-ready, later-body}
+use Rattle.macroblocks.proofs.macroblock.later_of.Statement.{statement}
+use Rattle.macroblocks.proofs.macroblock.later_of.Tie as tie
+
+-- the entry, from the test; the test, from the advance; the advance, from the test of its end
+abbrev start : tie.After-past → tie.Start
+start o = o .before .before .before .before
+
+abbrev inside : tie.After-advance → tie.Else1
+inside a = a .before .before
+
+abbrev stopped : tie.Then2 → tie.After-advance
+stopped z = z .before .before .before .before
+
+abbrev advanced : tie.Else2 → tie.After-advance
+advanced z = z .before .before .before .before
+
+-- the test, in the definition's terms
+tested : (o : tie.After-past) → let a = start o .args in
+    o .past .result ≡ leZ (pos (a .g .sizes .«mb_size»)) (a .state .«macroblock_address» +ℤ pos (a .n))
+tested o =
+    let a = start o .args in
+    o .past .ensures ∙ ap (λ (z : ℤ). leZ (pos (a .g .sizes .«mb_size»)) (z +ℤ pos (a .n))) (address-read (start o .pre .0 .reads .slice))
+
+past-requires : tie.Need-past-requires
+past-requires c κs =
+    let k = c .before .before .before .pre .0 in
+    (size-most (k .held), rw (address-read (k .reads .slice)) (k .adds))
+
+returns : tie.Need-returns
+returns c =
+    let o = c .before in
+    let s = start o in
+    let a = s .args in
+    later-past (a .g) (now (a .tables)) (a .state) (a .n) (now (a .values)) (now (a .store)) (s .pre .0) (sym (tested o) ∙ c .if1 .taken)
+
+advance-requires : tie.Need-advance-requires
+advance-requires c κs =
+    let i = c .before in
+    let k = start (i .before) .pre .0 in
+    (k .held, (motions-possible (k .reads .slice), sym (tested (i .before)) ∙ i .if1 .left))
+
+returns-2 : tie.Need-returns-2
+returns-2 c =
+    let v = stopped c in
+    let i = inside v in
+    let o = i .before in
+    let s = start o in
+    let a = s .args in
+    later-stop (a .g) (now (a .tables)) (a .state) (a .n) (now (a .values)) (now (a .store)) (s .pre .0) (sym (tested o) ∙ i .if1 .left)
+    (v .advance .ensures) (v .advance .kept .0) (c .if2 .taken)
+
+body-requires : tie.Need-body-requires
+body-requires c κs =
+    let z = c .before .before in
+    let v = advanced z in
+    let i = inside v in
+    let o = i .before in
+    let s = start o in
+    let a = s .args in
+    let k = later-ready (a .g) (now (a .tables)) (a .state) (a .n) (now (a .values)) (now (a .store)) (s .pre .0) (sym (tested o) ∙ i .if1 .left)
+    (v .advance .ensures) (v .advance .kept .0) (z .if2 .left) in
+    (k, s .pre .1)
+
+returns-3 : tie.Need-returns-3
+returns-3 c =
+    let b = c .before .before in
+    let z = b .before .before .before in
+    let v = advanced z in
+    let i = inside v in
+    let o = i .before in
+    let s = start o in
+    let a = s .args in
+    later-body (a .g) (now (a .tables)) (a .state) (a .n) (now (a .values)) (now (a .store)) (s .pre .0) (sym (tested o) ∙ i .if1 .left)
+    (v .advance .ensures) (v .advance .kept .0) (z .if2 .left) (b .body .ensures)
+
+pub later-of-spec : {M : Type 1} → statement M
+later-of-spec =
+    tie.close
+    (tie.spec
+    past-requires
+    returns
+    advance-requires
+    (λ c. search needs)
+    returns-2
+    body-requires
+    (λ c. search needs)
+    returns-3)

@@ -1,0 +1,73 @@
+// RULES 7.13 to 7.16: a macroblock at its address.
+use bits::reader::Reader;
+use blocks::blocks::CodedBlocks;
+use blocks::blocks::read_blocks;
+use codes::lent::Tables;
+use heads::heads::read_head;
+use heads::heads::read_macroblock_type;
+use heads::heads::read_pattern;
+use heads::predictions::predict;
+use picture::flags::flag;
+use picture::state::Progress;
+use picture::state::Setting;
+use picture::state::SliceState;
+use prediction::predict::Predicted;
+ghost use Rattle.codes.specs.Lent.{Lent};
+ghost use Rattle.picture.specs.Macroblocks.{predictUnlessIntra, body};
+ghost use Rattle.picture.specs.Possible.{PossibleSlice};
+ghost use Rattle.picture.specs.State.{world};
+ghost use Rattle.picture.specs.Views.{given, setting, motions, worldOf, Held, Here, Ready, Went, Foretold};
+
+// RULES 7.14: prediction, unless intra.
+fn predict_unless_intra(store: &mut [u8], g: Setting, t: u32, state: SliceState) -> Predicted
+    requires { ⌜ Held g (now store) ⌝ }
+    requires { ⌜ Here g (state .«macroblock_address») ⌝ }
+    requires { ⌜ PossibleSlice (motions state) ⌝ }
+    ensures { λ r. ⌜ Foretold (predictUnlessIntra (setting g) t (world (motions state) (now (store .entry)))) r (now (store .exit)) ⌝ }
+{
+    if flag(t, 1) {
+        return Predicted::Done;
+    }
+    let address = state.macroblock_address as usize;
+    predict(store, g, address, state)
+}
+
+// Type, head, prediction, pattern, blocks.
+pub fn body(
+    s: &[u8],
+    reader: Reader,
+    store: &mut [u8],
+    values: &mut [i32; 64],
+    tables: &Tables,
+    g: Setting,
+    before: SliceState,
+) -> Progress
+    requires { ⌜ Ready g (now s) reader before (now values) (now store) ⌝ }
+    requires { ⌜ Lent (now tables) ⌝ }
+    ensures { λ r. ⌜
+        Went (body (given g (now (tables .entry))) (worldOf before (now (values .entry)) (now (store .entry))))
+        g (now (s .entry)) reader r (now (values .exit)) (now (store .exit))
+        ⌝ }
+{
+    let t = read_macroblock_type(s, reader, tables, g.picture_type);
+    let flags = t.value;
+    let h = read_head(s, t.reader, tables, g.picture_type, flags, before);
+    let from = h.reader;
+    let state = h.state;
+    let Predicted::Done = predict_unless_intra(store, g, flags, state) else {
+        return Progress {
+            reader: from,
+            state,
+            stop: 9,
+        };
+    };
+    let p = read_pattern(s, from, tables, flags);
+    let intra = flag(flags, 1);
+    let pattern = p.value;
+    let coded = CodedBlocks {
+        setting: g,
+        intra,
+        pattern,
+    };
+    read_blocks(s, p.reader, store, values, tables, coded, state)
+}
