@@ -1,0 +1,3 @@
+pub mod PictureLoop
+pub mod SliceLoop
+pub mod Turning

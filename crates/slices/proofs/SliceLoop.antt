@@ -1,0 +1,186 @@
+-- A slice: its extra bytes, its start, and the loop over its macroblocks. Assumes nothing.
+use mathlib.Core.Path.{_≡_, refl, sym, _∙_}
+use mathlib.Core.Bool.{Bool, true, false, cond, false≢true}
+use mathlib.Core.List.{List}
+use Prim.Native.Nat.{ℕ, _+_, _-_, _*_, _≤_, _<_}
+use native.Mathlib.Nat.{mul-le-mul}
+use native.Mathlib.Omega.{arith}
+use borrow.Author.Tests.{eq-eqb, ne-eqb}
+use lib.IntN.{ℤ, pos, _+ℤ_, _-ℤ_}
+use lib.ListN.{length}
+use lib.Signed.{leZ}
+use mir.Syntax.{w32}
+use mir.Val.{SFits, toZ, ofZ}
+use mir.Facts.{toZ-ofZ}
+use Rattle.laws.specs.Turns.{again, stop}
+use Rattle.laws.proofs.Ints.{Dif, v, lit, _⊕_, _⊖_, low, eq-by, yes-le, fits-by}
+use Rattle.laws.proofs.Tests.{both}
+use Rattle.bits.specs.declared.reader.Reader.{Reader}
+use Rattle.bits.specs.Programs.{bits, reads, skips, nonZero, many, done}
+use Rattle.bits.specs.Runs.{Runs, Inside, Reading}
+use Rattle.bits.proofs.Gives.{given-by, g-bits}
+use Rattle.bits.proofs.Rules.{Loops, loop-start, loop-on, loop-end, r-call, r-yes, r-no, r-done, r-reads}
+use Rattle.picture.specs.State.{World}
+use Rattle.picture.specs.Ways.{Way, on}
+use Rattle.picture.specs.Possible.{PossibleSlice}
+use Rattle.picture.specs.Macroblocks.{macroblock}
+use Rattle.picture.specs.Slices.{slicing, extraTurn, extra, pastMacroblock, sliceTurn, slice}
+use Rattle.picture.proofs.Possible.{between-of, between-by}
+use Rattle.picture.proofs.Syntax.{still-kept, predictors-reset}
+use Rattle.picture.proofs.Fuel.{extra-takes, slice-takes}
+use Rattle.picture.specs.declared.state.Setting.{Setting}
+use Rattle.picture.specs.declared.state.SliceState.{SliceState}
+use Rattle.picture.specs.declared.state.Progress.{Progress}
+use Rattle.picture.specs.Views.{given, sliceOf, worldOf, onTurn, startOf, macroblocks, Held, Reads, Adds, Awaits, Passed, GoesOn, Sliced}
+use Rattle.picture.proofs.Ways.{way-out}
+
+-- ---- the extra bytes
+
+pub record AtExtra (s : List ℕ) (from₀ from : Reader) : Type 0 where
+  pub inside : Inside s from
+  pub rest : Loops many extraTurn tt tt s (from₀ .at .0) tt (from .at .0) (length s * 8 - from .at .0)
+
+pub at-extra : {s : List ℕ} {from : Reader} → Inside s from → AtExtra s from from
+at-extra i = record { inside = i; rest = loop-start (omega (arith, i .stream)) }
+
+module _ {s : List ℕ} {from₀ from to : Reader} (i : AtExtra s from₀ from) {b : ℕ} (r : Reading (bits 1) s from b to) where
+  pub extra-end : b ≡ 0 → Reading extra s from₀ tt to
+  unfolding extra extraTurn
+  extra-end h = record { runs = loop-end (i .rest) (r-call _ (r .runs) (r-yes _ (eq-eqb b 0 h) r-done)); inside = r .inside }
+
+  module _ (h : b ≡ 0 → ⊥) {next : Reader} (q : Reading (skips 8) s to tt next) where
+    extra-turn : Runs (extraTurn tt) s (from .at .0) (again tt) (next .at .0)
+    unfolding extraTurn
+    extra-turn = r-call _ (r .runs) (r-no _ (ne-eqb b 0 h) (r-call _ (q .runs) r-done))
+
+    pub extra-less : length s * 8 - next .at .0 < length s * 8 - from .at .0
+    extra-less = let k = rw (extra-turn .is) at (extra-takes s tt (from .at .0)) in omega arith
+
+    pub extra-on : AtExtra s from₀ next
+    extra-on = record { inside = q .inside; rest = loop-on (i .rest) extra-turn extra-less }
+
+-- ---- the start
+
+module _ (number width : ℕ) (h : number ≤ 175) (k : width ≤ 256) where
+  pub rows : (number - 1) * width ≤ 44544
+  rows = let m : number - 1 ≤ 174 = omega arith in omega (arith, mul-le-mul m k)
+
+  pub rows-fit : SFits w32 (pos ((number - 1) * width))
+  rows-fit = fits-by (lit ((number - 1) * width)) (omega (arith, rows)) (omega arith)
+
+  -- the address, as the code has it
+  start-dif : Dif (toZ w32 ((number - 1) * width) -ℤ pos 1) ((number - 1) * width + 0) (0 + 1)
+  start-dif = low w32 ((number - 1) * width) ((number - 1) * width) refl (omega (arith, rows)) ⊖ lit 1
+
+  pub start-fits : SFits w32 (toZ w32 ((number - 1) * width) -ℤ pos 1)
+  start-fits = fits-by start-dif (omega (arith, rows)) (omega arith)
+
+  pub start-is : toZ w32 (ofZ w32 (toZ w32 ((number - 1) * width) -ℤ pos 1)) ≡ pos ((number - 1) * width) -ℤ pos 1
+  start-is = toZ-ofZ start-fits ∙ eq-by start-dif (lit ((number - 1) * width) ⊖ lit 1) refl
+
+module _ {s : List ℕ} {reader from to : Reader} {g : Setting} {x : SliceState} {left : List ℤ} {store : List ℕ} (k : Reads s reader x left)
+    (held : Held g store) (number : ℕ) (h : number ≤ 175) {q : ℕ} (r : Reading (reads 5) s reader q from) (e : Reading extra s from tt to) where
+  scale-read : Runs (bits 5) s (reader .at .0) q (from .at .0)
+  scale-read = r-reads 5 (omega arith) (r .runs)
+
+  pub start-awaits : Awaits g s to true (startOf g number q x) left store
+  start-awaits =
+      let a = lit ((number - 1) * g .sizes .«mb_width») ⊖ lit 1 in
+      let m = rows number (g .sizes .«mb_width») h (held .across) in
+      let z = still-kept (k .slice) in
+      record {
+        reads = record {
+          inside = e .inside;
+          slice = record {
+            scale = omega (arith, given-by (g-bits 5) scale-read);
+            address = between-by 1 402700000 a (omega arith) (omega arith);
+            forward = z .forward;
+            backward = z .backward;
+            predictors = predictors-reset;
+            block = k .slice .block;
+          };
+        };
+        held = held;
+        begins = λ z. yes-le a (lit 44543) (omega arith);
+        later = λ z. absurd (false≢true (sym z));
+      }
+
+  pub slice-runs : (tables : List ℤ) {y : SliceState} → y ≡ startOf g number q x → {w : Way World} {end : ℕ}
+      → Runs (macroblocks (given g tables) (on (worldOf x left store)) (worldOf y left store)) s (to .at .0) w end
+      → Runs (slice (given g tables) number (worldOf x left store)) s (reader .at .0) w end
+  unfolding slice
+  slice-runs tables i m = r-call _ scale-read (r-call _ (e .runs) (rw i at m))
+
+-- ---- behind a macroblock
+
+pub adds-one : {x : SliceState} {left : List ℤ} → PossibleSlice (sliceOf x left) → Adds (x .«macroblock_address») 1
+adds-one {x} k =
+    let a = x .«macroblock_address» in
+    let b = between-of 1 402700000 (v a) (k .address) in
+    record { from = both _ _ (k .address) .0; to = yes-le (v a ⊕ lit 1) (lit 402800000) (omega arith) }
+
+module _ {g : Setting} {s : List ℕ} {reader : Reader} {x : SliceState} {n : ℕ} where
+  pub goes-stop : (n ≡ 0 → ⊥) → GoesOn g s reader x n false
+  unfolding pastMacroblock
+  goes-stop h =
+      record { runs = λ tables left store. rw (way-out (worldOf x left store) store h) r-done; later = λ z. absurd (false≢true z) }
+
+  pub goes-last : n ≡ 0 → leZ (pos (g .sizes .«mb_size»)) (x .«macroblock_address» +ℤ pos 1) ≡ true → GoesOn g s reader x n false
+  unfolding pastMacroblock
+  goes-last z e = record { runs = λ tables left store. rw z (r-yes _ e r-done); later = λ z. absurd (false≢true z) }
+
+  pub goes-more : n ≡ 0 → leZ (pos (g .sizes .«mb_size»)) (x .«macroblock_address» +ℤ pos 1) ≡ false → {more : Bool} {to : Reader}
+      → Reading (nonZero 23) s reader more to → to ≡ reader → GoesOn g s reader x n more
+  unfolding pastMacroblock
+  goes-more z e {more} r same =
+      record {
+        runs = λ tables left store. rw z (r-no _ e (r-call _ (rw same at (r .runs)) (picked more (worldOf x left store) store)));
+        later = λ m. e;
+      }
+    where
+      picked : (t : Bool) (w : World) (store : List ℕ)
+          → Runs (cond t (done (again (slicing false w))) (done (stop (on w)))) s (reader .at .0) (onTurn t 0 w store) (reader .at .0)
+      picked true w store = r-done
+      picked false w store = r-done
+
+-- ---- the loop
+
+-- before a macroblock, at `from`
+pub record AtMacroblock (g : Setting) (tables : List ℤ) (s : List ℕ) (from₀ : Reader) (x₀ : SliceState) (left₀ : List ℤ) (store₀ : List ℕ)
+    (first : Bool) (from : Reader) (x : SliceState) (left : List ℤ) (store : List ℕ) : Type 0 where
+  pub awaits : Awaits g s from first x left store
+  pub long : length store ≡ length store₀
+  pub rest : (w₀ : Way World)
+      → Loops many (sliceTurn (given g tables)) w₀ (slicing true (worldOf x₀ left₀ store₀)) s (from₀ .at .0)
+      (slicing first (worldOf x left store)) (from .at .0) (length s * 8 - from .at .0)
+
+pub at-macroblock : {g : Setting} {tables : List ℤ} {s : List ℕ} {from : Reader} {x : SliceState} {left : List ℤ} {store : List ℕ}
+    → Awaits g s from true x left store → AtMacroblock g tables s from x left store true from x left store
+at-macroblock k = record { awaits = k; long = refl; rest = λ w₀. loop-start (omega (arith, k .reads .inside .stream)) }
+
+module _ {g : Setting} {tables : List ℤ} {s : List ℕ} {from₀ : Reader} {x₀ : SliceState} {left₀ : List ℤ} {store₀ : List ℕ}
+    {first : Bool} {from : Reader} {x : SliceState} {left : List ℤ} {store : List ℕ}
+    (i : AtMacroblock g tables s from₀ x₀ left₀ store₀ first from x left store) {m : Progress} {left₁ : List ℤ} {store₁ : List ℕ}
+    (p : Passed (macroblock (given g tables) first (worldOf x left store)) g s from m left₁ store₁)
+    {more : Bool} (q : GoesOn g s (m .reader) (m .state) (m .stop) more) where
+  macroblock-turn : Runs (sliceTurn (given g tables) (slicing first (worldOf x left store))) s (from .at .0)
+      (onTurn more (m .stop) (worldOf (m .state) left₁ store₁) store₁) (m .reader .at .0)
+  unfolding sliceTurn
+  macroblock-turn = r-call _ (p .runs) (q .runs tables left₁ store₁)
+
+  pub slice-end : more ≡ false → Sliced (λ w₀. macroblocks (given g tables) w₀ (worldOf x₀ left₀ store₀)) g s from₀ m left₁ store₁
+  slice-end e =
+      record { passed = λ w₀. record { runs = loop-end (i .rest w₀) (rw e at macroblock-turn); reads = p .reads; held = p .held } }
+
+  pub slice-less : more ≡ true → length s * 8 - m .reader .at .0 < length s * 8 - from .at .0
+  slice-less e =
+      let k = rw ((rw e at macroblock-turn) .is) at (slice-takes (given g tables) s (slicing first (worldOf x left store)) (from .at .0)) in
+      omega arith
+
+  pub slice-on : more ≡ true → length store₁ ≡ length store
+      → AtMacroblock g tables s from₀ x₀ left₀ store₀ false (m .reader) (m .state) left₁ store₁
+  slice-on e l = record {
+    awaits = record { reads = p .reads; held = p .held; begins = λ z. absurd (false≢true z); later = λ z. q .later e };
+    long = l ∙ i .long;
+    rest = λ w₀. loop-on (i .rest w₀) (rw e at macroblock-turn) (slice-less e);
+  }

@@ -1,0 +1,39 @@
+// RULES 7.1 to 7.4, 8.4: a whole picture, from behind its start code on.
+use crate::headers::read_picture_header;
+use crate::turns::read_coded;
+use bits::reader::Reader;
+use picture::state::Matrices;
+use picture::state::Picture;
+use picture::state::PictureProgress;
+use picture::state::Sizes;
+ghost use Rattle.bits.specs.Runs.{Inside};
+ghost use Rattle.picture.specs.Possible.{PossiblePicture};
+ghost use Rattle.picture.specs.Pictures.{picture};
+ghost use Rattle.picture.specs.Views.{settingOf, Held, Coded};
+
+// One that is not decoded ends behind its header.
+pub fn read_picture(
+    s: &[u8],
+    reader: Reader,
+    store: &mut [u8],
+    sizes: Sizes,
+    matrices: Matrices,
+    p: Picture,
+) -> PictureProgress
+    requires { ⌜ Inside (now s) reader ⌝ }
+    requires { ⌜ PossiblePicture p ⌝ }
+    requires { ⌜ Held (settingOf p sizes (p .stores)) (now store) ⌝ }
+    ensures { λ r. ⌜ Coded (picture sizes matrices p (now (store .entry))) (now (s .entry)) reader r (now (store .exit)) ⌝ }
+{
+    let h = read_picture_header(s, reader, p);
+    let from = h.reader;
+    let headed = h.picture;
+    if h.decoded {
+        return read_coded(s, from, store, sizes, matrices, headed);
+    }
+    PictureProgress {
+        reader: from,
+        picture: headed,
+        stop: 0,
+    }
+}
