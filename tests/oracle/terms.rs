@@ -58,6 +58,12 @@ fn words(text: &str) -> Vec<String> {
     spaced.split_whitespace().map(String::from).collect()
 }
 
+// Does the item go on in the next line: with a bracket open, or behind a sign between two terms?
+fn goes_on(item: &str) -> bool {
+    let open = |from: char, to: char| item.matches(from).count() != item.matches(to).count();
+    open('{', '}') || open('(', ')') || ["∷", "++"].iter().any(|sign| item.trim_end().ends_with(sign))
+}
+
 impl File {
     pub fn read(text: &str) -> File {
         let mut file = File::default();
@@ -67,7 +73,7 @@ impl File {
                 continue;
             }
             item.push_str(line);
-            if item.matches('{').count() == item.matches('}').count() {
+            if !goes_on(&item) {
                 file.add(&words(&std::mem::take(&mut item)));
             }
         }
