@@ -3,6 +3,9 @@ pub mod Listing
 pub mod HeaderEdge
 pub mod Rows
 pub mod TwoTurns
+pub mod Clearing
+pub mod Seeking
+pub mod Fits
 pub mod Numbers
 pub mod Seven
 pub mod Cleared

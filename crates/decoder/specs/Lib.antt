@@ -1,6 +1,7 @@
 pub mod Record
 pub mod Answers
 pub mod Possible
+pub mod Fit
 pub mod Sequences
 pub mod Headers
 pub mod Opening
