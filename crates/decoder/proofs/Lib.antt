@@ -1,3 +1,4 @@
+pub mod Sizing
 pub mod Starts
 pub mod Listing
 pub mod HeaderEdge
