@@ -1,3 +1,5 @@
+pub mod Entries
+pub mod Floats
 pub mod Sizing
 pub mod Starts
 pub mod Listing

@@ -2,3 +2,4 @@
 pub mod answers;
 pub mod possible;
 pub mod record;
+pub mod sequences;
