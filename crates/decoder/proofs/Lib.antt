@@ -1,5 +1,6 @@
 pub mod Entries
 pub mod Floats
+pub mod Asking
 pub mod Sizing
 pub mod Starts
 pub mod Listing

@@ -2,6 +2,7 @@ pub mod Record
 pub mod Answers
 pub mod Possible
 pub mod Fit
+pub mod Asking
 pub mod Sequences
 pub mod Headers
 pub mod Opening

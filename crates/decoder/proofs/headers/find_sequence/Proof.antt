@@ -1,0 +1,44 @@
+use mathlib.Core.Path.{refl, sym, _∙_}
+use lib.IntN.{pos}
+use mir.Syntax.{w32}
+use mir.Facts.{toZ-ofZ}
+use Rattle.decoder.specs.Headers.{findSequence}
+use Rattle.decoder.proofs.Seeking.{seek-has, seek-finds}
+use Rattle.decoder.proofs.Fits.{fit-searched}
+use borrow.Author.Needs.{needs, sfits-of}
+use Rattle.decoder.proofs.headers.find_sequence.Statement.{statement}
+use Rattle.decoder.proofs.headers.find_sequence.Tie as tie
+
+has-code-requires : tie.Need-has-code-requires
+has-code-requires c κs = search needs
+
+returns : tie.Need-returns
+unfolding findSequence
+returns c =
+    let h = c .before in
+    let s = h .before .before in
+    (seek-has (pos 0xb3) _ (s .args .d) (sym (h .has-code .ensures) ∙ c .if1 .taken), s .pre .0)
+
+find-start-code-requires : tie.Need-find-start-code-requires
+find-start-code-requires c κs = search needs
+
+searched-as-requires : tie.Need-searched-as-requires
+searched-as-requires c κs = search needs
+
+returns-2 : tie.Need-returns-2
+unfolding findSequence
+returns-2 c =
+    let f = c .before .before in
+    let h = f .before .before in
+    let s = h .before .before in
+    let r = f .find-start-code .ensures .0 in
+    let k = f .find-start-code .result .code in
+    rw (c .searched-as .ensures, toZ-ofZ {w = w32} {z = k} (sfits-of (c .before .struct-told .given .1 .0 .1))) (
+      seek-finds (pos 0xb3) _ (s .args .d) (sym (h .has-code .ensures) ∙ f .before .if1 .left) (r .runs),
+      fit-searched (pos 0xb3) refl (s .pre .0) r,
+    )
+
+pub find-sequence-spec : {M : Type 1} → statement M
+find-sequence-spec =
+    tie.close
+    (tie.spec has-code-requires returns find-start-code-requires searched-as-requires returns-2)
