@@ -157,10 +157,9 @@ module _ {d : Decoder} (c : ℤ) (b : between (negℤ (pos 1)) (pos 255) c ≡ t
     count = f .count;
   }
 
+  pub fit-found : {s : List ℕ} {o : Out ℤ} → Sought c s (place d) o → o .at ≤ 134217728 → Fit (searchedAs (o .value) (o .at) d)
+  fit-found (hit x y z) h = placed h (rw x b)
+  fit-found (miss x y) h = placed h (rw x refl)
+
   pub fit-searched : {s : List ℕ} {k : ℤ} {to : Reader} → Reading (findStartCode c) s (d .reader) k to → Fit (searchedAs k (to .at .0) d)
-  fit-searched {s} {k} {to} r =
-      go (subst (Sought c s (place d)) (r .runs .is) (sought c s (place d) (r .inside .stream)))
-    where
-      go : Sought c s (place d) (record { value = k; at = to .at .0 }) → Fit (searchedAs k (to .at .0) d)
-      go (hit x y z) = placed (r .inside .place) (rw x b)
-      go (miss x y) = placed (r .inside .place) (rw x refl)
+  fit-searched {s} r = fit-found (subst (Sought c s (place d)) (r .runs .is) (sought c s (place d) (r .inside .stream))) (r .inside .place)

@@ -11,6 +11,8 @@ pub mod TwoTurns
 pub mod Clearing
 pub mod Seeking
 pub mod Fits
+pub mod Showing
+pub mod Turning
 pub mod Numbers
 pub mod Seven
 pub mod Cleared

@@ -7,6 +7,7 @@ pub mod Sequences
 pub mod Headers
 pub mod Opening
 pub mod Turns
+pub mod Turned
 pub mod HandOut
 pub mod Conversion
 pub mod Listing

@@ -5,3 +5,4 @@ pub mod opening;
 pub mod possible;
 pub mod record;
 pub mod sequences;
+pub mod turns;

@@ -7,8 +7,5 @@ use Rattle.decoder.proofs.record.store_bytes.Tie as tie
 mul-result : tie.Need-mul-result
 mul-result c = let f = c .pre in omega (arith, f .size, mul-le-mul (f .across) (f .down))
 
-returns : tie.Need-returns
-returns c = search needs
-
 pub store-bytes-spec : {M : Type 1} → statement M
-store-bytes-spec = tie.close (tie.spec mul-result returns)
+store-bytes-spec = tie.close (tie.spec mul-result (λ c. search needs))
