@@ -2,6 +2,7 @@ pub mod Entries
 pub mod Floats
 pub mod Asking
 pub mod Openings
+pub mod Converting
 pub mod Sizing
 pub mod Starts
 pub mod Listing
