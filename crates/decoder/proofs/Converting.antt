@@ -69,6 +69,10 @@ picture-whole d l k h m q =
       rw (← f .size, long Cb) (omega arith),
     )
 
+-- RULES Q11: what an area with room for the picture keeps to
+pub room-of : (w h : ℕ) (a : List ℕ) → fits w h a ≡ true → (w ≤ 4096) × (h ≤ 4096) × (w * h ≤ length a)
+room-of w h a e = let z = each _ (_ ∷ _ ∷ []) e in (leb-true _ _ (z 0), leb-true _ _ (z 1), leb-true _ _ (z 2))
+
 -- RULES Q: the answers, in the order of the questions
 module _ (d : Decoder) (l : List ℕ) (k : ℕ) (a : List ℕ) (w h : ℕ) where
   pub convert-2 : possible d ≡ false → area (Refused 2) a ≡ converted d l k a w h

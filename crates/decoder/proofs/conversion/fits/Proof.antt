@@ -5,16 +5,16 @@ use Rattle.decoder.proofs.conversion.fits.Statement.{statement}
 use Rattle.decoder.proofs.conversion.fits.Tie as tie
 
 returns : tie.Need-returns
-returns c = rw (lt-leb _ _ (c .if1 .taken))
+returns c = let a = c .before .args in rw (lt-leb (a .w) 4096 (omega arith))
 
 returns-2 : tie.Need-returns-2
-returns-2 c = rw (le-leb _ _ (c .before .if1 .left), lt-leb _ _ (c .if2 .taken))
+returns-2 c = let a = c .before .before .args in rw (le-leb (a .w) 4096 (omega arith), lt-leb (a .h) 4096 (omega arith))
 
 mul-result : tie.Need-mul-result
 mul-result c = omega (arith, mul-le-mul-left (c .before .before .args .w) (c .if2 .left))
 
 returns-3 : tie.Need-returns-3
-returns-3 c = rw (le-leb _ _ (c .before .if1 .left), le-leb _ _ (c .if2 .left))
+returns-3 c = let a = c .before .before .args in rw (le-leb (a .w) 4096 (omega arith), le-leb (a .h) 4096 (omega arith))
 
 pub fits-spec : {M : Type 1} → statement M
 fits-spec = tie.close (tie.spec returns returns-2 mul-result returns-3)

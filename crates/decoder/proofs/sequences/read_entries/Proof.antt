@@ -38,7 +38,7 @@ cast-matrix : tie.Need-cast-matrix Inv-loop μ-loop
 cast-matrix c = omega (arith, given-by (g-reads 8) (c .before .before .read .ensures .runs))
 
 array-write-matrix : tie.Need-array-write-matrix Inv-loop μ-loop
-array-write-matrix c = let l = c .before .before .before .before in inside (l .before) (l .loop .i)
+array-write-matrix c = let l = c .before .before .before .before in omega (arith, inside (l .before) (l .loop .i))
 
 add-i : tie.Need-add-i Inv-loop μ-loop
 add-i c = omega arith
@@ -51,7 +51,7 @@ loop-again c =
     let r = c .before .before in
     let l = r .before .before in
     let e = r .read .ensures in
-    rw (l .before .zig-zag .ensures)
+    rw (← l .before .zig-zag .ensures) at
     (entry-on (l .loop .inv) (r .before .loop-test .taken) (record { runs = r-reads 8 (omega arith) (e .runs); inside = e .inside }))
 
 returns : tie.Need-returns Inv-loop μ-loop

@@ -1,17 +1,17 @@
 use mathlib.Core.Path.{_≡_, refl, ap, sym, _∙_}
 use mathlib.Core.Bool.{Bool, true, not, _&&_, Bool·not-not}
-use mathlib.Core.List.{[], _∷_}
 use Prim.Native.Nat.{_≤_}
+use native.Mathlib.Omega.{arith}
 use borrow.Author.Needs.{needs}
 use borrow.Author.Tests.{leb-true}
 use lib.Dec.{leb}
 use lib.ListN.{length}
-use Rattle.laws.proofs.Tests.{both, each}
+use Rattle.laws.proofs.Tests.{both}
 use Rattle.decoder.specs.Record.{storeBytes}
 use Rattle.decoder.specs.Possible.{possible}
 use Rattle.decoder.specs.Conversion.{fits}
 use Rattle.decoder.proofs.Fits.{fit-of}
-use Rattle.decoder.proofs.Converting.{headed, convert-2, convert-6, convert-10, convert-11, convert-yes}
+use Rattle.decoder.proofs.Converting.{headed, room-of, convert-2, convert-6, convert-10, convert-11, convert-yes}
 use Rattle.decoder.proofs.record.Decoder.write_rgb_scaled.Statement.{statement}
 use Rattle.decoder.proofs.record.Decoder.write_rgb_scaled.Tie as tie
 
@@ -76,11 +76,12 @@ write-picture-requires c κs =
     let j = t .before in
     let i = j .before .before in
     let r = both _ _ (behind-10 t) in
-    let z = each _ (_ ∷ _ ∷ []) (behind-11 g) in (
-      headed (call (i .before) .args .self) (behind-2 i) (r .0),
+    let a = call (i .before) .args in
+    let z = room-of (a .w) (a .h) (a .area .now) (behind-11 g) in (
+      headed (a .self) (behind-2 i) (r .0),
       (
         behind-6 j,
-        (leb-true _ _ (r .1), leb-true _ _ (z 0), leb-true _ _ (z 1), leb-true _ _ (z 2)),
+        (leb-true _ _ (r .1), omega (arith, z .0), omega (arith, z .1), omega (arith, z .2)),
       ),
     )
 
