@@ -7,7 +7,7 @@ use native.Mathlib.Omega.{arith}
 use native.Mathlib.Nat.{mul-le-mul}
 use borrow.Author.Tests.{le-leb, lt-leb, leb-true, eqb-true}
 use borrow.Rule.Slice.PartMut.{midOf}
-use lib.Dec.{eqb, leb}
+use lib.Dec.{leb}
 use lib.ListN.{length}
 use Rattle.laws.proofs.Lists.{length-mid}
 use Rattle.laws.proofs.Tests.{each}
@@ -20,7 +20,7 @@ use Rattle.argb.proofs.Store.{store-whole}
 use Rattle.decoder.specs.declared.record.Decoder.{Decoder}
 use Rattle.decoder.specs.declared.answers.Converted.the-variants.{Written, Refused}
 use Rattle.decoder.specs.Record.{storeBytes}
-use Rattle.decoder.specs.Possible.{across, sizesOf, sameSizes, possible}
+use Rattle.decoder.specs.Possible.{sizesOf, sameSizes, possible}
 use Rattle.decoder.specs.Conversion.{area, fits, pictureIn, converted}
 use Rattle.decoder.specs.Fit.{Fit}
 use Rattle.decoder.specs.Headed.{Headed}
