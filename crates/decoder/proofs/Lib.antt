@@ -14,6 +14,7 @@ pub mod Seeking
 pub mod Fits
 pub mod Showing
 pub mod Turning
+pub mod HandingOut
 pub mod Numbers
 pub mod Seven
 pub mod Cleared
