@@ -115,7 +115,8 @@ module _ (s : List ℕ) (d : Decoder) (l : List ℕ) where
         hand-no zero g e = absurd (g refl)
         hand-no (suc n) g e = rw (le-leb _ _ h, p, eq-eqb _ _ z, ← e)
 
-        pub hand-on : (n : ℕ) → n ≡ 0 → asked n x ≡ askFirst s d l → {r : Left Outcome} → r ≡ ended d (pictures s (begun d x l)) → r ≡ handOut d s l
+        pub hand-on : (n : ℕ) → n ≡ 0 → asked n x ≡ askFirst s d l → {r : Left Outcome}
+            → r ≡ ended d (pictures s (begun d x l)) → r ≡ handOut d s l
         unfolding handOut goOn
         hand-on zero g e f = rw (le-leb _ _ h, p, eq-eqb _ _ z, ← e) f
         hand-on (suc n) g e f = absurd (omega arith)
