@@ -6,8 +6,6 @@ pub mod Converting
 pub mod Sizing
 pub mod Starts
 pub mod Listing
-pub mod HeaderEdge
-pub mod Rows
 pub mod TwoTurns
 pub mod Clearing
 pub mod Seeking
@@ -15,13 +13,7 @@ pub mod Fits
 pub mod Showing
 pub mod Turning
 pub mod HandingOut
-pub mod Numbers
-pub mod Seven
 pub mod Cleared
 pub mod Example
 pub mod Converts
 pub mod Searches
-pub mod RunTurns
-pub mod RunOpened
-pub mod Run
-pub mod Lines

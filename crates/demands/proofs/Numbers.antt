@@ -13,23 +13,23 @@ use Rattle.bits.specs.Bits.{has}
 use Rattle.bits.specs.Programs.{eqZ}
 use Rattle.laws.proofs.Tests.{by-case}
 use Rattle.picture.specs.Pictures.{picture}
 use Rattle.decoder.specs.declared.record.Decoder.{Decoder}
 use Rattle.decoder.specs.declared.answers.Opening.{Opening}
 use Rattle.decoder.specs.declared.answers.Opening.the-variants as O
 use Rattle.decoder.specs.declared.answers.Outcome.{Outcome}
 use Rattle.decoder.specs.declared.answers.Outcome.the-variants as H
 use Rattle.decoder.specs.declared.answers.Converted.{Converted}
 use Rattle.decoder.specs.declared.answers.Converted.the-variants as C
 use Rattle.decoder.specs.Record.{Left, left, fresh, place, startCode, stopAs, storeBytes}
 use Rattle.picture.specs.Possible.{possiblePicture}
 use Rattle.decoder.specs.Possible.{possibleSequence, possible, possibleWith}
 use Rattle.decoder.specs.Headers.{Asked, refused, passed, findSequence, askSize, askHeader, askStore}
 use Rattle.decoder.specs.Opening.{opened, openingFrom, opening}
 use Rattle.decoder.specs.Turns.{Ended, gave, stopped}
 use Rattle.decoder.specs.HandOut.{pictures, ended, askFirst, begun, goOn, handOut}
 use Rattle.decoder.specs.Conversion.{Area, area, fits, converted}
-use Rattle.decoder.proofs.Rows.{withSize}
-use Rattle.decoder.proofs.Seven.{Seven, End, pictures-end}
+use Rattle.demands.proofs.Rows.{withSize}
+use Rattle.demands.proofs.Seven.{Seven, End, pictures-end}
 
 unfoldable pub among : ℕ → List ℕ → Bool
 among n [] = false

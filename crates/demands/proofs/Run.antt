@@ -9,21 +9,21 @@ use native.Mathlib.Omega.{arith}
 use lib.ListN.{length, getD}
 use borrow.Author.Tests.{le-leb, eq-eqb}
 use Rattle.laws.proofs.Loops.{turns-stop}
 use Rattle.decoder.specs.declared.record.Decoder.{Decoder}
 use Rattle.decoder.specs.declared.answers.Opening.the-variants as O
 use Rattle.decoder.specs.declared.answers.Outcome.{Outcome}
 use Rattle.decoder.specs.declared.answers.Outcome.the-variants as H
 use Rattle.decoder.specs.Record.{Left, left, place, stopAs, storeBytes, cleared}
 use Rattle.decoder.specs.Possible.{possible, possibleWith}
 use Rattle.decoder.specs.Headers.{refused, passed, askHeader, askStore}
 use Rattle.decoder.specs.Opening.{opening}
 use Rattle.decoder.specs.Turns.{Going, going, Ended, gave, stopped, pictureTurn}
 use Rattle.decoder.specs.HandOut.{pictures, ended, askFirst, begun, handOut}
 use Rattle.decoder.specs.Run.{call, behind, begin, before, answer, pictureIn, handedOut}
-use Rattle.decoder.proofs.Rows.{Begins, hand-mark, hand-passed}
-use Rattle.decoder.proofs.RunOpened.{ready-keeps}
-use Rattle.decoder.proofs.Seven.{numberOf, not-picture, not-seven}
-use Rattle.decoder.proofs.RunTurns.{Keeps, Stuck, Ends, hands, flushes, seven, stops, pictures-row}
+use Rattle.demands.proofs.Rows.{Begins, hand-mark, hand-passed}
+use Rattle.demands.proofs.RunOpened.{ready-keeps}
+use Rattle.demands.proofs.Seven.{numberOf, not-picture, not-seven}
+use Rattle.demands.proofs.RunTurns.{Keeps, Stuck, Ends, hands, flushes, seven, stops, pictures-row}
 
 -- ---- question 2
 

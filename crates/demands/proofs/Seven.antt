@@ -15,17 +15,17 @@ use Rattle.laws.proofs.Tests.{by-case}
 use Rattle.picture.specs.Ways.{Way, on, out}
 use Rattle.picture.specs.Pictures.{Frame, picture}
 use Rattle.picture.proofs.Kept.{Ends, SameLength, picture-leaves}
 use Rattle.decoder.specs.declared.record.Decoder.{Decoder}
 use Rattle.decoder.specs.declared.answers.Shown.{Shown}
 use Rattle.decoder.specs.declared.answers.Outcome.{Outcome}
 use Rattle.decoder.specs.declared.answers.Outcome.the-variants as H
 use Rattle.decoder.specs.Record.{Left, place, startCode}
 use Rattle.decoder.specs.Headers.{passed}
 use Rattle.decoder.specs.Turns.{Going, Ended, gave, stopped, nextPicture, hasEnded, isFollowed, isReference}
 use Rattle.decoder.specs.Turns.{handed, shown, flushed, pastPicture, decoded, searched, pictureTurn}
 use Rattle.decoder.specs.HandOut.{pictures, ended, askFirst, begun, handOut}
-use Rattle.decoder.proofs.Rows.{Begins, hand-passed}
+use Rattle.demands.proofs.Rows.{Begins, hand-passed}
 use Rattle.decoder.proofs.TwoTurns.{Holds, isStop, goes-held, held-stops}
 
 -- the turn that answers 7 was given x
 abbrev pub Searched : List ℕ → Going → Decoder → List ℕ → Type 0

@@ -15,16 +15,16 @@ use Rattle.bits.proofs.Start.{found-here}
 use Rattle.bits.proofs.Programs.{served-has, refused-has}
 use Rattle.bits.proofs.Rules.{r-call, r-done, is-start, loop-start, loop-end}
 use Rattle.laws.proofs.Tests.{by-case}
 use Rattle.decoder.specs.declared.record.Decoder.{Decoder}
 use Rattle.decoder.specs.declared.answers.Opening.{Opening}
 use Rattle.decoder.specs.declared.answers.Opening.the-variants as O
 use Rattle.decoder.specs.Record.{Left, left, fresh, place, searchedAs, storeBytes}
 use Rattle.decoder.specs.Sequences.{size}
 use Rattle.decoder.specs.Headers.{refused, passed, findSequence, sized, askSize, askHeader, askStore}
 use Rattle.decoder.specs.Opening.{opened, openingFrom, opening}
 use Rattle.decoder.proofs.Starts.{Starts, fresh-starts}
-use Rattle.decoder.proofs.Rows.{opening-refused}
-use Rattle.decoder.proofs.Numbers.{among}
+use Rattle.demands.proofs.Rows.{opening-refused}
+use Rattle.demands.proofs.Numbers.{among}
 
 -- a sequence start code and the bytes t
 abbrev pub begins : List ℕ → List ℕ

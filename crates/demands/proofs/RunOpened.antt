@@ -17,18 +17,18 @@ use Rattle.picture.specs.declared.state.Picture.{Picture}
 use Rattle.picture.specs.State.{startCodeAs, storesAs}
 use Rattle.picture.specs.Possible.{possiblePicture}
 use Rattle.picture.proofs.Possible.{stores-of, picture-of, picture-by}
 use Rattle.decoder.specs.declared.record.Decoder.{Decoder}
 use Rattle.decoder.specs.declared.answers.Opening.{Opening}
 use Rattle.decoder.specs.declared.answers.Opening.the-variants as O
 use Rattle.decoder.specs.Record.{Left, firstStores, searchedAs, storeBytes, cleared}
 use Rattle.decoder.specs.Possible.{across, sizesOf, sameSizes}
 use Rattle.decoder.specs.Sequences.{size, rest}
 use Rattle.decoder.specs.Headers.{Asked, refused, passed, findSequence, accepted, askSize, askHeader, askStore}
 use Rattle.decoder.specs.Opening.{opened, openingFrom, opening}
 use Rattle.decoder.proofs.Starts.{Starts, fresh-starts}
 use Rattle.decoder.proofs.Searches.{Sought, hit, miss, sought}
 use Rattle.decoder.proofs.Cleared.{cleared-length}
-use Rattle.decoder.proofs.RunTurns.{Keeps}
+use Rattle.demands.proofs.RunTurns.{Keeps}
 
 -- RULES O.3: width and height are numbers of 12 bits
 twelve : (s : List ℕ) (a : ℕ) → got s a 12 ≤ 4095

@@ -5,15 +5,15 @@ use Prim.Native.Nat.{ℕ, zero, suc, _+_, _*_, _/_, _≤_, _<_}
 use native.Mathlib.Omega.{arith}
 use lib.ListN.{length, getD}
 use Rattle.bits.specs.Programs.{many}
 use Rattle.decoder.specs.declared.record.Decoder.{Decoder}
 use Rattle.decoder.specs.declared.answers.Opening.the-variants as O
 use Rattle.decoder.specs.declared.answers.Outcome.{Outcome}
 use Rattle.decoder.specs.declared.answers.Outcome.the-variants as H
 use Rattle.decoder.specs.Opening.{opening}
 use Rattle.decoder.specs.Turns.{Going, going}
 use Rattle.decoder.specs.Run.{call, begin, pictureIn}
 use Rattle.decoder.specs.Listing.{Line, line, linesFrom}
-use Rattle.decoder.proofs.Run.{Between, call-on, few, first, short}
+use Rattle.demands.proofs.Run.{Between, call-on, few, first, short}
 
 -- the line of an answer, and those behind it
 abbrev lines : ℕ → Outcome → Decoder → List Line → List Line
