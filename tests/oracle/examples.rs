@@ -3,7 +3,7 @@ use crate::terms::{File, Value};
 use crate::video::{hand_outs, intra_quant_matrix, picture};
 use std::path::Path;
 
-const FILES: [&str; 3] = ["crates/decoder/proofs/Example.antt", "crates/decoder/proofs/Listing.antt", "crates/picture/proofs/Example.antt"];
+const FILES: [&str; 3] = ["crates/demands/proofs/Example.antt", "crates/demands/proofs/Listing.antt", "crates/picture/proofs/Example.antt"];
 
 fn made(name: &str, values: impl Into<Vec<Value>>) -> Value {
     Value::Made(name.to_string(), values.into())

@@ -5,7 +5,6 @@ pub mod Openings
 pub mod Converting
 pub mod Sizing
 pub mod Starts
-pub mod Listing
 pub mod TwoTurns
 pub mod Clearing
 pub mod Seeking
@@ -14,6 +13,4 @@ pub mod Showing
 pub mod Turning
 pub mod HandingOut
 pub mod Cleared
-pub mod Example
-pub mod Converts
 pub mod Searches

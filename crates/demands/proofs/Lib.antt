@@ -6,3 +6,6 @@ pub mod RunTurns
 pub mod RunOpened
 pub mod Run
 pub mod Lines
+pub mod Example
+pub mod Listing
+pub mod Converts
