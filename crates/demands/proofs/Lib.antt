@@ -1,3 +1,4 @@
+pub mod Questions
 pub mod Rows
 pub mod Seven
 pub mod Numbers
