@@ -1,4 +1,6 @@
 pub mod Questions
+pub mod Causes
+pub mod PictureStores
 pub mod Rows
 pub mod Seven
 pub mod Numbers

@@ -1,2 +1,5 @@
 pub mod Calls
 pub mod Questions
+pub mod Codes
+pub mod Causes
+pub mod After

@@ -1,0 +1,66 @@
+-- RULES "The numbers", QA, QG: what opening and a hand-out have left behind each number: the whole record, and every byte of the store.
+use mathlib.Core.Path.{_≡_}
+use mathlib.Core.Bool.{false}
+use mathlib.Core.List.{List}
+use mathlib.Core.Logic.{_⊎_}
+use Prim.Native.Nat.{ℕ, _+_, _*_, _≤_, _<_}
+use lib.IntN.{pos, negsuc}
+use lib.ListN.{length}
+use Rattle.laws.specs.Turns.{again}
+use Rattle.bits.specs.Bits.{bitsAt}
+use Rattle.picture.specs.Ways.{out}
+use Rattle.decoder.specs.declared.record.Decoder.{Decoder}
+use Rattle.decoder.specs.Record.{fresh, place, startCode, placeAs, sequenceAs, searchedAs, stopAs, storeBytes}
+use Rattle.decoder.specs.Possible.{possible}
+use Rattle.decoder.specs.Turns.{Going, nextPicture, pictureTurn}
+use Rattle.decoder.specs.HandOut.{begun}
+use Rattle.demands.specs.Codes.{CodeFound, NoneFound}
+use Rattle.demands.specs.Questions.{withHeader, headed, isThere, isFlush, pictureEnd}
+use Rattle.demands.specs.Causes.{Cause}
+
+-- RULES Q4: the record at the sequence start code: it has the code already, or has found it; nothing but place and start code differs from d
+pub data AtCode (s : List ℕ) (d : Decoder) : Decoder → Type 0 where
+  had-it : startCode d ≡ pos 0xb3 → AtCode s d d
+  found-it : {e : ℕ} → CodeFound s 0xb3 (place d) e → AtCode s d (searchedAs (pos 0xb3) e d)
+
+-- RULES Q5: width and height as read at the record's place, which goes 24 bits further; nothing else differs from d
+abbrev pub sizeRead : List ℕ → Decoder → Decoder
+sizeRead s d = placeAs (place d + 24) (sequenceAs (record {
+  «has_sequence_header» = d .sequence .«has_sequence_header»;
+  width = bitsAt s (place d) 12;
+  height = bitsAt s (place d + 12) 12;
+  sizes = d .sequence .sizes;
+  matrices = d .sequence .matrices;
+}) d)
+
+-- RULES Q3, Q4, Q5, QG: a call that was to read a header with the record d: the number, and the record then
+pub data AfterHeader (s : List ℕ) (d : Decoder) : ℕ → Decoder → Type 0 where
+  after-3 : {e : ℕ} → NoneFound s (place d) e → AfterHeader s d 3 (searchedAs (negsuc 0) e d)
+  after-4 : {x : Decoder} → AtCode s d x → length s * 8 < place x + 1088 → AfterHeader s d 4 x
+  after-5 : {x : Decoder} → AtCode s d x → place x + 1088 ≤ length s * 8 → (bitsAt s (place x) 12 ≡ 0) ⊎ (bitsAt s (place x + 12) 12 ≡ 0)
+      → AfterHeader s d 5 (sizeRead s x)
+
+-- RULES O.2, Q: opening of the stream s with the store l, which is l still: the number, and the record then
+pub data AfterOpening (s l : List ℕ) : ℕ → Decoder → Type 0 where
+  after-1 : 16777216 < length s → AfterOpening s l 1 fresh
+  after-header : {n : ℕ} {x : Decoder} → AfterHeader s fresh n x → AfterOpening s l n x
+  after-6 : length l < storeBytes (withHeader s fresh) → AfterOpening s l 6 fresh
+
+-- RULES 8.7: the turn of a hand-out in which it came to its number: the first, given x, or the second, given what the first left
+pub data InTurn (s : List ℕ) (x : Going) : Going → Type 0 where
+  in-the-first : InTurn s x x
+  in-the-second : {y : Going} → pictureTurn s x ≡ again y → InTurn s x y
+
+-- RULES Q: a hand-out with the record d, the stream s and the store l: the number, and record and store then
+pub data AfterHandOut (d : Decoder) (s l : List ℕ) : ℕ → Decoder → List ℕ → Type 0 where
+  after-1 : 16777216 < length s → AfterHandOut d s l 1 d l
+  after-2 : possible d ≡ false → AfterHandOut d s l 2 d l
+  after-mark : (d .stop ≡ 8) ⊎ (d .stop ≡ 9) → AfterHandOut d s l (d .stop) d l
+  after-header : {n : ℕ} {x : Decoder} → d .sequence .«has_sequence_header» ≡ false → AfterHeader s d n x → AfterHandOut d s l n x l
+  after-6 : length l < storeBytes (headed s d) → AfterHandOut d s l 6 d l
+  -- no picture is there to decode or to flush: the record is the one behind that search, and nothing is written since
+  after-7 : {y : Going} → InTurn s (begun d (headed s d) l) y → isThere s (nextPicture s (y .decoder)) ≡ false
+      → isFlush s (nextPicture s (y .decoder)) ≡ false → AfterHandOut d s l 7 (nextPicture s (y .decoder)) (y .store)
+  -- the picture leaves early: the store is what it has written up to there
+  after-8-9 : {y : Going} {n : ℕ} {m : List ℕ} → InTurn s (begun d (headed s d) l) y
+      → pictureEnd s (nextPicture s (y .decoder)) (y .store) ≡ out n m → Cause s (y .decoder .sequence .sizes) n → AfterHandOut d s l n (stopAs n d) m
