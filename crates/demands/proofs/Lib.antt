@@ -1,6 +1,8 @@
 pub mod Questions
 pub mod Causes
 pub mod PictureStores
+pub mod OtherStores
+pub mod PictureLeft
 pub mod Rows
 pub mod Seven
 pub mod Numbers

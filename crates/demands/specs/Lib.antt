@@ -3,3 +3,4 @@ pub mod Questions
 pub mod Codes
 pub mod Causes
 pub mod After
+pub mod Stores

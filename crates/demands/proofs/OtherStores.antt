@@ -1,0 +1,148 @@
+-- RULES D2.3, Q8, Q9: decoding a picture changes no byte outside its own store, and leaves early with a cause.
+use mathlib.Core.Path.{_≡_, refl, sym, ap, subst, _∙_}
+use mathlib.Core.Bool.{Bool, true, _&&_}
+use mathlib.Core.List.{List}
+use mathlib.Core.Logic.{_⊎_, inl, inr, ⊎-elim}
+use Prim.Native.Nat.{ℕ, _+_, _*_, _≤_, _<_}
+use native.Mathlib.Nat.{mul-le-mul-right}
+use native.Mathlib.Omega.{arith}
+use borrow.Rule.Slice.PartMut.{midOf, putMid, same-len-mid}
+use lib.Dec.{eqb}
+use lib.IntN.{ℤ}
+use lib.ListN.{length, getD}
+use Rattle.laws.proofs.Lists.{length-mid, put-before, put-after, length-rows}
+use Rattle.laws.proofs.Tests.{by-case}
+use Rattle.coefficients.specs.declared.quantiser.Quantiser.{Quantiser}
+use Rattle.coefficients.specs.Blocks.{Filled, Read, firstOnly}
+use Rattle.prediction.specs.declared.place.Macroblock.{Macroblock}
+use Rattle.prediction.specs.declared.place.Place.{Place}
+use Rattle.prediction.specs.declared.place.Fetch.{Fetch}
+use Rattle.prediction.specs.declared.place.Fetch.the-variants.{Alone, Past, Copied}
+use Rattle.prediction.specs.declared.planes.Plane.{Plane}
+use Rattle.prediction.specs.declared.planes.Plane.the-variants.{Y, Cr, Cb}
+use Rattle.prediction.specs.declared.predict.Predicted.{Predicted}
+use Rattle.prediction.specs.declared.predict.Predicted.the-variants.{Done, Refused}
+use Rattle.prediction.specs.Predict.{macroblockAt, blockOf, bytes, fetch, predicted, address, width, chroma}
+use Rattle.prediction.specs.Planes.{After, macroblocks, blockSize, planeOf, planeLength, planeStart, offset, follow, ofStores, next, predictedPlanes}
+use Rattle.prediction.specs.Writers.{setConst, overwrite, addConst, addBlock, blockWidth, blockPlace}
+use Rattle.picture.specs.State.{Given}
+use Rattle.picture.specs.Blocks.{results, written}
+use Rattle.picture.specs.Predictions.{unlessRefused}
+use Rattle.demands.specs.Causes.{Cause, dc, prediction}
+use Rattle.demands.specs.Stores.{SameBut}
+use Rattle.demands.proofs.Causes.{fetch-past}
+use Rattle.demands.proofs.PictureStores.{Ways, Keeping}
+
+-- ---- a part of the picture number k is replaced
+
+plane-ends : (p : Plane) (n : ℕ) → offset p n + planeLength p n ≤ 384 * n
+plane-ends Y n = omega arith
+plane-ends Cr n = omega arith
+plane-ends Cb n = omega arith
+
+put-same-but : (n k a size : ℕ) (l m ys : List ℕ) → k * (384 * n) ≤ a → a + size ≤ k * (384 * n) + 384 * n → a + size ≤ length m → length ys ≡ size
+    → SameBut n k l m → SameBut n k l (putMid a size m ys)
+put-same-but n k a size l m ys from to fit e s = record {
+  long = same-len-mid a size m ys (e ∙ sym (length-mid a size m fit)) ∙ s .long;
+  same = λ i w. ⊎-elim
+      (λ (h : i < k * (384 * n)). put-before a size m ys i 0 (omega arith) (omega arith) ∙ s .same i w)
+      (λ (h : k * (384 * n) + 384 * n ≤ i). put-after a size m ys i 0 fit e (omega arith) ∙ s .same i w) w;
+}
+
+results-length : (q : Quantiser) (f : Filled) (di dw : ℕ) (d : List ℕ) → length (results q f di dw d) ≡ length d
+unfolding results setConst addConst overwrite addBlock
+results-length q f di dw d =
+    let P : List ℕ → Type 0 = λ l. length l ≡ length d in
+    by-case P (firstOnly q f)
+    (λ e. by-case P (q .intra) (λ e. length-rows d di dw 8 _ 8) (λ e. length-rows d di dw 8 _ 8))
+    (λ e. by-case P (q .intra) (λ e. length-rows d di dw 8 _ 8) (λ e. length-rows d di dw 8 _ 8))
+
+predicted-length : (p : Place) (x d : List ℕ) (h v : ℤ) (interpolate : Bool) (from : ℕ) → length (predicted p x d h v interpolate from) ≡ length d
+unfolding predicted
+predicted-length p x d h v interpolate from = length-rows d (address p) (width p) (p .size) _ (p .size)
+
+-- ---- predictions, plane by plane
+
+-- a plane of w × h macroblocks is part of its picture
+record PlaneIn (k n a size : ℕ) : Type 0 where
+  from : k * (384 * n) ≤ a
+  to : a + size ≤ k * (384 * n) + 384 * n
+
+plane-in : (q : Plane) (k n w h : ℕ) → n ≡ w * h → PlaneIn k n (planeStart k q (w * h)) (w * blockSize q * (h * blockSize q))
+plane-in Y k n w h e = rw e (record { from = omega arith; to = omega arith })
+plane-in Cr k n w h e = rw e (record { from = omega arith; to = omega arith })
+plane-in Cb k n w h e = rw e (record { from = omega arith; to = omega arith })
+
+module _ (S : List ℕ → Type 0) (O : ℕ → List ℕ → Type 0) where
+  next-ways : (o : After) (f : List ℕ → After) → Ways S O (unlessRefused o) → ((l : List ℕ) → S l → Ways S O (unlessRefused (f l)))
+      → Ways S O (unlessRefused (next o f))
+  unfolding next unlessRefused
+  next-ways o f h k = go (o .answer) refl
+    where
+      go : (a : Predicted) → o .answer ≡ a → Ways S O (unlessRefused (elim a as (λ x. After) [ Done ↦ f (o .store) | Refused ↦ o ]))
+      go Done e = k (o .store) (rw e at h)
+      go Refused e = h
+
+module _ (s : List ℕ) (g : Given) (l : List ℕ) (area : g .sizes .«mb_size» ≡ g .sizes .«mb_width» * g .sizes .«mb_height»)
+    (cur : g .stores .cur ≤ 2) (long : 1152 * g .sizes .«mb_size» ≤ length l) where
+  abbrev S : List ℕ → Type 0
+  S = SameBut (g .sizes .«mb_size») (g .stores .cur) l
+
+  abbrev O : ℕ → List ℕ → Type 0
+  O i m = S m × Cause s (g .sizes) i
+
+  -- the stores end before the store does
+  stores-end : g .stores .cur * (384 * g .sizes .«mb_size») + 384 * g .sizes .«mb_size» ≤ length l
+  stores-end = omega (arith, mul-le-mul-right (384 * g .sizes .«mb_size») cur)
+
+  -- the macroblock's block in a plane, and the plane's part of the store number j
+  abbrev blockIn : ℕ → Plane → Place
+  blockIn a q = blockOf (macroblockAt (g .sizes .«mb_width») (g .sizes .«mb_height») a) (blockSize q)
+
+  abbrev begins : ℕ → Plane → ℕ
+  begins j q = planeStart j q (g .sizes .«mb_width» * g .sizes .«mb_height»)
+
+  copied-same : (a : ℕ) (q : Plane) (m ys : List ℕ) → length ys ≡ length (midOf (begins (g .stores .cur) q) (bytes (blockIn a q)) m) → S m
+      → S (putMid (begins (g .stores .cur) q) (bytes (blockIn a q)) m ys)
+  copied-same a q m ys h e =
+      let i = plane-in q (g .stores .cur) (g .sizes .«mb_size») (g .sizes .«mb_width») (g .sizes .«mb_height») area in
+      let fit : begins (g .stores .cur) q + bytes (blockIn a q) ≤ length m = omega (arith, i .to, e .long, stores-end) in
+      put-same-but (g .sizes .«mb_size») (g .stores .cur) _ _ l m ys (i .from) (i .to) fit (h ∙ length-mid _ _ m fit) e
+
+  plane-ways : (a from : ℕ) (interpolate : Bool) (q : Plane) (h v : ℤ) (m : List ℕ) → S m
+      → Ways S O (unlessRefused (follow (fetch (blockIn a q) h v) (blockIn a q) (begins from q) (begins (g .stores .cur) q) h v interpolate m))
+  unfolding follow unlessRefused
+  plane-ways a from interpolate q h v m e = go (fetch (blockIn a q) h v) refl
+    where
+      go : (w : Fetch) → fetch (blockIn a q) h v ≡ w
+          → Ways S O (unlessRefused (follow w (blockIn a q) (begins from q) (begins (g .stores .cur) q) h v interpolate m))
+      go Alone w = e
+      go Past w = (e, prediction (fetch-past (g .sizes) (blockIn a q) refl refl h v w))
+      go (Copied i) w =
+          let source = midOf (begins from q) (bytes (blockIn a q)) m in
+          let target = midOf (begins (g .stores .cur) q) (bytes (blockIn a q)) m in
+          copied-same a q m (predicted (blockIn a q) source target h v interpolate i) (predicted-length (blockIn a q) source target h v interpolate i) e
+
+  written-same : (q : Quantiser) (number a : ℕ) (r : Read) (m : List ℕ) → S m → S (written g q number a r m)
+  unfolding written
+  written-same q number a r m e =
+      let p = planeOf number in
+      let b = macroblockAt (g .sizes .«mb_width») (g .sizes .«mb_height») a in
+      let at = planeStart (g .stores .cur) p (g .sizes .«mb_size») in
+      let size = planeLength p (g .sizes .«mb_size») in
+      let end = plane-ends p (g .sizes .«mb_size») in
+      let fit : at + size ≤ length m = omega (arith, e .long, stores-end) in
+      let ys = results q (r .filled) (blockPlace b number) (blockWidth b number) (midOf at size m) in
+      put-same-but (g .sizes .«mb_size») (g .stores .cur) at size l m ys (omega arith) (omega arith) fit
+      (results-length q (r .filled) (blockPlace b number) (blockWidth b number) (midOf at size m) ∙ length-mid at size m fit) e
+
+  pub keeping : Keeping s g S O
+  unfolding predictedPlanes
+  keeping = record {
+    writes = written-same;
+    predicts = λ a from h v interpolate m e.
+        next-ways S O _ _ (plane-ways a from interpolate Y h v m e) (λ m₁ e₁.
+        next-ways S O _ _ (plane-ways a from interpolate Cr (chroma h) (chroma v) m₁ e₁)
+        (λ m₂ e₂. plane-ways a from interpolate Cb (chroma h) (chroma v) m₂ e₂));
+    stops = λ o m e. (e, dc o);
+  }

@@ -1,0 +1,93 @@
+-- RULES 7.2, D2.3, Q8, Q9: what a picture's run leaves: the other stores as they were, the roles of the stores turned, and with a number its cause.
+use mathlib.Core.Path.{_≡_, refl, sym, ap, _∙_}
+use mathlib.Core.Bool.{Bool, true, false, cond, _&&_, _||_, true≢false}
+use mathlib.Core.List.{List}
+use Prim.Native.Nat.{ℕ, _*_, _≤_}
+use lib.Dec.{eqb, ltb}
+use lib.ListN.{length}
+use Rattle.bits.specs.Programs.{Prog, bits, skips, run}
+use Rattle.bits.proofs.Programs.{run-bind}
+use Rattle.bits.proofs.Gives.{Gives, g-done, g-any, g-as, g-bind, g-if}
+use Rattle.laws.proofs.Tests.{by-case}
+use Rattle.picture.specs.declared.state.Stores.{Stores}
+use Rattle.picture.specs.declared.state.Sizes.{Sizes}
+use Rattle.picture.specs.declared.state.Matrices.{Matrices}
+use Rattle.picture.specs.declared.state.Picture.{Picture}
+use Rattle.picture.specs.State.{storesAs}
+use Rattle.picture.specs.Ways.{Way, on, out}
+use Rattle.picture.specs.Pictures as P
+use Rattle.demands.specs.Causes.{Cause}
+use Rattle.demands.specs.Stores.{SameBut}
+use Rattle.demands.proofs.PictureStores.{Ways, Framed, slices-ways, onward-ways, ways-as}
+use Rattle.demands.proofs.OtherStores.{keeping}
+
+-- RULES 7.2: the roles of the stores behind a picture of this type that is decoded
+abbrev pub turned : ℕ → Stores → Stores
+turned type t = cond (eqb type 3) t (P.after t)
+
+pub same-but : {n k : ℕ} {l : List ℕ} → SameBut n k l l
+same-but = record { long = refl; same = λ i w. refl }
+
+-- a header leaves the stores alone
+module _ {s : List ℕ} where
+  forward-stores : (p : Picture) → Gives s (λ (h : P.Headed). h .picture .stores ≡ p .stores) (P.forwardHeader p)
+  unfolding P.forwardHeader P.backwardHeader
+  forward-stores p =
+      g-bind _ (g-any (P.direction (p .slice .«motion_forward»))) (λ f u.
+      g-if (f .decoded && eqb (p .«picture_type») 3)
+      (λ e. g-bind _ (g-any (P.direction (p .slice .«motion_backward»))) (λ b u. g-done refl)) (λ e. g-done refl))
+
+  header-stores : (p : Picture) → Gives s (λ (h : P.Headed). h .picture .stores ≡ p .stores) (P.pictureHeader p)
+  unfolding P.pictureHeader
+  header-stores p =
+      g-bind _ (g-any (skips 10)) (λ u i. g-bind _ (g-any (bits 3)) (λ t i. g-bind _ (g-any (skips 16)) (λ u i.
+      g-if (eqb t 0 || ltb 3 t) (λ e. g-done refl) (λ e. g-if (eqb t 1) (λ e. g-done refl) (λ e. forward-stores _)))))
+
+-- what the picture of the state p, coded in the store l, leaves
+pub record Left (z : Sizes) (p : Picture) (l : List ℕ) (decoded : Bool) (f : P.Frame) : Type 0 where
+  pub store : SameBut (z .«mb_size») (p .stores .cur) l (f .store)
+  pub stores : decoded ≡ true → f .picture .stores ≡ turned (f .picture .«picture_type») (p .stores)
+
+module _ (s : List ℕ) (z : Sizes) (m : Matrices) (area : z .«mb_size» ≡ z .«mb_width» * z .«mb_height») where
+  -- a picture that leaves early
+  abbrev pub Stopped : Picture → List ℕ → ℕ → List ℕ → Type 0
+  Stopped p l n x = SameBut (z .«mb_size») (p .stores .cur) l x × Cause s z n
+
+  coded-left : (p : Picture) (l : List ℕ) → p .stores .cur ≤ 2 → 1152 * z .«mb_size» ≤ length l
+      → Gives s (Ways (Left z p l true) (Stopped p l)) (P.coded z m p l)
+  unfolding P.coded
+  coded-left p l cur long =
+      let q = storesAs (P.before (p .stores)) p in
+      let c = keeping s (P.given z m p) l area cur long in
+      let d = keeping s (P.given z m q) l area cur long in
+      g-if (eqb (p .«picture_type») 3)
+      (λ b. g-as (ways-as (Stopped p l) {P = Framed c p} {Q = Left z p l true}
+      (λ f k. record { store = k .store; stores = λ e. k .stores ∙ sym (ap (λ (t : ℕ). turned t (p .stores)) (k .type) ∙ three (p .«picture_type») b) }))
+      (slices-ways c p l same-but))
+      (λ b. onward-ways (Stopped p l) {P = Framed d q} _ (slices-ways d q l same-but)
+      (λ f k. g-done (record { store = k .store; stores = λ e. sym (ap (λ (t : ℕ). turned t (p .stores)) (k .type) ∙ other (p .«picture_type») b) })))
+    where
+      three : (t : ℕ) → eqb t 3 ≡ true → turned t (p .stores) ≡ p .stores
+      three t h = rw h refl
+
+      other : (t : ℕ) → eqb t 3 ≡ false → turned t (p .stores) ≡ P.after (p .stores)
+      other t h = rw h refl
+
+  -- the stores' roles of x are those of p
+  as-before : (p x : Picture) (l : List ℕ) → x .stores ≡ p .stores → (b : Bool) (w : Way P.Frame) → Ways (Left z x l true) (Stopped x l) w
+      → Ways (Left z p l b) (Stopped p l) w
+  as-before p x l e b (on f) k = record { store = rw e at k .store; stores = λ d. rw e at k .stores refl }
+  as-before p x l e b (out n y) k = (rw e at k .0, k .1)
+
+  -- RULES 7.1 to 7.4, 8.4
+  pub picture-left : (p : Picture) (l : List ℕ) → p .stores .cur ≤ 2 → 1152 * z .«mb_size» ≤ length l → (a : ℕ)
+      → Ways (Left z p l (run (P.pictureHeader p) s a .value .decoded)) (Stopped p l) (run (P.picture z m p l) s a .value)
+  unfolding P.picture run
+  picture-left p l cur long a =
+      let h = run (P.pictureHeader p) s a in
+      let e = header-stores {s = s} p .value a in
+      rw (run-bind (P.pictureHeader p) _ s a)
+      (by-case (λ (q : Prog (Way P.Frame)). Ways (Left z p l (h .value .decoded)) (Stopped p l) (run q s (h .at) .value)) (h .value .decoded)
+      (λ d. as-before p (h .value .picture) l e (h .value .decoded) (run (P.coded z m (h .value .picture) l) s (h .at) .value)
+      (coded-left (h .value .picture) l (rw e cur) long .value (h .at)))
+      (λ d. record { store = same-but; stores = λ k. absurd (true≢false (sym k ∙ d)) }))
