@@ -3,6 +3,8 @@ pub mod Causes
 pub mod PictureStores
 pub mod OtherStores
 pub mod PictureLeft
+pub mod Codes
+pub mod AfterHeader
 pub mod Rows
 pub mod Seven
 pub mod Numbers

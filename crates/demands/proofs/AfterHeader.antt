@@ -1,0 +1,103 @@
+-- RULES Q3, Q4, Q5, QG: what the questions on the sequence header leave, whole.
+use mathlib.Core.Path.{_≡_, refl, sym, ap, _∙_}
+use mathlib.Core.Bool.{Bool, true, false, cond, not, _||_, true≢false, false≢true}
+use mathlib.Core.List.{List}
+use mathlib.Core.Logic.{_⊎_, inl, inr}
+use Prim.Native.Nat.{ℕ, _+_, _-_, _*_, _≤_, _<_}
+use native.Mathlib.Omega.{arith}
+use lib.Dec.{eqb, leb}
+use lib.IntN.{ℤ, pos, negsuc}
+use lib.ListN.{length}
+use borrow.Author.Tests.{eqb-true, leb-true, leb-false}
+use Rattle.bits.specs.Bits.{has, got, next, bitsAt}
+use Rattle.bits.specs.Programs.{Out, run, bind, eqZ, findStartCode}
+use Rattle.bits.proofs.Programs.{served-got, served-next}
+use Rattle.laws.proofs.Tests.{by-case}
+use Rattle.decoder.specs.declared.record.Decoder.{Decoder}
+use Rattle.decoder.specs.Record.{place, startCode, searchedAs}
+use Rattle.decoder.specs.Sequences.{Size, size}
+use Rattle.decoder.specs.Headers.{Asked, refused, passed, findSequence, sized, askSize, askHeader}
+use Rattle.decoder.proofs.Searches.{eqZ-is}
+use Rattle.demands.specs.Codes.{NoneFound}
+use Rattle.demands.specs.Questions.{withSize, withHeader}
+use Rattle.demands.specs.After.{AtCode, had-it, found-it, sizeRead, AfterHeader, after-3, after-4, after-5}
+use Rattle.demands.proofs.Codes.{SearchEnd, with-code, with-none, search-end}
+
+-- ---- the search
+
+pub data Finds (s : List ℕ) (d : Decoder) : Decoder → Type 0 where
+  a-code : {x : Decoder} → AtCode s d x → Finds s d x
+  no-code : {e : ℕ} → NoneFound s (place d) e → Finds s d (searchedAs (negsuc 0) e d)
+
+pub find-sequence : (s : List ℕ) (d : Decoder) → length s ≤ 16777216 → Finds s d (findSequence s d)
+unfolding findSequence
+find-sequence s d h = go (eqZ (startCode d) (pos 0xb3)) refl (run (findStartCode (pos 0xb3)) s (place d)) (search-end s 0xb3 (place d) h)
+  where
+    go : (b : Bool) → eqZ (startCode d) (pos 0xb3) ≡ b → (o : Out ℤ) → SearchEnd s 0xb3 (place d) o → Finds s d (cond b d (searchedAs (o .value) (o .at) d))
+    go true e o k = a-code (had-it (eqZ-is (startCode d) (pos 0xb3) e))
+    go false e o (with-code v k) = rw v (a-code (found-it k))
+    go false e o (with-none v k) = rw v (no-code k)
+
+pub at-code : {s : List ℕ} {d x : Decoder} → AtCode s d x → startCode x ≡ pos 0xb3
+at-code (had-it e) = e
+at-code (found-it k) = refl
+
+-- ---- width and height
+
+size-read : (s : List ℕ) (a : ℕ) → a + 24 ≤ length s * 8
+    → run size s a ≡ record { value = record { width = bitsAt s a 12; height = bitsAt s (a + 12) 12 }; at = a + 24 }
+unfolding size run bind
+size-read s a h =
+    let e : a + 12 + 12 ≡ a + 24 = omega arith in
+    rw (served-got s a 12 (omega arith), served-next s a 12 (omega arith), served-got s (a + 12) 12 (omega arith), served-next s (a + 12) 12 (omega arith), e)
+
+or-zero : (m n : ℕ) → (eqb m 0 || eqb n 0) ≡ true → (m ≡ 0) ⊎ (n ≡ 0)
+or-zero m n = go (eqb m 0) refl
+  where
+    go : (b : Bool) → eqb m 0 ≡ b → (b || eqb n 0) ≡ true → (m ≡ 0) ⊎ (n ≡ 0)
+    go true e h = inl (eqb-true m 0 e)
+    go false e h = inr (eqb-true n 0 h)
+
+-- ---- what is left
+
+abbrev pub AskAfter : List ℕ → Decoder → Asked → Type 0
+AskAfter s d (refused n x) = AfterHeader s d n x
+AskAfter s d (passed x) = Unit {0}
+
+size-after : (s : List ℕ) (d x : Decoder) → AtCode s d x → place x + 1088 ≤ length s * 8 → AskAfter s d (askSize s x)
+unfolding askSize
+size-after s d x k h =
+    rw (size-read s (place x) (omega arith))
+    (by-case (AskAfter s d) (eqb (bitsAt s (place x) 12) 0 || eqb (bitsAt s (place x + 12) 12) 0)
+    (λ e. after-5 k h (or-zero (bitsAt s (place x) 12) (bitsAt s (place x + 12) 12) e)) (λ e. tt))
+
+pub header-after : (s : List ℕ) (d : Decoder) → length s ≤ 16777216 → AskAfter s d (askHeader s d)
+unfolding askHeader
+header-after s d h = go (findSequence s d) (find-sequence s d h)
+  where
+    code : {x : Decoder} → AtCode s d x
+        → AskAfter s d (cond (eqZ (startCode x) (negsuc 0)) (refused 3 x) (cond (not (has s (place x) 1088)) (refused 4 x) (askSize s x)))
+    code {x} k =
+        let found : eqZ (startCode x) (negsuc 0) ≡ false = ap (λ (c : ℤ). eqZ c (negsuc 0)) (at-code k) in
+        rw found (go (has s (place x) 1088) refl)
+      where
+        go : (b : Bool) → has s (place x) 1088 ≡ b → AskAfter s d (cond (not b) (refused 4 x) (askSize s x))
+        go true e = size-after s d x k (omega (arith, leb-true 1088 (length s * 8 - place x) e))
+        go false e = after-4 k (omega (arith, leb-false 1088 (length s * 8 - place x) e))
+
+    go : (x : Decoder) → Finds s d x
+        → AskAfter s d (cond (eqZ (startCode x) (negsuc 0)) (refused 3 x) (cond (not (has s (place x) 1088)) (refused 4 x) (askSize s x)))
+    go x (a-code k) = code k
+    go x (no-code k) = after-3 k
+
+-- the record of a header that is accepted
+abbrev IsHeaded : List ℕ → Decoder → Asked → Type 0
+IsHeaded s d (refused n x) = Unit {0}
+IsHeaded s d (passed x) = x ≡ withHeader s d
+
+pub header-passed : (s : List ℕ) (d : Decoder) → IsHeaded s d (askHeader s d)
+unfolding askHeader askSize
+header-passed s d =
+    by-case (IsHeaded s d) (eqZ (startCode (findSequence s d)) (negsuc 0)) (λ e. tt) (λ e.
+    by-case (IsHeaded s d) (not (has s (place (findSequence s d)) 1088)) (λ e. tt) (λ e.
+    by-case (IsHeaded s d) (eqb (withSize s d .sequence .width) 0 || eqb (withSize s d .sequence .height) 0) (λ e. tt) (λ e. refl)))
