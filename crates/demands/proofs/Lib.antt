@@ -3,6 +3,7 @@ pub mod Causes
 pub mod PictureStores
 pub mod OtherStores
 pub mod PictureLeft
+pub mod TurnCases
 pub mod Codes
 pub mod AfterHeader
 pub mod Rows

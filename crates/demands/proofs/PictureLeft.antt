@@ -47,6 +47,7 @@ module _ {s : List ℕ} where
 pub record Left (z : Sizes) (p : Picture) (l : List ℕ) (decoded : Bool) (f : P.Frame) : Type 0 where
   pub store : SameBut (z .«mb_size») (p .stores .cur) l (f .store)
   pub stores : decoded ≡ true → f .picture .stores ≡ turned (f .picture .«picture_type») (p .stores)
+  pub others : decoded ≡ false → f .picture .stores ≡ p .stores
 
 module _ (s : List ℕ) (z : Sizes) (m : Matrices) (area : z .«mb_size» ≡ z .«mb_width» * z .«mb_height») where
   -- a picture that leaves early
@@ -62,10 +63,10 @@ module _ (s : List ℕ) (z : Sizes) (m : Matrices) (area : z .«mb_size» ≡ z 
       let d = keeping s (P.given z m q) l area cur long in
       g-if (eqb (p .«picture_type») 3)
       (λ b. g-as (ways-as (Stopped p l) {P = Framed c p} {Q = Left z p l true}
-      (λ f k. record { store = k .store; stores = λ e. k .stores ∙ sym (ap (λ (t : ℕ). turned t (p .stores)) (k .type) ∙ three (p .«picture_type») b) }))
+      (λ f k. record { store = k .store; stores = λ e. k .stores ∙ sym (ap (λ (t : ℕ). turned t (p .stores)) (k .type) ∙ three (p .«picture_type») b); others = λ e. absurd (true≢false e) }))
       (slices-ways c p l same-but))
       (λ b. onward-ways (Stopped p l) {P = Framed d q} _ (slices-ways d q l same-but)
-      (λ f k. g-done (record { store = k .store; stores = λ e. sym (ap (λ (t : ℕ). turned t (p .stores)) (k .type) ∙ other (p .«picture_type») b) })))
+      (λ f k. g-done (record { store = k .store; stores = λ e. sym (ap (λ (t : ℕ). turned t (p .stores)) (k .type) ∙ other (p .«picture_type») b); others = λ e. absurd (true≢false e) })))
     where
       three : (t : ℕ) → eqb t 3 ≡ true → turned t (p .stores) ≡ p .stores
       three t h = rw h refl
@@ -74,10 +75,11 @@ module _ (s : List ℕ) (z : Sizes) (m : Matrices) (area : z .«mb_size» ≡ z 
       other t h = rw h refl
 
   -- the stores' roles of x are those of p
-  as-before : (p x : Picture) (l : List ℕ) → x .stores ≡ p .stores → (b : Bool) (w : Way P.Frame) → Ways (Left z x l true) (Stopped x l) w
-      → Ways (Left z p l b) (Stopped p l) w
-  as-before p x l e b (on f) k = record { store = rw e at k .store; stores = λ d. rw e at k .stores refl }
-  as-before p x l e b (out n y) k = (rw e at k .0, k .1)
+  as-before : (p x : Picture) (l : List ℕ) → x .stores ≡ p .stores → {b : Bool} → b ≡ true → (w : Way P.Frame)
+      → Ways (Left z x l true) (Stopped x l) w → Ways (Left z p l b) (Stopped p l) w
+  as-before p x l e t (on f) k =
+      record { store = rw e at k .store; stores = λ d. rw e at k .stores refl; others = λ d. absurd (true≢false (sym t ∙ d)) }
+  as-before p x l e t (out n y) k = (rw e at k .0, k .1)
 
   -- RULES 7.1 to 7.4, 8.4
   pub picture-left : (p : Picture) (l : List ℕ) → p .stores .cur ≤ 2 → 1152 * z .«mb_size» ≤ length l → (a : ℕ)
@@ -88,6 +90,6 @@ module _ (s : List ℕ) (z : Sizes) (m : Matrices) (area : z .«mb_size» ≡ z 
       let e = header-stores {s = s} p .value a in
       rw (run-bind (P.pictureHeader p) _ s a)
       (by-case (λ (q : Prog (Way P.Frame)). Ways (Left z p l (h .value .decoded)) (Stopped p l) (run q s (h .at) .value)) (h .value .decoded)
-      (λ d. as-before p (h .value .picture) l e (h .value .decoded) (run (P.coded z m (h .value .picture) l) s (h .at) .value)
+      (λ d. as-before p (h .value .picture) l e d (run (P.coded z m (h .value .picture) l) s (h .at) .value)
       (coded-left (h .value .picture) l (rw e cur) long .value (h .at)))
-      (λ d. record { store = same-but; stores = λ k. absurd (true≢false (sym k ∙ d)) }))
+      (λ d. record { store = same-but; stores = λ k. absurd (true≢false (sym k ∙ d)); others = λ k. e }))
