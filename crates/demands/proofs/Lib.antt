@@ -4,6 +4,7 @@ pub mod PictureStores
 pub mod OtherStores
 pub mod PictureLeft
 pub mod TurnCases
+pub mod Reached
 pub mod Codes
 pub mod AfterHeader
 pub mod Rows
