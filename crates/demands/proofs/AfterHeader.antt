@@ -91,7 +91,7 @@ header-after s d h = go (findSequence s d) (find-sequence s d h)
     go x (no-code k) = after-3 k
 
 -- the record of a header that is accepted
-abbrev IsHeaded : List ℕ → Decoder → Asked → Type 0
+abbrev pub IsHeaded : List ℕ → Decoder → Asked → Type 0
 IsHeaded s d (refused n x) = Unit {0}
 IsHeaded s d (passed x) = x ≡ withHeader s d
 

@@ -18,3 +18,4 @@ pub mod Lines
 pub mod Example
 pub mod Listing
 pub mod Converts
+pub mod After

@@ -170,12 +170,12 @@ shown-row s d l k h =
 
 -- ---- the sizes of an accepted header
 
-record Sized (z : Sizes) : Type 0 where
+pub record Sized (z : Sizes) : Type 0 where
   pub wide : z .«mb_width» ≤ 256
   pub high : z .«mb_height» ≤ 256
   pub area : z .«mb_size» ≡ z .«mb_width» * z .«mb_height»
 
-sized : (q : Sequence) → q .«has_sequence_header» ≡ true → possibleSequence q ≡ true → Sized (q .sizes)
+pub sized : (q : Sequence) → q .«has_sequence_header» ≡ true → possibleSequence q ≡ true → Sized (q .sizes)
 sized q h p =
     let least = leb 1 (q .width) && leb 1 (q .height) in
     let same = sameSizes (q .sizes) (sizesOf (q .width) (q .height)) in

@@ -1,0 +1,183 @@
+-- RULES D1.5, D2.3, QC, QG: what each call leaves behind its numbers, whole.
+use mathlib.Core.Path.{_≡_, refl, sym, ap, subst, _∙_}
+use mathlib.Core.Bool.{Bool, true, false, cond, not, _&&_, _||_, true≢false, false≢true}
+use mathlib.Core.List.{List, [], _∷_}
+use mathlib.Core.Logic.{_⊎_, inl, inr}
+use Prim.Native.Nat.{ℕ, _-_, _≤_}
+use native.Mathlib.Omega.{arith}
+use lib.Dec.{eqb, leb}
+use lib.ListN.{length, getD}
+use borrow.Author.Tests.{eqb-true, leb-true, leb-false}
+use Rattle.laws.proofs.Tests.{by-case, each}
+use Rattle.picture.specs.Possible.{possiblePicture}
+use Rattle.picture.proofs.Possible.{stores-of, picture-of}
+use Rattle.decoder.specs.declared.record.Decoder.{Decoder}
+use Rattle.decoder.specs.declared.answers.Opening.{Opening}
+use Rattle.decoder.specs.declared.answers.Opening.the-variants as O
+use Rattle.decoder.specs.declared.answers.Outcome.{Outcome}
+use Rattle.decoder.specs.declared.answers.Outcome.the-variants as H
+use Rattle.decoder.specs.Record.{Left, fresh, firstStores, place, storeBytes, cleared}
+use Rattle.decoder.specs.Possible.{possibleSequence, possible, possibleWith}
+use Rattle.decoder.specs.Headers.{Asked, refused, passed, accepted, askHeader, askStore}
+use Rattle.decoder.specs.Opening.{opened, openingFrom, opening}
+use Rattle.decoder.specs.Turns.{Going, going, Ended, gave, stopped}
+use Rattle.decoder.specs.HandOut.{pictures, ended, askFirst, begun, goOn, handOut}
+use Rattle.decoder.proofs.Cleared.{cleared-later, cleared-length}
+use Rattle.demands.specs.Questions.{withHeader, headed}
+use Rattle.demands.specs.Stores.{SameFrom}
+use Rattle.demands.specs.After as A
+use Rattle.demands.specs.After.{AfterHeader, AfterOpening, AfterHandOut}
+use Rattle.demands.proofs.AfterHeader.{AskAfter, IsHeaded, header-after, header-passed}
+use Rattle.demands.proofs.Reached.{same-from, then-same, Fit, CallEnd, hands, seven, stops, pictures-end}
+use Rattle.demands.proofs.RunTurns.{sized}
+
+-- ---- opening
+
+abbrev OpeningRow : List ℕ → List ℕ → Opening → Decoder → List ℕ → Type 0
+OpeningRow s l o x m = elim o [ O.Ready ↦ Unit {0} | O.Refused n ↦ AfterOpening s l n x × (m ≡ l) ]
+
+abbrev OpenedRow : List ℕ → List ℕ → Left Opening → Type 0
+OpenedRow s l r = OpeningRow s l (r .answer) (r .decoder) (r .store)
+
+opened-row : (s l : List ℕ) (a : Asked) → AskAfter s fresh a → IsHeaded s fresh a → OpenedRow s l (opened l (askStore fresh l a))
+unfolding opened askStore
+opened-row s l (refused n x) h e = (A.after-header h, refl)
+opened-row s l (passed x) h e =
+    by-case (λ a. OpenedRow s l (opened l a)) (leb (storeBytes x) (length l)) (λ t. tt)
+    (λ t. (A.after-6 (omega (arith, leb-false (storeBytes x) (length l) t, ap storeBytes e)), refl))
+
+opening-row : (s l : List ℕ) → OpenedRow s l (opening s l)
+unfolding opening openingFrom
+opening-row s l =
+    by-case (OpenedRow s l) (leb (length s) 16777216)
+    (λ e. opened-row s l (askHeader s fresh) (header-after s fresh (leb-true (length s) 16777216 e)) (header-passed s fresh))
+    (λ e. (A.after-1 (leb-false (length s) 16777216 e), refl))
+
+pub opening-after : (s l : List ℕ) (n : ℕ) → opening s l .answer ≡ O.Refused n → AfterOpening s l n (opening s l .decoder) × (opening s l .store ≡ l)
+opening-after s l n e = subst (λ (o : Opening). OpeningRow s l o (opening s l .decoder) (opening s l .store)) e (opening-row s l)
+
+-- ---- a possible record
+
+pub record Parts (d : Decoder) : Type 0 where
+  pub sequence : possibleSequence (d .sequence) ≡ true
+  pub picture : possiblePicture (d .picture) ≡ true
+  pub mark : (eqb (d .stop) 0 || eqb (d .stop) 8 || eqb (d .stop) 9) ≡ true
+
+pub parts : (d : Decoder) → possible d ≡ true → Parts d
+unfolding possible
+parts d p =
+    let x = each (leb (place d) 134217728) (possibleSequence (d .sequence) ∷ possiblePicture (d .picture) ∷ leb (d .«frames_decoded») 134217728 ∷
+    (eqb (d .stop) 0 || eqb (d .stop) 8 || eqb (d .stop) 9) ∷ []) p in
+    record { sequence = x 1; picture = x 2; mark = x 4 }
+
+-- RULES QA: a stop mark other than 0 is 8 or 9
+marks : (n : ℕ) → (eqb n 0 || eqb n 8 || eqb n 9) ≡ true → eqb n 0 ≡ false → (n ≡ 8) ⊎ (n ≡ 9)
+marks n h z = go (eqb n 8) refl (rw z at h)
+  where
+    go : (b : Bool) → eqb n 8 ≡ b → (b || eqb n 9) ≡ true → (n ≡ 8) ⊎ (n ≡ 9)
+    go true e k = inl (eqb-true n 8 e)
+    go false e k = inr (eqb-true n 9 k)
+
+not-false : (b : Bool) → not b ≡ false → b ≡ true
+not-false true h = refl
+not-false false h = sym h
+
+not-true : (b : Bool) → not b ≡ true → b ≡ false
+not-true true h = sym h
+not-true false h = refl
+
+-- ---- the record and the store with which a hand-out comes to its pictures
+
+module _ (d : Decoder) (s l : List ℕ) where
+  begun-decoder : (x : Decoder) → begun d x l .decoder ≡ x
+  unfolding begun
+  begun-decoder x = by-case (λ (z : Going). z .decoder ≡ x) (d .sequence .«has_sequence_header») (λ e. refl) (λ e. refl)
+
+  cleared-same : (n : ℕ) → n ≤ length l → SameFrom n l (cleared n l)
+  cleared-same n h = record {
+    long = cleared-length n l h;
+    same = λ i w. subst (λ (j : ℕ). getD (cleared n l) j 0 ≡ getD l j 0) (omega arith) (cleared-later n l (i - n));
+  }
+
+  begun-same : (x : Decoder) → storeBytes x ≤ length l → SameFrom (storeBytes x) l (begun d x l .store)
+  unfolding begun
+  begun-same x h =
+      by-case (λ (z : Going). SameFrom (storeBytes x) l (z .store)) (d .sequence .«has_sequence_header») (λ e. same-from)
+      (λ e. cleared-same (storeBytes x) h)
+
+  begun-fit : possible d ≡ true → storeBytes (headed s d) ≤ length l → Fit (begun d (headed s d) l .decoder) (begun d (headed s d) l .store)
+  unfolding begun accepted
+  begun-fit p = go (d .sequence .«has_sequence_header») refl
+    where
+      go : (b : Bool) → d .sequence .«has_sequence_header» ≡ b → storeBytes (cond b d (withHeader s d)) ≤ length l
+          → let x = cond b d (withHeader s d) in
+          let z : Going = cond b (going x l) (going x (cleared (storeBytes x) l)) in Fit (z .decoder) (z .store)
+      go true e h =
+          let q = parts d p in
+          record { area = sized (d .sequence) e (q .sequence) .area; stores = picture-of (d .picture) (q .picture) .stores; long = h }
+      go false e h =
+          record { area = refl; stores = stores-of firstStores refl; long = omega (arith, h, cleared-length (storeBytes (withHeader s d)) l h) }
+
+  -- ---- a hand-out
+
+  abbrev Answered : Outcome → Decoder → List ℕ → Type 0
+  Answered o x m = elim o [ H.Picture i ↦ Unit {0} | H.Refused n ↦ AfterHandOut d s l n x m ]
+
+  record Row (r : Left Outcome) : Type 0 where
+    after : Answered (r .answer) (r .decoder) (r .store)
+    same : SameFrom (storeBytes (headed s d)) l (r .store)
+
+  module _ (long : storeBytes (headed s d) ≤ length l) where
+    on-to : {m : List ℕ} → SameFrom (storeBytes (begun d (headed s d) l .decoder)) (begun d (headed s d) l .store) m
+        → SameFrom (storeBytes (headed s d)) l m
+    on-to {m} h =
+        then-same (begun-same (headed s d) long)
+        (subst (λ (x : Decoder). SameFrom (storeBytes x) (begun d (headed s d) l .store) m) (begun-decoder (headed s d)) h)
+
+    ended-row : {e : Ended} → CallEnd s (begun d (headed s d) l) e → Row (ended d e)
+    unfolding ended
+    ended-row (hands q h) = record { after = tt; same = on-to h }
+    ended-row (seven k t u) = record { after = A.after-7 (k .turn) t u; same = on-to (k .same) }
+    ended-row (stops k e c h) = record { after = A.after-8-9 (k .turn) e c; same = on-to h }
+
+  store-row : possible d ≡ true → Row (goOn s d l (askStore d l (passed (headed s d))))
+  unfolding goOn askStore
+  store-row p =
+      by-case (λ a. Row (goOn s d l a)) (leb (storeBytes (headed s d)) (length l))
+      (λ e. let h = leb-true (storeBytes (headed s d)) (length l) e in ended-row h (pictures-end s (begun d (headed s d) l) (begun-fit p h)))
+      (λ e. record { after = A.after-6 (leb-false (storeBytes (headed s d)) (length l) e); same = same-from })
+
+  header-row : possible d ≡ true → d .sequence .«has_sequence_header» ≡ false → (a : Asked) → AskAfter s d a → IsHeaded s d a
+      → Row (goOn s d l (askStore d l a))
+  unfolding goOn askStore
+  header-row p f (refused n x) h e = record { after = A.after-header f h; same = same-from }
+  header-row p f (passed x) h e =
+      let is : x ≡ headed s d = e ∙ sym (rw f refl) in
+      subst (λ (y : Decoder). Row (goOn s d l (askStore d l (passed y)))) (sym is) (store-row p)
+
+  first-row : length s ≤ 16777216 → possible d ≡ true → Row (goOn s d l (askFirst s d l))
+  unfolding askFirst
+  first-row h p = go (d .sequence .«has_sequence_header») refl
+    where
+      go : (b : Bool) → d .sequence .«has_sequence_header» ≡ b → Row (goOn s d l (askStore d l (cond b (passed d) (askHeader s d))))
+      go true e =
+          let is : headed s d ≡ d = rw e refl in
+          subst (λ (y : Decoder). Row (goOn s d l (askStore d l (passed y)))) is (store-row p)
+      go false e = header-row p e (askHeader s d) (header-after s d h) (header-passed s d)
+
+  hand-row : Row (handOut d s l)
+  unfolding handOut
+  hand-row =
+      by-case Row (not (leb (length s) 16777216))
+      (λ e. record { after = A.after-1 (leb-false (length s) 16777216 (not-true (leb (length s) 16777216) e)); same = same-from }) (λ e.
+      by-case Row (not (possibleWith s d)) (λ f. record { after = A.after-2 (not-true (possible d) f); same = same-from }) (λ f.
+      by-case Row (not (eqb (d .stop) 0))
+      (λ g. record { after = A.after-mark (marks (d .stop) (parts d (not-false (possible d) f) .mark) (not-true (eqb (d .stop) 0) g)); same = same-from })
+      (λ g. first-row (leb-true (length s) 16777216 (not-false (leb (length s) 16777216) e)) (not-false (possible d) f))))
+
+  pub hand-after : (n : ℕ) → handOut d s l .answer ≡ H.Refused n → AfterHandOut d s l n (handOut d s l .decoder) (handOut d s l .store)
+  hand-after n e = subst (λ (o : Outcome). Answered o (handOut d s l .decoder) (handOut d s l .store)) e (hand-row .after)
+
+  -- RULES D2.3
+  pub hand-same : SameFrom (storeBytes (headed s d)) l (handOut d s l .store)
+  hand-same = hand-row .same
