@@ -1,42 +1,62 @@
--- RULES L.3: the listing goes on to the first number: by R.1 the calls do not come to the end of its fuel.
-use mathlib.Core.Path.{_≡_, refl, ap}
+-- RULES L.3: a listing goes on to the first number, and ends with it: by R.1 the calls do not come to the end of its fuel.
+use mathlib.Core.Path.{_≡_, refl, ap, subst}
+use mathlib.Core.Bool.{Bool, true, false}
 use mathlib.Core.List.{List, [], _∷_}
 use Prim.Native.Nat.{ℕ, zero, suc, _+_, _*_, _/_, _≤_, _<_}
 use native.Mathlib.Omega.{arith}
-use lib.ListN.{length, getD}
+use lib.Dec.{leb}
+use lib.ListN.{length, getD, replicate}
+use borrow.Author.Tests.{leb-true}
 use Rattle.bits.specs.Programs.{many}
+use Rattle.laws.proofs.Tests.{by-case}
 use Rattle.decoder.specs.declared.record.Decoder.{Decoder}
+use Rattle.decoder.specs.declared.answers.Opening.{Opening}
 use Rattle.decoder.specs.declared.answers.Opening.the-variants as O
 use Rattle.decoder.specs.declared.answers.Outcome.{Outcome}
 use Rattle.decoder.specs.declared.answers.Outcome.the-variants as H
+use Rattle.decoder.specs.Record.{Left}
 use Rattle.decoder.specs.Opening.{opening}
 use Rattle.decoder.specs.Turns.{Going, going}
-use Rattle.decoder.specs.Run.{call, begin, pictureIn}
-use Rattle.decoder.specs.Listing.{Line, line, linesFrom}
-use Rattle.demands.proofs.Run.{Between, call-on, few, first, short}
+use Rattle.decoder.specs.HandOut.{handOut}
+use Rattle.decoder.specs.Run.{call, pictureIn}
+use Rattle.decoder.specs.Listing.{Line, line, linesFrom, linesOf, listing}
+use Rattle.demands.specs.Lines.{Lines, a-picture, the-number}
+use Rattle.demands.proofs.Numbers.{opening-named, hand-named, positive, opening-positive}
+use Rattle.demands.proofs.After.{opening-after, hand-after}
+use Rattle.demands.proofs.RunCall.{Between, call-on, few}
+use Rattle.demands.proofs.Run.{opening-begins}
 
 -- the line of an answer, and those behind it
 abbrev lines : ℕ → Outcome → Decoder → List Line → List Line
 lines n o d t = elim o [ H.Picture p ↦ line (n + 1) (p .store) (d .picture .«picture_type») 0 ∷ t | H.Refused a ↦ line n 0 0 a ∷ [] ]
 
 module _ (s : List ℕ) (most : length s ≤ 16777216) (bytes : (k : ℕ) → getD s k 0 < 256) where
-  enough : (j k n : ℕ) (x : Going) → Between s x n → 8 * length s / 29 + 1 < n + j → 8 * length s / 29 + 1 < n + k
-      → linesFrom j s n (x .decoder) (x .store) ≡ linesFrom k s n (x .decoder) (x .store)
+  lines-from : (j n : ℕ) (x : Going) → Between s x n → 8 * length s / 29 + 1 < n + j → Lines n (linesFrom j s n (x .decoder) (x .store))
   unfolding linesFrom
-  enough zero k n x b p q = let f = few s most bytes b in let no : ⊥ = omega arith in absurd no
-  enough (suc j) zero n x b p q = let f = few s most bytes b in let no : ⊥ = omega arith in absurd no
-  enough (suc j) (suc k) n x b p q =
-      go (call s x .answer) (call s x .decoder) (call s x .store) (call-on s most bytes b) (λ y c. enough j k (n + 1) y c (omega arith) (omega arith))
+  lines-from zero n x b p = let f = few s most bytes b in let no : ⊥ = omega arith in absurd no
+  lines-from (suc j) n x b p =
+      go (call s x .answer) (call s x .decoder) (call s x .store) (call-on s most bytes b .0) (λ a e. positive a (hand-named (hand-after (x .decoder) s (x .store) a e)))
+      (λ y c. lines-from j (n + 1) y c (omega arith))
     where
-      go : (o : Outcome) (d : Decoder) (l : List ℕ) → Between s (going d l) (n + pictureIn o)
-          → ((y : Going) → Between s y (n + 1) → linesFrom j s (n + 1) (y .decoder) (y .store) ≡ linesFrom k s (n + 1) (y .decoder) (y .store))
-          → lines n o d (linesFrom j s (n + 1) d l) ≡ lines n o d (linesFrom k s (n + 1) d l)
-      go (H.Picture i) d l c r = ap (lines n (H.Picture i) d) (r (going d l) c)
-      go (H.Refused a) d l c r = refl
+      go : (o : Outcome) (d : Decoder) (l : List ℕ) → Between s (going d l) (n + pictureIn o) → ((a : ℕ) → o ≡ H.Refused a → 1 ≤ a)
+          → ((y : Going) → Between s y (n + 1) → Lines (n + 1) (linesFrom j s (n + 1) (y .decoder) (y .store)))
+          → Lines n (lines n o d (linesFrom j s (n + 1) d l))
+      go (H.Picture i) d l c q r = a-picture (i .store) (d .picture .«picture_type») (r (going d l) c)
+      go (H.Refused a) d l c q r = the-number a (q a refl)
 
--- more fuel changes nothing
-pub lines-fuel : (s l : List ℕ) (bytes : (k : ℕ) → getD s k 0 < 256) → opening s l .answer ≡ O.Ready → (n : ℕ) → many ≤ n
-    → linesFrom n s 0 (opening s l .decoder) (opening s l .store) ≡ linesFrom many s 0 (opening s l .decoder) (opening s l .store)
-lines-fuel s l bytes ready n h =
-    let most = short s l bytes ready in
-    enough s most bytes n many 0 (begin s l) (first s l bytes ready) (omega arith) (omega arith)
+  lines-of : (l : List ℕ) → Lines 0 (linesOf s (opening s l))
+  unfolding linesOf
+  lines-of l = go (opening s l .answer) (opening s l .decoder) (opening s l .store) (opening-begins s most bytes l)
+      (λ a e. opening-positive a (opening-named (opening-after s l a e .0)))
+    where
+      go : (o : Opening) (d : Decoder) (m : List ℕ) → Between s (going d m) 0 → ((a : ℕ) → o ≡ O.Refused a → 1 ≤ a)
+          → Lines 0 (elim o [ O.Ready ↦ linesFrom many s 0 d m | O.Refused a ↦ line 0 0 0 a ∷ [] ])
+      go O.Ready d m b q = lines-from many 0 (going d m) b (omega arith)
+      go (O.Refused a) d m b q = the-number a (q a refl)
+
+-- RULES L.1 to L.3: of every stream of bytes
+pub listing-ends : (s : List ℕ) → ((k : ℕ) → getD s k 0 < 256) → Lines 0 (listing s)
+unfolding listing
+listing-ends s bytes =
+    by-case (Lines 0) (leb (length s) 65536)
+    (λ e. let h = leb-true (length s) 65536 e in lines-of s (omega arith) bytes (replicate 55296 0)) (λ e. the-number 1 (omega arith))

@@ -113,7 +113,7 @@ data Turns (s : List ℕ) (n : ℕ) : Turn Going Ended → Type 0 where
 -- ---- changes of a record that keep it
 
 -- another start code, within -1..255
-code-possible : (c : ℤ) (p : Picture) → between (negℤ (pos 1)) (pos 255) c ≡ true → possiblePicture p ≡ true
+pub code-possible : (c : ℤ) (p : Picture) → between (negℤ (pos 1)) (pos 255) c ≡ true → possiblePicture p ≡ true
     → possiblePicture (startCodeAs c p) ≡ true
 code-possible c p h k =
     let x = picture-of p k in

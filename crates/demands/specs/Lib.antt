@@ -4,3 +4,5 @@ pub mod Codes
 pub mod Causes
 pub mod After
 pub mod Stores
+pub mod Numbers
+pub mod Lines
