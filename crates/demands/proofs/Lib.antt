@@ -18,3 +18,4 @@ pub mod Listing
 pub mod Converts
 pub mod After
 pub mod Numbers
+pub mod Rows

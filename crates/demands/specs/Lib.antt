@@ -4,5 +4,6 @@ pub mod Codes
 pub mod Causes
 pub mod After
 pub mod Stores
+pub mod Rows
 pub mod Numbers
 pub mod Lines

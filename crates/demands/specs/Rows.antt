@@ -1,0 +1,55 @@
+-- RULES "The numbers": its rows 3 to 9 of a call that was given the record d, the stream s and the store l, and left the record x and the store m.
+use mathlib.Core.Path.{_≡_}
+use mathlib.Core.Bool.{false}
+use mathlib.Core.List.{List}
+use mathlib.Core.Logic.{_⊎_}
+use Prim.Native.Nat.{ℕ, _+_, _*_, _≤_, _<_}
+use lib.IntN.{negsuc}
+use lib.ListN.{length}
+use Rattle.bits.specs.Bits.{bitsAt}
+use Rattle.picture.specs.Ways.{out}
+use Rattle.decoder.specs.declared.record.Decoder.{Decoder}
+use Rattle.decoder.specs.Record.{place, searchedAs, stopAs}
+use Rattle.decoder.specs.Record as R
+use Rattle.decoder.specs.Turns.{Going, nextPicture}
+use Rattle.decoder.specs.HandOut.{begun}
+use Rattle.demands.specs.Codes.{NoneFound}
+use Rattle.demands.specs.Causes.{Cause}
+use Rattle.demands.specs.Questions.{headed, isThere, isFlush, pictureEnd}
+use Rattle.demands.specs.After.{AtCode, sizeRead, InTurn}
+
+-- RULES Q3: the place where the search ended, start code -1
+pub record Row3 (s : List ℕ) (d x : Decoder) : Type 0 where
+  pub place : ℕ
+  pub ended : NoneFound s (R.place d) place
+  pub is : x ≡ searchedAs (negsuc 0) place d
+
+-- RULES Q4: right behind the code, start code B3, fewer than 1,088 bits left
+pub record Row4 (s : List ℕ) (d x : Decoder) : Type 0 where
+  pub code : AtCode s d x
+  pub few : length s * 8 < place x + 1088
+
+-- RULES Q5: width and height as read, one of them 0, 24 bits further
+pub record Row5 (s : List ℕ) (d x : Decoder) : Type 0 where
+  pub behind : Decoder
+  pub code : AtCode s d behind
+  pub bits : place behind + 1088 ≤ length s * 8
+  pub zero : (bitsAt s (place behind) 12 ≡ 0) ⊎ (bitsAt s (place behind + 12) 12 ≡ 0)
+  pub is : x ≡ sizeRead s behind
+
+-- RULES Q7: no picture to decode or to flush; the record behind the search of that turn, the store as the turn was given it
+pub record Row7 (d : Decoder) (s l : List ℕ) (x : Decoder) (m : List ℕ) : Type 0 where
+  pub given : Going
+  pub turn : InTurn s (begun d (headed s d) l) given
+  pub none : isThere s (nextPicture s (given .decoder)) ≡ false
+  pub kept : isFlush s (nextPicture s (given .decoder)) ≡ false
+  pub decoder : x ≡ nextPicture s (given .decoder)
+  pub store : m ≡ given .store
+
+-- RULES Q8, Q9: the picture left early for its cause, with what it had written; the record as passed in with the stop mark n
+pub record Row89 (d : Decoder) (s l : List ℕ) (n : ℕ) (x : Decoder) (m : List ℕ) : Type 0 where
+  pub given : Going
+  pub turn : InTurn s (begun d (headed s d) l) given
+  pub left : pictureEnd s (nextPicture s (given .decoder)) (given .store) ≡ out n m
+  pub cause : Cause s (given .decoder .sequence .sizes) n
+  pub decoder : x ≡ stopAs n d
