@@ -14,6 +14,7 @@ use Rattle.picture.proofs.Possible.{stores-of, picture-of}
 use Rattle.decoder.specs.declared.record.Decoder.{Decoder}
 use Rattle.decoder.specs.declared.answers.Opening.{Opening}
 use Rattle.decoder.specs.declared.answers.Opening.the-variants as O
+use Rattle.decoder.specs.declared.answers.Shown.{Shown}
 use Rattle.decoder.specs.declared.answers.Outcome.{Outcome}
 use Rattle.decoder.specs.declared.answers.Outcome.the-variants as H
 use Rattle.decoder.specs.Record.{Left, fresh, firstStores, place, storeBytes, cleared}
@@ -27,6 +28,7 @@ use Rattle.demands.specs.Questions.{withHeader, headed}
 use Rattle.demands.specs.Stores.{SameFrom}
 use Rattle.demands.specs.After as A
 use Rattle.demands.specs.After.{AfterHeader, AfterOpening, AfterHandOut}
+use Rattle.demands.specs.Handing.{HandsOut}
 use Rattle.demands.proofs.AfterHeader.{AskAfter, IsHeaded, header-after, header-passed}
 use Rattle.demands.proofs.Reached.{same-from, then-same, Fit, CallEnd, hands, seven, stops, pictures-end}
 use Rattle.demands.proofs.RunTurns.{sized}
@@ -121,7 +123,7 @@ module _ (d : Decoder) (s l : List ℕ) where
   -- ---- a hand-out
 
   abbrev Answered : Outcome → Decoder → List ℕ → Type 0
-  Answered o x m = elim o [ H.Picture i ↦ Unit {0} | H.Refused n ↦ AfterHandOut d s l n x m ]
+  Answered o x m = elim o [ H.Picture i ↦ HandsOut d s l i x m | H.Refused n ↦ AfterHandOut d s l n x m ]
 
   record Row (r : Left Outcome) : Type 0 where
     after : Answered (r .answer) (r .decoder) (r .store)
@@ -136,7 +138,7 @@ module _ (d : Decoder) (s l : List ℕ) where
 
     ended-row : {e : Ended} → CallEnd s (begun d (headed s d) l) e → Row (ended d e)
     unfolding ended
-    ended-row (hands q h) = record { after = tt; same = on-to h }
+    ended-row (hands k i h) = record { after = record { given = _; turn = k .turn; handing = i }; same = on-to h }
     ended-row (seven k t u) = record { after = A.after-7 (k .turn) t u; same = on-to (k .same) }
     ended-row (stops k e c h) = record { after = A.after-8-9 (k .turn) e c; same = on-to h }
 
@@ -177,6 +179,9 @@ module _ (d : Decoder) (s l : List ℕ) where
 
   pub hand-after : (n : ℕ) → handOut d s l .answer ≡ H.Refused n → AfterHandOut d s l n (handOut d s l .decoder) (handOut d s l .store)
   hand-after n e = subst (λ (o : Outcome). Answered o (handOut d s l .decoder) (handOut d s l .store)) e (hand-row .after)
+
+  pub hand-picture : (i : Shown) → handOut d s l .answer ≡ H.Picture i → HandsOut d s l i (handOut d s l .decoder) (handOut d s l .store)
+  hand-picture i e = subst (λ (o : Outcome). Answered o (handOut d s l .decoder) (handOut d s l .store)) e (hand-row .after)
 
   -- RULES D2.3
   pub hand-same : SameFrom (storeBytes (headed s d)) l (handOut d s l .store)

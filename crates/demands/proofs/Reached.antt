@@ -20,16 +20,17 @@ use Rattle.decoder.specs.declared.record.Decoder.{Decoder}
 use Rattle.decoder.specs.declared.answers.Shown.{Shown}
 use Rattle.decoder.specs.declared.answers.Outcome.the-variants as H
 use Rattle.decoder.specs.Record.{place, startCode, storeBytes}
-use Rattle.decoder.specs.Turns.{Going, Ended, gave, stopped, nextPicture, counted, handed, pictureTurn}
+use Rattle.decoder.specs.Turns.{Going, Ended, gave, stopped, nextPicture, pictureTurn}
 use Rattle.decoder.specs.HandOut.{pictures}
 use Rattle.decoder.proofs.TwoTurns.{Holds, isStop, goes-held, held-stops}
 use Rattle.demands.specs.Causes.{Cause}
 use Rattle.demands.specs.Stores.{SameBut, SameFrom}
 use Rattle.demands.specs.Questions.{isThere, isFlush, pictureEnd}
 use Rattle.demands.specs.After.{InTurn, in-the-first, in-the-second}
+use Rattle.demands.specs.Handing.{pictureRun, Reads, past, Handing, b-picture, held-picture, flushed-picture}
 use Rattle.demands.proofs.PictureStores.{Ways}
 use Rattle.demands.proofs.PictureLeft.{turned, Left, Stopped, picture-left}
-use Rattle.demands.proofs.TurnCases.{pictureRun, past, TurnIs, shows-b, shows-held, holds, leaves, flushes, is-seven, turn-is}
+use Rattle.demands.proofs.TurnCases.{TurnIs, gives, holds, leaves, is-seven, turn-is}
 
 -- ---- what of the store stays
 
@@ -68,7 +69,7 @@ module _ (s : List ℕ) {d : Decoder} {l : List ℕ} (k : Fit d l) where
       (Stopped s (d .sequence .sizes) (d .sequence .matrices) (k .area) (d .picture) l) (pictureRun s d l .value)
   run-left = picture-left s (d .sequence .sizes) (d .sequence .matrices) (k .area) (d .picture) l (k .stores .cur) (k .long) (place d)
 
-  pub frame-left : {f : P.Frame} {a : ℕ} → pictureRun s d l ≡ record { value = on f; at = a }
+  pub frame-left : {f : P.Frame} {a : ℕ} → Reads s d l f a
       → Left (d .sequence .sizes) (d .picture) l (run (P.pictureHeader (d .picture)) s (place d) .value .decoded) f
   frame-left r = rw r at run-left
 
@@ -76,7 +77,7 @@ module _ (s : List ℕ) {d : Decoder} {l : List ℕ} (k : Fit d l) where
       → SameBut (d .sequence .sizes .«mb_size») (d .picture .stores .cur) l m × Cause s (d .sequence .sizes) n
   stopped-left r = rw r at run-left
 
-  pub past-fit : {f : P.Frame} {a : ℕ} → pictureRun s d l ≡ record { value = on f; at = a } → Fit (past d f a) (f .store)
+  pub past-fit : {f : P.Frame} {a : ℕ} → Reads s d l f a → Fit (past d f a) (f .store)
   past-fit {f} r =
       let j = frame-left r in
       record { area = k .area; stores = go (run (P.pictureHeader (d .picture)) s (place d) .value .decoded) refl j; long = omega (arith, k .long, j .store .long) }
@@ -87,7 +88,7 @@ module _ (s : List ℕ) {d : Decoder} {l : List ℕ} (k : Fit d l) where
           rw (j .stores e) (by-case PossibleStores (eqb (f .picture .«picture_type») 3) (λ b. k .stores) (λ b. after-possible (k .stores)))
       go false e j = rw (j .others e) (k .stores)
 
-  pub past-same : {f : P.Frame} {a : ℕ} → pictureRun s d l ≡ record { value = on f; at = a } → SameFrom (storeBytes d) l (f .store)
+  pub past-same : {f : P.Frame} {a : ℕ} → Reads s d l f a → SameFrom (storeBytes d) l (f .store)
   past-same r = but-from (k .stores .cur) (frame-left r .store)
 
 -- ---- the turns
@@ -100,8 +101,8 @@ pub record Reached (s : List ℕ) (x y : Going) : Type 0 where
   pub same : SameFrom (storeBytes (x .decoder)) (x .store) (y .store)
 
 pub data CallEnd (s : List ℕ) (x : Going) : Ended → Type 0 where
-  hands : {i : Shown} {d : Decoder} {l : List ℕ} → d .sequence ≡ x .decoder .sequence → SameFrom (storeBytes (x .decoder)) (x .store) l
-      → CallEnd s x (gave (H.Picture i) d l)
+  hands : {y : Going} {i : Shown} {d : Decoder} {l : List ℕ} → Reached s x y → Handing s (nextPicture s (y .decoder)) (y .store) i d l
+      → SameFrom (storeBytes (x .decoder)) (x .store) l → CallEnd s x (gave (H.Picture i) d l)
   seven : {y : Going} → Reached s x y → isThere s (nextPicture s (y .decoder)) ≡ false → isFlush s (nextPicture s (y .decoder)) ≡ false
       → CallEnd s x (gave (H.Refused 7) (nextPicture s (y .decoder)) (y .store))
   stops : {y : Going} {n : ℕ} {m : List ℕ} → Reached s x y → pictureEnd s (nextPicture s (y .decoder)) (y .store) ≡ out n m
@@ -112,7 +113,6 @@ TurnEnd s x y (again z) = Fit (z .decoder) (z .store) × (z .decoder .sequence �
 TurnEnd s x y (stop e) = CallEnd s x e
 
 turn-end : (s : List ℕ) (x y : Going) → Reached s x y → {t : Turn Going Ended} → TurnIs s (nextPicture s (y .decoder)) (y .store) t → TurnEnd s x y t
-unfolding handed counted
 turn-end s x y k = go
   where
     fit : Fit (nextPicture s (y .decoder)) (y .store)
@@ -131,15 +131,15 @@ turn-end s x y k = go
     on-to {m} h = then-same (k .same) (subst (λ (n : ℕ). SameFrom n (y .store) m) start (here h))
 
     go : {t : Turn Going Ended} → TurnIs s (nextPicture s (y .decoder)) (y .store) t → TurnEnd s x y t
-    go (shows-b t r b) = hands (next-sequence s (y .decoder) ∙ k .sequence) (on-to (past-same s fit r))
-    go (shows-held t r b h) = hands (next-sequence s (y .decoder) ∙ k .sequence) (on-to (past-same s fit r))
+    go (gives (b-picture t r b)) = hands k (b-picture t r b) (on-to (past-same s fit r))
+    go (gives (held-picture t r b h)) = hands k (held-picture t r b h) (on-to (past-same s fit r))
+    go (gives (flushed-picture t u)) = hands k (flushed-picture t u) (k .same)
     go (holds t r b h) =
         let j = past-fit s fit r in
         (record { area = j .area; stores = j .stores; long = j .long }, next-sequence s (y .decoder), here (past-same s fit r))
     go (leaves t r) =
         let j = stopped-left s fit r in
         stops k (ap (λ (o : Out (Way P.Frame)). o .value) r) (rw (next-sequence s (y .decoder)) at j .1) (on-to (but-from (fit .stores .cur) (j .0)))
-    go (flushes t u) = hands (next-sequence s (y .decoder) ∙ k .sequence) (k .same)
     go (is-seven t u) = seven k t u
 
 second-end : (s : List ℕ) (x y : Going) (t : Turn Going Ended) → isStop t ≡ true → TurnEnd s x y t

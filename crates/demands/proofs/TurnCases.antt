@@ -3,54 +3,39 @@ use mathlib.Core.Path.{_≡_, refl}
 use mathlib.Core.Bool.{Bool, true, false, cond, not, _&&_}
 use mathlib.Core.List.{List}
 use Prim.Native.Nat.{ℕ}
-use lib.Dec.{eqb}
 use lib.IntN.{negsuc}
 use Rattle.laws.specs.Turns.{Turn, again, stop}
-use Rattle.bits.specs.Programs.{Out, run, eqZ}
+use Rattle.bits.specs.Programs.{eqZ}
 use Rattle.picture.specs.Ways.{Way, on, out}
-use Rattle.picture.specs.Pictures.{Frame, picture}
+use Rattle.picture.specs.Pictures.{Frame}
 use Rattle.decoder.specs.declared.record.Decoder.{Decoder}
+use Rattle.decoder.specs.declared.answers.Shown.{Shown}
 use Rattle.decoder.specs.declared.answers.Outcome.the-variants as H
-use Rattle.decoder.specs.Record.{place, startCode, placeAs, pictureAs, heldAs}
+use Rattle.decoder.specs.Record.{place, startCode, heldAs}
 use Rattle.decoder.specs.Turns.{Going, going, Ended, gave, stopped, nextPicture, hasEnded, isFollowed, isReference}
-use Rattle.decoder.specs.Turns.{pictureAt, handed, shown, flushed, pastPicture, decoded, searched, pictureTurn}
+use Rattle.decoder.specs.Turns.{pictureAt, counted, handed, shown, flushed, pastPicture, decoded, searched, pictureTurn}
 use Rattle.demands.specs.Questions.{isThere, isFlush}
-
--- the picture at the record's place, decoded in the store l
-abbrev pub pictureRun : List ℕ → Decoder → List ℕ → Out (Way Frame)
-pictureRun s d l = run (picture (d .sequence .sizes) (d .sequence .matrices) (d .picture) l) s (place d)
-
--- the record behind a picture that left f and ended at the place a
-abbrev pub past : Decoder → Frame → ℕ → Decoder
-past d f a = placeAs a (pictureAs (f .picture) d)
-
-abbrev pub isB : Frame → Bool
-isB f = eqb (f .picture .«picture_type») 3
+use Rattle.demands.specs.Handing.{pictureRun, Reads, past, isB, Handing, b-picture, held-picture, flushed-picture}
 
 -- a turn with the record d behind its search, and the store l
 pub data TurnIs (s : List ℕ) (d : Decoder) (l : List ℕ) : Turn Going Ended → Type 0 where
-  shows-b : {f : Frame} {a : ℕ} → isThere s d ≡ true → pictureRun s d l ≡ record { value = on f; at = a } → isB f ≡ true
-      → TurnIs s d l (stop (handed (f .picture .stores .cur) (past d f a) (f .store)))
-  shows-held : {f : Frame} {a : ℕ} → isThere s d ≡ true → pictureRun s d l ≡ record { value = on f; at = a } → isB f ≡ false
-      → d .«has_reference_frame» ≡ true → TurnIs s d l (stop (handed (f .picture .stores .fwd) (past d f a) (f .store)))
-  holds : {f : Frame} {a : ℕ} → isThere s d ≡ true → pictureRun s d l ≡ record { value = on f; at = a } → isB f ≡ false
+  gives : {i : Shown} {x : Decoder} {m : List ℕ} → Handing s d l i x m → TurnIs s d l (stop (gave (H.Picture i) x m))
+  holds : {f : Frame} {a : ℕ} → isThere s d ≡ true → Reads s d l f a → isB f ≡ false
       → d .«has_reference_frame» ≡ false → TurnIs s d l (again (going (heldAs true (past d f a)) (f .store)))
   leaves : {n a : ℕ} {m : List ℕ} → isThere s d ≡ true → pictureRun s d l ≡ record { value = out n m; at = a } → TurnIs s d l (stop (stopped n m))
-  flushes : isThere s d ≡ false → isFlush s d ≡ true
-      → TurnIs s d l (stop (gave (pictureAt (d .picture .stores .bwd) (d .clock .«last_frame_time»)) (heldAs false d) l))
   is-seven : isThere s d ≡ false → isFlush s d ≡ false → TurnIs s d l (stop (gave (H.Refused 7) d l))
 
 module _ (s : List ℕ) (d : Decoder) (l : List ℕ) where
-  shown-is : (f : Frame) (a : ℕ) → isThere s d ≡ true → pictureRun s d l ≡ record { value = on f; at = a }
+  shown-is : (f : Frame) (a : ℕ) → isThere s d ≡ true → Reads s d l f a
       → TurnIs s d l (shown (past d f a) (f .store))
-  unfolding shown
+  unfolding shown handed counted
   shown-is f a t r = go (isB f) refl (d .«has_reference_frame») refl
     where
       go : (b : Bool) → isB f ≡ b → (h : Bool) → d .«has_reference_frame» ≡ h
           → TurnIs s d l (cond b (stop (handed (f .picture .stores .cur) (past d f a) (f .store)))
           (cond h (stop (handed (f .picture .stores .fwd) (past d f a) (f .store))) (again (going (heldAs true (past d f a)) (f .store)))))
-      go true e h i = shows-b t r e
-      go false e true i = shows-held t r e i
+      go true e h i = gives (b-picture t r e)
+      go false e true i = gives (held-picture t r e i)
       go false e false i = holds t r e i
 
   past-is : (w : Way Frame) (a : ℕ) → isThere s d ≡ true → pictureRun s d l ≡ record { value = w; at = a }
@@ -71,7 +56,7 @@ module _ (s : List ℕ) (d : Decoder) (l : List ℕ) where
           → TurnIs s d l (cond t
           (stop (cond u (gave (pictureAt (d .picture .stores .bwd) (d .clock .«last_frame_time»)) (heldAs false d) l) (gave (H.Refused 7) d l)))
           (cond f (decoded s d l) (stop (gave (H.Refused 7) d l))))
-      go true a f b true c k = flushes (rw a refl) (rw a c)
+      go true a f b true c k = gives (flushed-picture (rw a refl) (rw a c))
       go true a f b false c k = is-seven (rw a refl) (rw a c)
       go false a true b u c k = k (rw a b)
       go false a false b u c k = is-seven (rw a b) (rw a refl)

@@ -5,5 +5,6 @@ pub mod Causes
 pub mod After
 pub mod Stores
 pub mod Rows
+pub mod Handing
 pub mod Numbers
 pub mod Lines
