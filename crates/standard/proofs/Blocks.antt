@@ -1,0 +1,421 @@
+-- 2.4.2.8, 2.4.4.1, 2.4.4.2: the blocks of a macroblock, with the DC prediction. Assumes nothing.
+use mathlib.Core.Path.{_≡_, refl, sym, ap, _∙_, subst}
+use mathlib.Core.Bool.{Bool, true, false, cond, not, _&&_, _||_, false≢true}
+use mathlib.Core.List.{List, [], _∷_}
+use Prim.Native.Nat.{ℕ, zero, suc, _+_, _-_, _*_, _^_, _≤_, _<_}
+use native.Mathlib.Omega.{arith}
+use borrow.Author.Tests.{eqb-true, eqb-false}
+use lib.Dec.{eqb, ltb}
+use lib.IntN.{ℤ, pos, negℤ, natAbs, _+ℤ_, _*ℤ_, +ℤ-idr, zero-*ℤ, *ℤ-zero}
+use lib.ListN.{getD, set, replicate, getD-replicate}
+use lib.Seq.{getD-set-other}
+use lib.Signed.{leZ}
+use Rattle.laws.proofs.Ints.{v, lit, neg, _⊕_, _⊗_, _⊛_, eq-by, le-yes, yes-le}
+use Rattle.laws.proofs.Tests.{both}
+use Rattle.bits.specs.Bits.{got}
+use Rattle.bits.specs.Programs.{Prog, done, run, bind, bits}
+use Rattle.bits.proofs.Gives.{g-bits}
+use Rattle.codes.specs.Matrices.{zigZag, downFrom, diagonals, premultiplierMatrix}
+use Rattle.codes.proofs.Values.{size-luminance-most, size-chrominance-most}
+use Rattle.coefficients.specs.declared.block.BlockEnd.{BlockEnd}
+use Rattle.coefficients.specs.declared.block.BlockEnd.the-variants.{Whole, Dropped, Outside}
+use Rattle.coefficients.specs.Dcs.{dcSize, dcDifference, dcInside, added}
+use Rattle.coefficients.specs.Dequantise.{quantiser, dequantised}
+use Rattle.coefficients.specs.Syntax.{Pair, Ended, ended, pairs, Coded, coded, intraCoded, otherCoded, codedBlock}
+use Rattle.coefficients.specs.Blocks as B
+use Rattle.coefficients.specs.Standard.{dctZZ0}
+use Rattle.coefficients.proofs.Standard.{dc-as-printed}
+use borrow.Rule.Slice.PartMut.{midOf, putMid}
+use Rattle.laws.specs.Signed.{clamp255}
+use Rattle.laws.proofs.Lists.{rows-alike}
+use Rattle.transform.specs.Idct.{idct, dcOnly}
+use Rattle.transform.proofs.LoneDc.{lone-dc}
+use Rattle.prediction.specs.Predict.{macroblockAt}
+use Rattle.prediction.specs.Planes.{planeOf, planeLength, planeStart}
+use Rattle.prediction.specs.Writers.{setConst, overwrite, addConst, addBlock, blockWidth, blockPlace}
+use Rattle.picture.specs.declared.state.Slice.{Slice}
+use Rattle.picture.specs.State.{Given, World, world}
+use Rattle.picture.specs.Ways.{Way, on, out, leave, onward, plain, step, give}
+use Rattle.picture.specs.Heads.{flag}
+use Rattle.picture.specs.Blocks as O
+use Rattle.standard.specs.Standard as S
+use Rattle.standard.proofs.Rules.{Agree, a-same, a-give, a-plain, a-onward, a-shall, plain-bind, plain-bind-on}
+use Rattle.standard.proofs.Related.{motionOf, Own, own, sliceOf, eights, Rule, coding}
+use Rattle.standard.specs.Rules.{times, premultiplied}
+
+-- ---- coefficients
+
+times-set : (xs ps : List ℤ) (k : ℕ) (x : ℤ) → times (set xs k x) ps ≡ set (times xs ps) k (x *ℤ getD ps k (pos 0))
+times-set [] ps k x = refl
+times-set (y ∷ xs) [] zero x = refl
+times-set (y ∷ xs) [] (suc k) x = ap (λ (l : List ℤ). (y *ℤ pos 0) ∷ l) (times-set xs [] k x)
+times-set (y ∷ xs) (p ∷ ps) zero x = refl
+times-set (y ∷ xs) (p ∷ ps) (suc k) x = ap (λ (l : List ℤ). (y *ℤ p) ∷ l) (times-set xs ps k x)
+
+times-at : (xs ps : List ℤ) (k : ℕ) → getD xs k (pos 0) ≡ pos 0 → getD (times xs ps) k (pos 0) ≡ pos 0
+times-at [] ps k e = refl
+times-at (x ∷ xs) [] zero e = *ℤ-zero x
+times-at (x ∷ xs) [] (suc k) e = times-at xs [] k e
+times-at (x ∷ xs) (p ∷ ps) zero e = ap (λ (z : ℤ). z *ℤ p) e ∙ zero-*ℤ p
+times-at (x ∷ xs) (p ∷ ps) (suc k) e = times-at xs ps k e
+
+times-zero : premultiplied (replicate 64 (pos 0)) ≡ replicate 64 (pos 0)
+unfolding premultiplierMatrix
+times-zero = refl
+
+-- ours while the standard's is x
+abbrev filledOf : S.Filled → B.Filled
+filledOf x = B.filled (premultiplied (x .recon)) (x .n)
+
+-- RULES 4.3: as long as no place but the first of the zig-zag order is used, all coefficients but that at place 0 are 0
+pub record Lone (x : S.Filled) : Type 0 where
+  pub zeros : x .n ≤ 1 → (k : ℕ) → 0 < k → getD (x .recon) k (pos 0) ≡ pos 0
+
+zeros-at : (n k : ℕ) → getD (replicate n (pos 0)) k (pos 0) ≡ pos 0
+zeros-at zero k = refl
+zeros-at (suc n) zero = refl
+zeros-at (suc n) (suc k) = zeros-at n k
+
+lone-dc-begins : (z : ℤ) → Lone (record { recon = set (replicate 64 (pos 0)) 0 z; n = 1 })
+lone-dc-begins z = record { zeros = λ h k p. getD-set-other (replicate 64 (pos 0)) 0 k z (pos 0) (λ e. omega arith) ∙ zeros-at 64 k }
+
+lone-begins : Lone (record { recon = replicate 64 (pos 0); n = 0 })
+lone-begins = record { zeros = λ h k p. zeros-at 64 k }
+
+zig-zag-first : (n : ℕ) → n ≡ 0 → getD zigZag n 0 ≡ 0
+unfolding zigZag downFrom diagonals
+zig-zag-first n e = rw e
+
+lone-next : (x : S.Filled) (r : ℕ) (z : ℤ) → Lone x → Lone (record { recon = set (x .recon) (getD zigZag (x .n + r) 0) z; n = x .n + r + 1 })
+lone-next x r z l =
+    record {
+      zeros = λ h k p.
+          getD-set-other (x .recon) (getD zigZag (x .n + r) 0) k z (pos 0) (λ e. omega (arith, zig-zag-first (x .n + r) (omega arith))) ∙ l .zeros (omega arith) k p;
+    }
+
+-- what the standard's way gives
+abbrev WayIs : {A : Type 0} → (A → Type 0) → Way A → Type 0
+WayIs P (on x) = P x
+WayIs P (out n l) = Unit {0}
+
+is-also : {A : Type 0} {P Q : A → Type 0} (w : Way A) → ((x : A) → P x → Q x) → WayIs P w → WayIs Q w
+is-also (on x) k p = k x p
+is-also (out n l) k p = tt
+
+-- such a step of the standard's alone
+a-way : {A C D : Type 0} {Q : C → D → Type 0} {s : List ℕ} {a : ℕ} {q : Prog (Way D)} (P : A → Type 0) (w : Way A) (F : A → Prog (Way C)) → WayIs P w
+    → ((x : A) → P x → Agree Q s a (F x) q) → Agree Q s a (onward (step w) F) q
+unfolding onward leave bind run
+a-way P (on x) F p k = k x p
+a-way P (out n l) F p k = record { is = tt }
+
+module _ (rule : Rule) (g : Given) (f b : S.Direction) (intra : Bool) (scale : ℕ) where
+  abbrev their : S.Coding
+  their = coding rule g f b
+
+  abbrev placedOf : S.Filled → List Pair → B.Filled
+  placedOf x ps = B.allPlaced (quantiser intra scale) (O.matrixFor g intra) (filledOf x) ps
+
+  -- what the standard makes of some pairs is what ours makes of them
+  record Placed (x : S.Filled) (ps : List Pair) (y : S.Filled) : Type 0 where
+    same : placedOf x ps ≡ filledOf y
+    lone : Lone y
+
+  pairs-same : (x : S.Filled) (ps : List Pair) → Lone x → WayIs (Placed x ps) (S.reconstructed their intra scale x ps)
+  unfolding S.reconstructed B.allPlaced
+  pairs-same x [] l = record { same = refl; lone = l }
+  pairs-same x (p ∷ ps) l =
+      go (rule .rules .admitted intra (p .level) scale quant) (rule .same intra (p .level) scale quant) (pairs-same next ps (lone-next x (p .run) theirs l))
+    where
+      place : ℕ
+      place = getD zigZag (x .n + p .run) 0
+
+      quant : ℕ
+      quant = getD (O.matrixFor g intra) place 0
+
+      theirs : ℤ
+      theirs = rule .rules .dctRecon intra (p .level) scale quant
+
+      next : S.Filled
+      next = record { recon = set (x .recon) place theirs; n = x .n + p .run + 1 }
+
+      placed-same : theirs ≡ dequantised (quantiser intra scale) (p .level) quant → B.placed (quantiser intra scale) (O.matrixFor g intra) (filledOf x) p ≡ filledOf next
+      placed-same e =
+          ap (λ (z : ℤ). B.filled (set (premultiplied (x .recon)) place (z *ℤ getD premultiplierMatrix place (pos 0))) (x .n + p .run + 1)) (sym e)
+          ∙ ap (λ (l : List ℤ). B.filled l (x .n + p .run + 1)) (sym (times-set (x .recon) premultiplierMatrix place theirs))
+
+      go : (t : Bool) → (t ≡ true → theirs ≡ dequantised (quantiser intra scale) (p .level) quant) → WayIs (Placed next ps) (S.reconstructed their intra scale next ps)
+          → WayIs (Placed x (p ∷ ps)) (cond t (S.reconstructed their intra scale next ps) S.forbidden)
+      go true k r =
+          is-also (S.reconstructed their intra scale next ps) (λ y q.
+          record { same = ap (λ (z : B.Filled). B.allPlaced (quantiser intra scale) (O.matrixFor g intra) z ps) (placed-same (k refl)) ∙ q .same; lone = q .lone }) r
+      go false k r = tt
+
+  coefficients-same : (x : S.Filled) (p : Ended) → Lone x → WayIs (λ y. (p .end ≡ Whole) × Placed x (p .pairs) y) (S.coefficients their intra scale x p)
+  coefficients-same x p l = go (p .end)
+    where
+      go : (e : BlockEnd) → WayIs (λ y. (e ≡ Whole) × Placed x (p .pairs) y) (cond (S.isWhole e) (S.reconstructed their intra scale x (p .pairs)) S.forbidden)
+      go Whole = is-also (S.reconstructed their intra scale x (p .pairs)) (λ y q. (refl, q)) (pairs-same x (p .pairs) l)
+      go Dropped = tt
+      go Outside = tt
+
+-- ---- the DC value
+
+size-small : (luminance : Bool) (s : List ℕ) (a : ℕ) → run (dcSize luminance) s a .value ≤ 31
+unfolding dcSize
+size-small true s a = let h = size-luminance-most {s = s} .value a in omega arith
+size-small false s a = let h = size-chrominance-most {s = s} .value a in omega arith
+
+module _ (s : List ℕ) where
+  dc-agrees : (i a : ℕ) → Agree _≡_ s a (S.dctDc i) (plain (dcDifference (ltb i 4)))
+  unfolding S.dctDc dcDifference plain bind onward leave run
+  dc-agrees i a =
+      let o = run (dcSize (ltb i 4)) s a in
+      a-same (sym (plain-bind (dcSize (ltb i 4)) _ s a)) (
+      a-plain (dcSize (ltb i 4)) (dcSize (ltb i 4)) _ _ refl (go (o .value) (o .at) (size-small (ltb i 4) s a) (eqb (o .value) 0) refl))
+    where
+      go : (n e : ℕ) → n ≤ 31 → (t : Bool) → eqb n 0 ≡ t
+          → Agree _≡_ s e (cond t (give (pos 0)) (onward (plain (bits n)) (λ d. give (dctZZ0 n d)))) (plain (cond t (done (pos 0)) (bind (bits n) (λ d. done (added n d)))))
+      go n e h true q = a-give refl
+      go n e h false q =
+          let l = eqb-false n 0 q in
+          record { is = (refl, dc-as-printed n (got s e n) (omega arith) h (g-bits {s = s} n .value e)) }
+
+-- ---- the three predictors
+
+abbrev ownAs : ℕ → ℤ → Own → Own
+ownAs i x o = cond (ltb i 4) (own (o .forSet) (o .backSet) x (o .cb) (o .cr)) (cond (eqb i 4) (own (o .forSet) (o .backSet) (o .y) x (o .cr)) (own (o .forSet) (o .backSet) (o .y) (o .cb) x))
+
+abbrev dcsOf : Own → List ℤ
+dcsOf o = o .y ∷ o .cb ∷ o .cr ∷ []
+
+-- the pasts as the last k blocks use them
+abbrev pub leftOf : Bool → ℕ → S.Pasts → S.Pasts
+leftOf isFar k p = S.pasts (cond (eqb k 6 && isFar) (pos 1024) (p .y)) (cond (ltb 1 k && isFar) (pos 1024) (p .cb)) (cond (ltb 0 k && isFar) (pos 1024) (p .cr))
+
+pub left-six : (isFar : Bool) (p : S.Pasts) → leftOf isFar 6 p ≡ cond isFar (S.pasts (pos 1024) (pos 1024) (pos 1024)) p
+left-six true p = refl
+left-six false p = refl
+
+-- block i with its predictor, where k blocks follow it
+record Component (isFar : Bool) (p : S.Pasts) (o : Own) (x : ℤ) (k i : ℕ) : Type 0 where
+  pred : S.dcPredictor isFar i p ≡ pos 8 *ℤ getD (dcsOf o) (O.predictorOf i) (pos 0)
+  past : leftOf isFar k (S.pastAs i (pos 8 *ℤ x) p) ≡ eights (ownAs i x o)
+  dcs : set (dcsOf o) (O.predictorOf i) x ≡ dcsOf (ownAs i x o)
+
+component : (isFar : Bool) (p : S.Pasts) (o : Own) (x : ℤ) (k : ℕ) → k < 6 → leftOf isFar (suc k) p ≡ eights o → Component isFar p o x k (5 - k)
+component isFar p o x zero h e = record { pred = λ j. e j .cr; past = λ j. S.pasts (e j .y) (e j .cb) (pos 8 *ℤ x); dcs = refl }
+component isFar p o x (suc zero) h e = record { pred = λ j. e j .cb; past = λ j. S.pasts (e j .y) (pos 8 *ℤ x) (e j .cr); dcs = refl }
+component isFar p o x (suc (suc zero)) h e = record { pred = λ j. e j .y; past = λ j. S.pasts (pos 8 *ℤ x) (e j .cb) (e j .cr); dcs = refl }
+component isFar p o x (suc (suc (suc zero))) h e = record { pred = λ j. e j .y; past = λ j. S.pasts (pos 8 *ℤ x) (e j .cb) (e j .cr); dcs = refl }
+component isFar p o x (suc (suc (suc (suc zero)))) h e = record { pred = λ j. e j .y; past = λ j. S.pasts (pos 8 *ℤ x) (e j .cb) (e j .cr); dcs = refl }
+component isFar p o x (suc (suc (suc (suc (suc zero))))) h e = record { pred = λ j. e j .y; past = λ j. S.pasts (pos 8 *ℤ x) (e j .cb) (e j .cr); dcs = refl }
+component isFar p o x (suc (suc (suc (suc (suc (suc k)))))) h e = let z : ⊥ = omega arith in absurd z
+
+-- a predictor put in its own place
+kept-dcs : (o : Own) (k : ℕ) → k < 6 → set (dcsOf o) (O.predictorOf (5 - k)) (getD (dcsOf o) (O.predictorOf (5 - k)) (pos 0)) ≡ dcsOf o
+kept-dcs o zero h = refl
+kept-dcs o (suc zero) h = refl
+kept-dcs o (suc (suc zero)) h = refl
+kept-dcs o (suc (suc (suc zero))) h = refl
+kept-dcs o (suc (suc (suc (suc zero)))) h = refl
+kept-dcs o (suc (suc (suc (suc (suc zero))))) h = refl
+kept-dcs o (suc (suc (suc (suc (suc (suc k)))))) h = let z : ⊥ = omega arith in absurd z
+
+-- 63 has all six bits
+bits-63 : (k : ℕ) → k < 6 → flag 63 (2 ^ k) ≡ true
+bits-63 zero h = refl
+bits-63 (suc zero) h = refl
+bits-63 (suc (suc zero)) h = refl
+bits-63 (suc (suc (suc zero))) h = refl
+bits-63 (suc (suc (suc (suc zero)))) h = refl
+bits-63 (suc (suc (suc (suc (suc zero))))) h = refl
+bits-63 (suc (suc (suc (suc (suc (suc k)))))) h = let z : ⊥ = omega arith in absurd z
+
+or-true : (t : Bool) → (t || true) ≡ true
+or-true true = refl
+or-true false = refl
+
+-- ---- in units of 8
+
+eight-add : (p z : ℤ) → (pos 8 *ℤ p) +ℤ pos 8 *ℤ z ≡ pos 8 *ℤ (p +ℤ z)
+eight-add p z = eq-by ((8 ⊛ v p) ⊕ (8 ⊛ v z)) (8 ⊛ (v p ⊕ v z)) (omega arith)
+
+eight-32 : (x : ℤ) → (pos 8 *ℤ x) *ℤ pos 32 ≡ x *ℤ pos 256
+eight-32 x = eq-by ((8 ⊛ v x) ⊗ lit 32) (v x ⊗ lit 256) (omega arith)
+
+eight-inside : (x : ℤ) → (leZ (negℤ (pos 2048)) (pos 8 *ℤ x) && leZ (pos 8 *ℤ x) (pos 2047)) ≡ true → dcInside x ≡ true
+eight-inside x e =
+    let b = both (leZ (negℤ (pos 2048)) (pos 8 *ℤ x)) (leZ (pos 8 *ℤ x) (pos 2047)) e in
+    let l = le-yes (neg (lit 2048)) (8 ⊛ v x) (b .0) in
+    let h = le-yes (8 ⊛ v x) (lit 2047) (b .1) in
+    rw (yes-le (neg (lit 256)) (v x) (omega arith), yes-le (v x) (lit 255) (omega arith))
+
+begins : (x : ℤ) → B.filled (set (replicate 64 (pos 0)) 0 (x *ℤ pos 256)) 1 ≡ B.filled (premultiplied (set (replicate 64 (pos 0)) 0 (pos 8 *ℤ x))) 1
+unfolding premultiplierMatrix
+begins x =
+    ap (λ (l : List ℤ). B.filled l 1) (
+    ap (λ (z : ℤ). set (replicate 64 (pos 0)) 0 z) (sym (eight-32 x)) ∙ ap (λ (l : List ℤ). set l 0 (pos 8 *ℤ x *ℤ pos 32)) (sym times-zero)
+    ∙ sym (times-set (replicate 64 (pos 0)) premultiplierMatrix 0 (pos 8 *ℤ x)))
+
+-- ---- the pels
+
+-- one number everywhere, or the transform: the standard's two cases are our four
+results-same : (intra : Bool) (scale : ℕ) (f : B.Filled) (di dw : ℕ) (d : List ℕ) → (f .n ≤ 1 → (k : ℕ) → 0 < k → getD (f .coefficients) k (pos 0) ≡ pos 0)
+    → cond intra (overwrite d di dw (idct (f .coefficients))) (addBlock d di dw (idct (f .coefficients))) ≡ O.results (quantiser intra scale) f di dw d
+unfolding O.results overwrite addBlock setConst addConst
+results-same intra scale f di dw d h = go intra (eqb (f .n) 1) (λ e. lone-dc c (λ k p q. h (omega (arith, eqb-true (f .n) 1 e)) k p))
+  where
+    c : List ℤ
+    c = f .coefficients
+
+    x : ℤ
+    x = dcOnly (getD c 0 (pos 0))
+
+    go : (i t : Bool) → (t ≡ true → idct c ≡ replicate 64 x) → cond i (overwrite d di dw (idct c)) (addBlock d di dw (idct c))
+        ≡ cond t (cond i (setConst d di dw (clamp255 x)) (addConst d di dw x)) (cond i (overwrite d di dw (idct c)) (addBlock d di dw (idct c)))
+    go true true k =
+        ap (overwrite d di dw) (k refl)
+        ∙ rows-alike d di dw 8 (λ y z. clamp255 (getD (replicate 64 x) (y * 8 + z) (pos 0))) (λ y z. clamp255 x) 8 (λ y z p q. ap clamp255 (getD-replicate 64 (y * 8 + z) x (pos 0) (omega arith)))
+    go true false k = refl
+    go false true k =
+        ap (addBlock d di dw) (k refl)
+        ∙ rows-alike d di dw 8 (λ y z. clamp255 (pos (getD d (di + y * dw + z) 0) +ℤ getD (replicate 64 x) (y * 8 + z) (pos 0))) (λ y z. clamp255 (pos (getD d (di + y * dw + z) 0) +ℤ x)) 8
+        (λ y z p q. ap (λ (w : ℤ). clamp255 (pos (getD d (di + y * dw + z) 0) +ℤ w)) (getD-replicate 64 (y * 8 + z) x (pos 0) (omega arith)))
+    go false false k = refl
+
+written-same : (rule : Rule) (g : Given) (f b : S.Direction) (intra : Bool) (scale i address : ℕ) (x : S.Filled) (r : B.Read) (l : List ℕ) → r .filled ≡ filledOf x → Lone x
+    → O.written g (quantiser intra scale) i address r l ≡ S.written (coding rule g f b) intra i address x l
+unfolding O.written S.written
+written-same rule g f b intra scale i address x r l e lone =
+    let m = macroblockAt (g .sizes .«mb_width») (g .sizes .«mb_height») address in
+    let start = planeStart (g .stores .cur) (planeOf i) (g .sizes .«mb_size») in
+    let size = planeLength (planeOf i) (g .sizes .«mb_size») in
+    let put : List ℤ → List ℕ = λ y. cond intra (overwrite (midOf start size l) (blockPlace m i) (blockWidth m i) y) (addBlock (midOf start size l) (blockPlace m i) (blockWidth m i) y) in
+    ap (putMid start size l) (
+    ap (λ (z : B.Filled). O.results (quantiser intra scale) z (blockPlace m i) (blockWidth m i) (midOf start size l)) e
+    ∙ sym (results-same intra scale (filledOf x) (blockPlace m i) (blockWidth m i) (midOf start size l) (λ h k p. times-at (x .recon) premultiplierMatrix k (lone .zeros h k p)))
+    ∙ ap put (sym (rule .transform (x .recon))))
+
+-- ---- a block
+
+-- our slice with these DC predictors, and nothing left over
+abbrev laid : ℤ → ℕ → S.Vector → S.Vector → S.Direction → Bool → S.Direction → Bool → List ℤ → Slice
+laid A q for back f fs b bs dcs = record {
+  «quantizer_scale» = q;
+  «macroblock_address» = A;
+  «motion_forward» = motionOf f fs for;
+  «motion_backward» = motionOf b bs back;
+  «dc_predictor» = dcs;
+  «block_data» = replicate 64 (pos 0);
+}
+
+-- before the last k blocks of an intra macroblock: the pasts are our predictors
+pub record Intra (isFar : Bool) (k : ℕ) (g : S.Coding) (A : ℤ) (q : ℕ) (for back : S.Vector) (fs bs : Bool) (x : S.Blocks) (w : World) : Type 0 where
+  pub y : ℤ
+  pub cb : ℤ
+  pub cr : ℤ
+  pub is : w ≡ world (sliceOf g A q for back (own fs bs y cb cr)) (x .pels)
+  pub past : leftOf isFar k (x .past) ≡ eights (own fs bs y cb cr)
+
+-- of any other macroblock: pasts and predictors stay
+pub record Inter (g : S.Coding) (A : ℤ) (q : ℕ) (for back : S.Vector) (o : Own) (p : S.Pasts) (x : S.Blocks) (w : World) : Type 0 where
+  pub is : w ≡ world (sliceOf g A q for back o) (x .pels)
+  pub past : x .past ≡ p
+
+module _ (rule : Rule) (g : Given) (f b : S.Direction) (A : ℤ) (q : ℕ) (for back : S.Vector) (s : List ℕ) where
+  abbrev pub G : S.Coding
+  G = coding rule g f b
+
+  intra-block : (isFar fs bs : Bool) (k : ℕ) → k < 6 → (x : S.Blocks) (w : World) (a : ℕ) → Intra isFar (suc k) G A q for back fs bs x w
+      → Agree (Intra isFar k G A q for back fs bs) s a (S.intraBlock G isFar q (natAbs A) (5 - k) x) (O.oneBlock g true (5 - k) w)
+  unfolding S.intraBlock O.oneBlock B.block codedBlock intraCoded B.reconstructed O.blockEnd B.leftOver onward leave plain bind
+  intra-block isFar fs bs k h x w a r =
+      let i = 5 - k in
+      let o = own fs bs (r .y) (r .cb) (r .cr) in
+      let u = world (sliceOf G A q for back o) (x .pels) in
+      let pred = getD (dcsOf o) (O.predictorOf i) (pos 0) in
+      let Q = quantiser true q in
+      let matrix = g .matrices .«intra_quant_matrix» in
+      let left = replicate 64 (pos 0) in
+      let E : B.Read → Prog (Way World) = λ r. step (O.blockEnd g Q i u r) in
+      let E′ : Coded → Prog (Way World) = λ c. E (B.reconstructed Q matrix pred left c) in
+      let K : Bool → ℤ → Prog Coded = λ t d. cond t (bind (pairs 1) (λ p. done (coded d p))) (done (coded d (ended [] Outside))) in
+      let made : Bool → ℤ → Ended → B.Read = λ t d p. cond (not t) (record { filled = B.filled left 0; predictor = pred; end = p .end })
+      (record { filled = B.allPlaced Q matrix (B.withDc (pred +ℤ d) left) (p .pairs); predictor = pred +ℤ d; end = p .end }) in
+      let F : S.Pasts → ℤ → Prog (Way S.Blocks) = λ past recon. onward (S.shall (S.inTwelveBits recon)) (λ z. onward (plain (pairs 1)) (λ p.
+      onward (step (S.coefficients G true q (record { recon = set left 0 recon; n = 1 }) p)) (λ f. give (record { past = S.pastAs i recon past; pels = S.written G true i (natAbs A) f (x .pels) })))) in
+      subst (λ (w : World). Agree (Intra isFar k G A q for back fs bs) s a (onward (S.dctDc i) (λ zz. F (x .past) (S.dcPredictor isFar i (x .past) +ℤ pos 8 *ℤ zz))) (O.oneBlock g true i w)) (sym (r .is)) (
+      a-same (sym (plain-bind-on (intraCoded (ltb i 4) pred) (λ c. done (B.reconstructed Q matrix pred left c)) E s a)) (
+      a-same (sym (plain-bind-on (dcDifference (ltb i 4)) (λ d. K (dcInside (pred +ℤ d)) d) E′ s a)) (
+      a-onward _ _ (dc-agrees s i a) (λ zz d e c.
+      let x′ = pred +ℤ d in
+      let m = component isFar (x .past) o x′ k h (r .past) in
+      let same : S.dcPredictor isFar i (x .past) +ℤ pos 8 *ℤ zz ≡ pos 8 *ℤ x′ = ap (λ (z : ℤ). z +ℤ pos 8 *ℤ zz) (m .pred) ∙ eight-add pred zz ∙ ap (λ (z : ℤ). pos 8 *ℤ (pred +ℤ z)) c in
+      subst (λ (recon : ℤ). Agree (Intra isFar k G A q for back fs bs) s e (F (x .past) recon) (onward (plain (K (dcInside x′) d)) E′)) (sym same) (
+      a-shall _ _ (λ z.
+      a-same (ap (λ (t : Bool). run (onward (plain (K t d)) E′) s e) (sym (eight-inside x′ z))) (
+      a-same (sym (plain-bind-on (pairs 1) (λ p. done (coded d p)) E′ s e)) (
+      a-plain (pairs 1) (pairs 1) _ _ refl (
+      let p = run (pairs 1) s e .value in
+      let e = run (pairs 1) s e .at in
+      let from : S.Filled = record { recon = set left 0 (pos 8 *ℤ x′); n = 1 } in
+      a-same (ap (λ (t : Bool). run (E (made t d p)) s e) (sym (eight-inside x′ z))) (
+      a-way _ (S.coefficients G true q from p) _ (coefficients-same rule g f b true q from p (lone-dc-begins (pos 8 *ℤ x′))) (λ fl y.
+      let n = ownAs i x′ o in
+      let whole : B.Read = record { filled = filledOf fl; predictor = x′; end = Whole } in
+      let filled = ap (λ (z : B.Filled). B.allPlaced Q matrix z (p .pairs)) (begins x′) ∙ y .1 .same in
+      let read : made true d p ≡ whole = λ j. record { filled = filled j; predictor = x′; end = y .0 j } in
+      let wr = written-same rule g f b true q i (natAbs A) fl whole (x .pels) refl (y .1 .lone) in
+      subst (λ (c : B.Read). Agree (Intra isFar k G A q for back fs bs) s e (give (record { past = S.pastAs i (pos 8 *ℤ x′) (x .past); pels = S.written G true i (natAbs A) fl (x .pels) })) (step (O.blockEnd g Q i u c))) (sym read)
+      (a-give (record { y = n .y; cb = n .cb; cr = n .cr; is = λ j. world (laid A q for back f fs b bs (m .dcs j)) (wr j); past = m .past })))))))))))))
+
+  inter-block : (o : Own) (p : S.Pasts) (k : ℕ) → k < 6 → (x : S.Blocks) (w : World) (a : ℕ) → Inter G A q for back o p x w
+      → Agree (Inter G A q for back o p) s a (S.nonIntraBlock G q (natAbs A) (5 - k) x) (O.oneBlock g false (5 - k) w)
+  unfolding S.nonIntraBlock O.oneBlock B.block codedBlock otherCoded B.reconstructed O.blockEnd B.leftOver onward leave plain bind
+  inter-block o past k h x w a r =
+      let i = 5 - k in
+      let u = world (sliceOf G A q for back o) (x .pels) in
+      let pred = getD (dcsOf o) (O.predictorOf i) (pos 0) in
+      let Q = quantiser false q in
+      let matrix = g .matrices .«non_intra_quant_matrix» in
+      let left = replicate 64 (pos 0) in
+      let E : B.Read → Prog (Way World) = λ r. step (O.blockEnd g Q i u r) in
+      let E′ : Coded → Prog (Way World) = λ c. E (B.reconstructed Q matrix pred left c) in
+      subst (λ (w : World). Agree (Inter G A q for back o past) s a (S.nonIntraBlock G q (natAbs A) i x) (O.oneBlock g false i w)) (sym (r .is)) (
+      a-same (sym (plain-bind-on otherCoded (λ c. done (B.reconstructed Q matrix pred left c)) E s a)) (
+      a-same (sym (plain-bind-on (pairs 0) (λ p. done (coded (pos 0) p)) E′ s a)) (
+      a-plain (pairs 0) (pairs 0) _ _ refl (
+      let p = run (pairs 0) s a .value in
+      let e = run (pairs 0) s a .at in
+      let from : S.Filled = record { recon = left; n = 0 } in
+      a-way _ (S.coefficients G false q from p) _ (coefficients-same rule g f b false q from p lone-begins) (λ fl y.
+      let made : B.Read = record { filled = B.allPlaced Q matrix (B.filled left 0) (p .pairs); predictor = pred; end = p .end } in
+      let whole : B.Read = record { filled = filledOf fl; predictor = pred; end = Whole } in
+      let filled = ap (λ (l : List ℤ). B.allPlaced Q matrix (B.filled l 0) (p .pairs)) (sym times-zero) ∙ y .1 .same in
+      let read : made ≡ whole = λ j. record { filled = filled j; predictor = pred; end = y .0 j } in
+      let wr = written-same rule g f b false q i (natAbs A) fl whole (x .pels) refl (y .1 .lone) in
+      subst (λ (c : B.Read). Agree (Inter G A q for back o past) s e (give (record { past = x .past; pels = S.written G false i (natAbs A) fl (x .pels) })) (step (O.blockEnd g Q i u c))) (sym read)
+      (a-give (record { is = λ j. world (laid A q for back f (o .forSet) b (o .backSet) (kept-dcs o k h j)) (wr j); past = r .past })))))))
+
+  -- ---- the blocks that are left
+
+  pub intra-blocks : (isFar fs bs : Bool) (cbp : ℕ) (k : ℕ) → k ≤ 6 → (x : S.Blocks) (w : World) (a : ℕ) → Intra isFar k G A q for back fs bs x w
+      → Agree (Intra isFar 0 G A q for back fs bs) s a (S.blocks G true isFar cbp q (natAbs A) k x) (O.lastBlocks g true 63 k w)
+  unfolding S.blocks O.lastBlocks
+  intra-blocks isFar fs bs cbp zero h x w a r = a-give r
+  intra-blocks isFar fs bs cbp (suc k) h x w a r = a-onward _ _ (all (flag cbp (2 ^ k)) (flag 63 (2 ^ k)) (bits-63 k (omega arith))) (λ x w e r. intra-blocks isFar fs bs cbp k (omega arith) x w e r)
+    where
+      all : (t u : Bool) → u ≡ true → Agree (Intra isFar k G A q for back fs bs) s a (cond (t || true) (S.intraBlock G isFar q (natAbs A) (5 - k) x) (give x)) (cond u (O.oneBlock g true (5 - k) w) (give w))
+      all t true z = rw (or-true t) (intra-block isFar fs bs k (omega arith) x w a r)
+      all t false z = absurd (false≢true z)
+
+  pub inter-blocks : (isFar : Bool) (o : Own) (p : S.Pasts) (cbp : ℕ) (k : ℕ) → k ≤ 6 → (x : S.Blocks) (w : World) (a : ℕ) → Inter G A q for back o p x w
+      → Agree (Inter G A q for back o p) s a (S.blocks G false isFar cbp q (natAbs A) k x) (O.lastBlocks g false cbp k w)
+  unfolding S.blocks O.lastBlocks
+  inter-blocks isFar o p cbp zero h x w a r = a-give r
+  inter-blocks isFar o p cbp (suc k) h x w a r = a-onward _ _ (some (flag cbp (2 ^ k))) (λ x w e r. inter-blocks isFar o p cbp k (omega arith) x w e r)
+    where
+      some : (t : Bool) → Agree (Inter G A q for back o p) s a (cond (t || false) (S.nonIntraBlock G q (natAbs A) (5 - k) x) (give x)) (cond t (O.oneBlock g false (5 - k) w) (give w))
+      some true = inter-block o p k (omega arith) x w a r
+      some false = a-give r

@@ -1,0 +1,12 @@
+pub mod Rules
+pub mod Increment
+pub mod Related
+pub mod Heads
+pub mod Predictions
+pub mod Types
+pub mod Skips
+pub mod Blocks
+pub mod Macroblock
+pub mod Slice
+pub mod Picture
+pub mod Example

@@ -1,0 +1,144 @@
+-- 2.4.4.2, 2.4.4.3: the prediction from one reference. Assumes nothing.
+use mathlib.Core.Path.{_≡_, refl, sym, ap, _∙_, subst}
+use mathlib.Core.Bool.{Bool, true, false, cond, _&&_}
+use mathlib.Core.List.{List, [], _∷_}
+use mathlib.Core.Logic.{_⊎_, inl, inr}
+use Prim.Native.Nat.{ℕ, _+_, _*_, _<_, _≤_}
+use native.Mathlib.Omega.{arith}
+use borrow.Author.Tests.{ltb-true, leb-true}
+use borrow.Rule.Slice.PartMut.{midOf, putMid}
+use lib.Dec.{ltb, leb}
+use lib.IntN.{ℤ, pos, _+ℤ_}
+use lib.ListN.{getD}
+use lib.Signed.{leZ, _≤ℤ_}
+use Rattle.laws.specs.Signed.{odd}
+use Rattle.laws.proofs.Tests.{both, each}
+use Rattle.laws.proofs.Ints.{v, le-yes, le-by}
+use Rattle.laws.proofs.Lists.{rows-alike}
+use Rattle.prediction.specs.declared.place.Macroblock.{Macroblock}
+use Rattle.prediction.specs.declared.place.Place.{Place}
+use Rattle.prediction.specs.declared.planes.Plane.{Plane}
+use Rattle.prediction.specs.declared.planes.Plane.the-variants.{Y, Cr, Cb}
+use Rattle.prediction.specs.declared.predict.Predicted.{Predicted}
+use Rattle.prediction.specs.declared.predict.Predicted.the-variants.{Done, Refused}
+use Rattle.prediction.specs.Predict.{Placed, blockOf, macroblockAt, width, height, bytes, address, fetch, predicted, chroma, inHalves}
+use Rattle.prediction.specs.Planes.{After, blockSize, macroblocks, planeStart, follow, next, ofStores, predictedPlanes}
+use Rattle.prediction.specs.Samples.{sample, laid}
+use Rattle.prediction.specs.Standard.{whole, half, chrominance, pel, bothWays, InPicture}
+use Rattle.prediction.proofs.Standard as L
+use Rattle.picture.specs.Ways.{Way, on, out, also}
+use Rattle.picture.specs.Predictions as P
+use Rattle.standard.specs.Standard as S
+use Rattle.standard.proofs.Rules.{WayMeets}
+use Rattle.standard.proofs.Related.{motionOf}
+
+pub also-meets : {A B C D : Type 0} {R : A → B → Type 0} (Q : C → D → Type 0) (w : Way A) (u : Way B) (f : A → Way C) (k : B → Way D) → WayMeets R w u
+    → ((x : A) (y : B) → R x y → WayMeets Q (f x) (k y)) → WayMeets Q (also w f) (also u k)
+unfolding also
+also-meets Q (on x) (on y) f k h m = m x y h
+also-meets Q (on x) (out n l) f k h m = absurd h
+also-meets Q (out n l) u f k h m = tt
+
+-- a refusal ends the prediction and leaves with 9
+refused-next : (o : After) (f : List ℕ → After) → P.unlessRefused (next o f) ≡ also (P.unlessRefused o) (λ l. P.unlessRefused (f l))
+unfolding P.unlessRefused next also
+refused-next o f = go (o .answer) (o .store)
+  where
+    go : (a : Predicted) (l : List ℕ) → P.unlessRefused (next (record { store = l; answer = a }) f) ≡ also (P.unlessRefused (record { store = l; answer = a })) (λ l. P.unlessRefused (f l))
+    go Done l = refl
+    go Refused l = refl
+
+size-of : (q : Plane) → (blockSize q ≡ 8) ⊎ (blockSize q ≡ 16)
+size-of Y = inr refl
+size-of Cr = inl refl
+size-of Cb = inl refl
+
+le-is : (a b : ℤ) → leZ a b ≡ true → a ≤ℤ b
+le-is a b e = le-by (v a) (v b) (le-yes (v a) (v b) e)
+
+averaged : (t : Bool) (a b : ℕ) → laid t a b ≡ cond t (bothWays a b) b
+averaged true a b = L.two-rounded a b
+averaged false a b = refl
+
+-- the planes of Cr and Cb behind that of Y
+abbrev rest : S.Coding → Macroblock → ℕ → Bool → ℤ → ℤ → List ℕ → Way (List ℕ)
+rest g m k average right down l =
+    also (S.predictedPlane g m k average Cr (chrominance right) (chrominance down) l) (S.predictedPlane g m k average Cb (chrominance right) (chrominance down))
+
+-- the block at p, referring to samples inside
+module _ (p : Place) (size : (p .size ≡ 8) ⊎ (p .size ≡ 16)) (right down : ℤ) (e : S.inPicture p right down ≡ true) where
+  parts : (S.isPlace p ≡ true) × (S.inside (p .row * p .size) (p .size) down (height p) ≡ true) × (S.inside (p .column * p .size) (p .size) right (width p) ≡ true)
+  parts =
+      let t = both (S.isPlace p && S.inside (p .row * p .size) (p .size) down (height p)) _ e in
+      let u = both (S.isPlace p) _ (t .0) in
+      (u .0, u .1, t .1)
+
+  place : (k : ℕ) → getD (ltb (p .row) (p .down) ∷ ltb (p .column) (p .across) ∷ leb (p .across) 256 ∷ leb (p .down) 256 ∷ []) k true ≡ true
+  place = each (ltb (p .row) (p .down)) (ltb (p .column) (p .across) ∷ leb (p .across) 256 ∷ leb (p .down) 256 ∷ []) (parts .0)
+
+  placed : Placed p
+  placed = record {
+    size = size;
+    inside = record {
+      across = leb-true (p .across) 256 (place 2);
+      down = leb-true (p .down) 256 (place 3);
+      row = ltb-true (p .row) (p .down) (place 0);
+      column = ltb-true (p .column) (p .across) (place 1);
+    };
+  }
+
+  inside : InPicture p right down
+  inside =
+      let rows = both (leZ (pos 0) (pos (p .row * p .size) +ℤ whole down)) _ (parts .1) in
+      let columns = both (leZ (pos 0) (pos (p .column * p .size) +ℤ whole right)) _ (parts .2) in
+      record { top = le-is _ _ (rows .0); bottom = le-is _ _ (rows .1); left = le-is _ _ (columns .0); right = le-is _ _ (columns .1) }
+
+  pels-same : (s d : List ℕ) (average : Bool) → predicted p s d right down average (L.row placed right down inside * width p + L.column placed right down inside) ≡ S.pels p s d right down average
+  unfolding predicted
+  pels-same s d average =
+      rows-alike d (address p) (width p) (p .size) _ _ (p .size) (λ y x a b.
+      ap (laid average (getD d (address p + y * width p + x) 0)) (L.sample-is placed right down inside s y x)
+      ∙ averaged average (getD d (address p + y * width p + x) 0) (pel s (width p) right down (p .row * p .size + y) (p .column * p .size + x)))
+
+-- one plane
+plane-meets : (g : S.Coding) (m : Macroblock) (k : ℕ) (average : Bool) (q : Plane) (right down : ℤ) (l : List ℕ)
+    → WayMeets _≡_ (S.predictedPlane g m k average q right down l) (P.unlessRefused (ofStores m k (g .given .stores .cur) average q right down l))
+unfolding S.predictedPlane P.unlessRefused follow
+plane-meets g m k average q right down l = go (S.inPicture p right down) refl
+  where
+    p : Place
+    p = blockOf m (blockSize q)
+
+    from : ℕ
+    from = planeStart k q (macroblocks m)
+
+    to : ℕ
+    to = planeStart (g .given .stores .cur) q (macroblocks m)
+
+    go : (t : Bool) → S.inPicture p right down ≡ t
+        → WayMeets _≡_ (cond t (on (putMid to (bytes p) l (S.pels p (midOf from (bytes p) l) (midOf to (bytes p) l) right down average))) S.forbidden)
+        (P.unlessRefused (follow (fetch p right down) p from to right down average l))
+    go true e =
+        rw (L.is-copied (placed p (size-of q) right down e) right down (inside p (size-of q) right down e))
+        (ap (putMid to (bytes p) l) (sym (pels-same p (size-of q) right down e (midOf from (bytes p) l) (midOf to (bytes p) l) average)))
+    go false e = tt
+
+-- the three planes
+pub from-meets : (g : S.Coding) (address k : ℕ) (d : S.Direction) (set : Bool) (x : S.Vector) (average : Bool) (l : List ℕ)
+    → WayMeets _≡_ (S.predictedFrom g address k d x average l) (P.predictFrom (g .given) address k (motionOf d set x) average l)
+unfolding S.predictedFrom P.predictFrom predictedPlanes
+from-meets g address k d set x average l =
+    let m = macroblockAt (g .given .sizes .«mb_width») (g .given .sizes .«mb_height») address in
+    let right = inHalves (d .«full_pel_vector») (x .right) in
+    let down = inHalves (d .«full_pel_vector») (x .down) in
+    let plane = plane-meets g m k average in
+    let ours = ofStores m k (g .given .stores .cur) average in
+    subst (WayMeets _≡_ (S.predictedFrom g address k d x average l)) (sym (refused-next (ours Y right down l) (λ s. next (ours Cr (chroma right) (chroma down) s) (ours Cb (chroma right) (chroma down))))) (
+    also-meets _≡_ (S.predictedPlane g m k average Y right down l) (P.unlessRefused (ours Y right down l)) _ _ (plane Y right down l) (λ a b e.
+    subst (λ (b : List ℕ). WayMeets _≡_ (rest g m k average right down a) (P.unlessRefused (next (ours Cr (chroma right) (chroma down) b) (ours Cb (chroma right) (chroma down))))) e (
+    subst (WayMeets _≡_ (rest g m k average right down a)) (sym (refused-next (ours Cr (chroma right) (chroma down) a) (ours Cb (chroma right) (chroma down)))) (
+    rw (L.chrominance-is right, L.chrominance-is down)
+    (also-meets _≡_ (S.predictedPlane g m k average Cr (chrominance right) (chrominance down) a) (P.unlessRefused (ours Cr (chrominance right) (chrominance down) a)) _ _
+    (plane Cr (chrominance right) (chrominance down) a) (λ a b e.
+    subst (λ (b : List ℕ). WayMeets _≡_ (S.predictedPlane g m k average Cb (chrominance right) (chrominance down) a) (P.unlessRefused (ours Cb (chrominance right) (chrominance down) b))) e
+    (plane Cb (chrominance right) (chrominance down) a)))))))

@@ -1,0 +1,96 @@
+-- What our state is while the standard's is v: the statement's relation. Assumes nothing.
+use mathlib.Core.Path.{_≡_, refl, ap}
+use mathlib.Core.Bool.{Bool, true, false, cond, false≢true}
+use mathlib.Core.List.{List, [], _∷_}
+use Prim.Native.Nat.{ℕ, _^_}
+use lib.Dec.{eqb}
+use lib.IntN.{ℤ, pos, negsuc, _+ℤ_, _*ℤ_}
+use borrow.Author.Tests.{eqb-true}
+use Rattle.bits.specs.Programs.{eqZ}
+use lib.ListN.{replicate}
+use lib.Signed.{ltZ, leZ}
+use Rattle.coefficients.specs.Dequantise.{quantiser, dequantised}
+use Rattle.coefficients.specs.Standard.{dctRecon}
+use Rattle.motion.specs.Displacement.{InRange}
+use Rattle.picture.specs.declared.state.Motion.{Motion}
+use Rattle.picture.specs.declared.state.Slice.{Slice}
+use Rattle.picture.specs.State.{Given, World, world}
+use Rattle.picture.specs.Heads.{flag}
+use Rattle.standard.specs.Standard as S
+use Rattle.standard.specs.Standard.{Direction, Vector, Coding, Pasts, pasts, Variables, forStart, backStart, far}
+use Rattle.standard.specs.Rules as R
+
+-- the components are in the range of their f code
+pub record In (d : Direction) (x : Vector) : Type 0 where
+  pub right : InRange (2 ^ d .«r_size») (x .right)
+  pub down : InRange (2 ^ d .«r_size») (x .down)
+
+-- our vector; `set` is the flag of RULES 7.13
+abbrev pub motionOf : Direction → Bool → Vector → Motion
+motionOf d set x = record { «full_px» = d .«full_pel_vector»; «is_set» = set; «r_size» = d .«r_size»; h = x .right; v = x .down }
+
+-- our flags and DC predictors, which the standard does not have in this form
+pub record Own : Type 0 where
+  pub forSet : Bool
+  pub backSet : Bool
+  pub y : ℤ
+  pub cb : ℤ
+  pub cr : ℤ
+
+abbrev pub own : Bool → Bool → ℤ → ℤ → ℤ → Own
+own f b y cb cr = record { forSet = f; backSet = b; y = y; cb = cb; cr = cr }
+
+-- our slice, with nothing left over
+abbrev pub sliceOf : Coding → ℤ → ℕ → Vector → Vector → Own → Slice
+sliceOf g address scale for back o = record {
+  «quantizer_scale» = scale;
+  «macroblock_address» = address;
+  «motion_forward» = motionOf (g .forward) (o .forSet) for;
+  «motion_backward» = motionOf (g .backward) (o .backSet) back;
+  «dc_predictor» = o .y ∷ o .cb ∷ o .cr ∷ [];
+  «block_data» = replicate 64 (pos 0);
+}
+
+-- 2.4.4.1 in units of 8: our predictors are pasts
+abbrev pub eights : Own → Pasts
+eights o = pasts (pos 8 *ℤ o .y) (pos 8 *ℤ o .cb) (pos 8 *ℤ o .cr)
+
+-- 2.4.4.1: the pasts as an intra macroblock at this address uses them
+abbrev pub pastStart : ℤ → Variables → Pasts
+pastStart address v = cond (far address v) (pasts (pos 1024) (pos 1024) (pos 1024)) (v .past)
+
+-- before a macroblock: vectors and predictors as they are used if it is the next in the picture; the flags are those of the last type, as a B picture's skip needs them
+pub record Related (g : Coding) (first : Bool) (v : Variables) (w : World) : Type 0 where
+  pub o : Own
+  pub is : w ≡ world (sliceOf g (v .«previous_macroblock_address») (v .«quantizer_scale») (forStart g first v) (backStart g first v) o) (v .pels)
+  pub for : In (g .forward) (forStart g first v)
+  pub back : In (g .backward) (backStart g first v)
+  pub flags : eqb (g .given .type) 3 ≡ true → first ≡ false → (o .forSet ≡ flag (v .«macroblock_type») 8) × (o .backSet ≡ flag (v .«macroblock_type») 4)
+  pub past : pastStart (v .«previous_macroblock_address» +ℤ pos 1) v ≡ eights o
+  pub order : leZ (v .«past_intra_address») (v .«previous_macroblock_address») ≡ true
+  pub start : first ≡ true → ltZ (v .«past_intra_address») (v .«previous_macroblock_address») ≡ true
+
+-- ---- the two rules that the standard's text here leaves open
+
+-- a rule of reconstruction that is ours wherever it admits something
+pub record Rule : Type 0 where
+  pub rules : S.Rules
+  pub same : (intra : Bool) (level : ℤ) (scale quant : ℕ) → rules .admitted intra level scale quant ≡ true
+      → rules .dctRecon intra level scale quant ≡ dequantised (quantiser intra scale) level quant
+  pub transform : (recon : List ℤ) → rules .transform recon ≡ R.transformed recon
+
+pub rust : Rule
+rust = record { rules = R.rust; same = λ i z s q e. refl; transform = λ recon. refl }
+
+same-by : (x y : ℤ) → eqZ x y ≡ true → x ≡ y
+same-by (pos m) (pos n) e = ap pos (eqb-true m n e)
+same-by (pos m) (negsuc n) e = absurd (false≢true e)
+same-by (negsuc m) (pos n) e = absurd (false≢true e)
+same-by (negsuc m) (negsuc n) e = ap negsuc (eqb-true m n e)
+
+-- recon-as-printed in crates/coefficients/proofs/Standard.antt says of which levels
+pub printed : Rule
+printed = record { rules = R.printed; same = λ i z s q e. same-by (dctRecon i z s q) (dequantised (quantiser i s) z q) e; transform = λ recon. refl }
+
+abbrev pub coding : Rule → Given → Direction → Direction → Coding
+coding rule = S.coding (rule .rules)

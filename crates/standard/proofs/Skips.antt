@@ -1,0 +1,194 @@
+-- 2.4.4.2 to 2.4.4.4: predictions, and skipped macroblocks with what they reset. Assumes nothing.
+use mathlib.Core.Path.{_≡_, refl, sym, ap, _∙_, subst}
+use mathlib.Core.Bool.{Bool, true, false, cond, not, _&&_, false≢true}
+use mathlib.Core.List.{List}
+use Prim.Native.Nat.{ℕ, zero, suc, _+_, _-_, _≤_}
+use native.Mathlib.Omega.{arith}
+use borrow.Author.Tests.{eqb-true, ltb-true, ltb-false, le-ltb, lt-ltb}
+use lib.Dec.{eqb, ltb}
+use lib.IntN.{ℤ, pos, natAbs, _+ℤ_, _-ℤ_}
+use lib.Signed.{ltZ, leZ}
+use Rattle.laws.proofs.Tests.{both}
+use Rattle.laws.proofs.Ints.{v, lit, _⊕_, _⊖_, le-yes, lt-yes, yes-lt}
+use Rattle.picture.specs.State.{World, world}
+use Rattle.picture.specs.Ways.{Way, on, out, also}
+use Rattle.picture.specs.Predictions as P
+use Rattle.picture.specs.Macroblocks as M
+use Rattle.picture.specs.Heads.{flag}
+use Rattle.standard.specs.Standard as S
+use Rattle.standard.proofs.Rules.{WayMeets}
+use Rattle.standard.proofs.Related.{In, motionOf, Own, own, sliceOf, eights, pastStart, Related}
+use Rattle.standard.proofs.Heads.{zero-in}
+use Rattle.standard.proofs.Predictions.{also-meets, from-meets}
+
+-- ---- predictions
+
+module _ (g : S.Coding) (A : ℤ) (q : ℕ) (for back : S.Vector) (o : Own) (t address : ℕ) (l : List ℕ) where
+  pub predicted-meets : (eqb (g .given .type) 3 ≡ true → (o .forSet ≡ flag t 8) × (o .backSet ≡ flag t 4))
+      → WayMeets _≡_ (S.predicted g t address for back l) (P.predict (g .given) address (sliceOf g A q for back o) l)
+  unfolding S.predicted P.predict P.predictBoth also
+  predicted-meets e = go (eqb (g .given .type) 3) e
+    where
+      X : Way (List ℕ)
+      X = S.predictedFrom g address (g .given .stores .fwd) (g .forward) for false l
+
+      X′ : Way (List ℕ)
+      X′ = P.predictFrom (g .given) address (g .given .stores .fwd) (motionOf (g .forward) (o .forSet) for) false l
+
+      Y : List ℕ → Way (List ℕ)
+      Y = S.predictedFrom g address (g .given .stores .bwd) (g .backward) back true
+
+      Y′ : List ℕ → Way (List ℕ)
+      Y′ = P.predictFrom (g .given) address (g .given .stores .bwd) (motionOf (g .backward) (o .backSet) back) true
+
+      Z : Way (List ℕ)
+      Z = S.predictedFrom g address (g .given .stores .bwd) (g .backward) back false l
+
+      Z′ : Way (List ℕ)
+      Z′ = P.predictFrom (g .given) address (g .given .stores .bwd) (motionOf (g .backward) (o .backSet) back) false l
+
+      idle : (w u : Way (List ℕ)) → WayMeets _≡_ w u → WayMeets _≡_ w (also u (λ l. on l))
+      idle (on x) (on y) h = h
+      idle (on x) (out n l) h = h
+      idle (out n l) u h = tt
+
+      flags : (F B : Bool) → WayMeets _≡_ (cond (F && B) (also X Y) (cond F X (cond B Z S.forbidden))) (cond F (also X′ (λ l. cond B (Y′ l) (on l))) Z′)
+      flags true true =
+          also-meets _≡_ X X′ Y Y′ (from-meets g address (g .given .stores .fwd) (g .forward) (o .forSet) for false l)
+          (λ x y h. subst (λ (y : List ℕ). WayMeets _≡_ (Y x) (Y′ y)) h (from-meets g address (g .given .stores .bwd) (g .backward) (o .backSet) back true x))
+      flags true false = idle X X′ (from-meets g address (g .given .stores .fwd) (g .forward) (o .forSet) for false l)
+      flags false true = from-meets g address (g .given .stores .bwd) (g .backward) (o .backSet) back false l
+      flags false false = tt
+
+      go : (b : Bool) → (b ≡ true → (o .forSet ≡ flag t 8) × (o .backSet ≡ flag t 4))
+          → WayMeets _≡_ (cond (not b) X (cond (flag t 8 && flag t 4) (also X Y) (cond (flag t 8) X (cond (flag t 4) Z S.forbidden))))
+          (cond (b && o .forSet) (also X′ (λ l. cond (o .backSet) (Y′ l) (on l))) (cond b Z′ X′))
+      go true e =
+          subst (λ (F : Bool). WayMeets _≡_ (cond (flag t 8 && flag t 4) (also X Y) (cond (flag t 8) X (cond (flag t 4) Z S.forbidden))) (cond F (also X′ (λ l. cond (o .backSet) (Y′ l) (on l))) Z′)) (sym (e refl .0))
+          (subst (λ (B : Bool). WayMeets _≡_ (cond (flag t 8 && flag t 4) (also X Y) (cond (flag t 8) X (cond (flag t 4) Z S.forbidden))) (cond (flag t 8) (also X′ (λ l. cond B (Y′ l) (on l))) Z′)) (sym (e refl .1))
+          (flags (flag t 8) (flag t 4)))
+      go false e = from-meets g address (g .given .stores .fwd) (g .forward) (o .forSet) for false l
+
+module _ (g : S.Coding) (A : ℤ) (q : ℕ) (for back : S.Vector) (o : Own) (t : ℕ) (e : eqb (g .given .type) 3 ≡ true → (o .forSet ≡ flag t 8) × (o .backSet ≡ flag t 4)) where
+  skipped-meets : (address n : ℕ) (l : List ℕ) → WayMeets _≡_ (S.skippedFrom g t for back address n l) (P.predictSkipped (g .given) (sliceOf g A q for back o) address n l)
+  unfolding S.skippedFrom P.predictSkipped
+  skipped-meets address zero l = refl
+  skipped-meets address (suc n) l =
+      also-meets _≡_ (S.predicted g t address for back l) _ _ _ (predicted-meets g A q for back o t address l e)
+      (λ x y h. subst (λ (y : List ℕ). WayMeets _≡_ (S.skippedFrom g t for back (address + 1) n x) (P.predictSkipped (g .given) (sliceOf g A q for back o) (address + 1) n y)) h (skipped-meets (address + 1) n x))
+
+-- ---- before the type is read: address, vectors and predictors as the macroblock will use them
+
+pub record Ready (g : S.Coding) (first : Bool) (n : ℕ) (x : S.Variables) (l : List ℕ) (w : World) : Type 0 where
+  pub o : Own
+  pub is : w ≡ world (sliceOf g (x .«previous_macroblock_address» +ℤ pos n) (x .«quantizer_scale») (S.forStart g first x) (S.backStart g first x) o) l
+  pub for : In (g .forward) (S.forStart g first x)
+  pub back : In (g .backward) (S.backStart g first x)
+  pub past : pastStart (x .«previous_macroblock_address» +ℤ pos n) x ≡ eights o
+  pub order : leZ (x .«past_intra_address») (x .«previous_macroblock_address») ≡ true
+  pub some : 1 ≤ n
+
+-- the test of 2.4.4.1 is passed
+past-reset : (n : ℕ) (prev past : ℤ) → leZ past prev ≡ true → 2 ≤ n → ltZ (pos 1) (prev +ℤ pos n -ℤ past) ≡ true
+past-reset n prev past h l = yes-lt (lit 1) (v prev ⊕ lit n ⊖ v past) (omega (arith, le-yes (v past) (v prev) h))
+
+past-behind : (n : ℕ) (prev past : ℤ) → ltZ past prev ≡ true → 1 ≤ n → ltZ (pos 1) (prev +ℤ pos n -ℤ past) ≡ true
+past-behind n prev past h l = yes-lt (lit 1) (v prev ⊕ lit n ⊖ v past) (omega (arith, lt-yes (v past) (v prev) h))
+
+right-meets : {A B D : Type 0} {R : A → B → Type 0} (Q : A → D → Type 0) (w : Way A) (u : Way B) (k : B → Way D) → WayMeets R w u
+    → ((x : A) (y : B) → R x y → WayMeets Q (on x) (k y)) → WayMeets Q w (also u k)
+unfolding also
+right-meets Q (on x) (on y) k h m = m x y h
+right-meets Q (on x) (out n l) k h m = absurd h
+right-meets Q (out n l) u k h m = tt
+
+not-true : (b : Bool) → not b ≡ true → b ≡ false
+not-true true e = absurd (false≢true e)
+not-true false e = refl
+
+abbrev ours : S.Coding → S.Variables → Own → World
+ours g x o = world (sliceOf g (x .«previous_macroblock_address») (x .«quantizer_scale») (S.forStart g false x) (S.backStart g false x) o) (x .pels)
+
+abbrev dcs : Own → Own
+dcs o = own (o .forSet) (o .backSet) (pos 128) (pos 128) (pos 128)
+
+module _ (g : S.Coding) (x : S.Variables) (w : World) (n : ℕ) (some : 1 ≤ n) where
+  -- the first macroblock of a slice
+  pub first-ready : Related g true x w → Ready g true n (S.typed (S.lastType g true n x) x) (x .pels) (M.further n w)
+  first-ready r =
+      let prev = x .«previous_macroblock_address» in
+      let past = x .«past_intra_address» in
+      let behind = past-behind n prev past (r .start refl) some in
+      let one = past-behind 1 prev past (r .start refl) (omega arith) in
+      record {
+        o = r .o;
+        is = ap (M.further n) (r .is);
+        for = r .for;
+        back = r .back;
+        past = rw behind (rw one at (r .past));
+        order = r .order;
+        some = some;
+      }
+
+  abbrev Goal : World → Type 0
+  Goal w = WayMeets (Ready g false n (S.typed (S.lastType g false n x) x)) (S.skipped g false n x) (M.advance (g .given) n w)
+
+  module _ (r : Related g false x w) where
+    -- none is skipped
+    next-ready : 1 ≡ n → Goal (ours g x (r .o))
+    unfolding S.skipped M.advance
+    next-ready e =
+        subst (λ (n : ℕ). WayMeets (Ready g false n (S.typed (S.lastType g false n x) x)) (S.skipped g false n x) (M.advance (g .given) n (ours g x (r .o)))) e
+        (record { o = r .o; is = refl; for = r .for; back = r .back; past = r .past; order = r .order; some = omega arith })
+
+    module _ (h : 2 ≤ n) where
+      -- in a P picture
+      p-ready : eqb (g .given .type) 2 ≡ true → Goal (ours g x (r .o))
+      unfolding S.skipped M.advance M.skipReset
+      p-ready p =
+          let b : eqb (g .given .type) 3 ≡ false = ap (λ (k : ℕ). eqb k 3) (eqb-true (g .given .type) 2 p) in
+          let reset = past-reset n (x .«previous_macroblock_address») (x .«past_intra_address») (r .order) h in
+          rw (le-ltb n 2 h, lt-ltb 1 n h, p, b)
+          (right-meets (Ready g false n (S.typed 0 x)) (S.skippedFrom g 0 S.zero-vector S.zero-vector (natAbs (x .«previous_macroblock_address» +ℤ pos 1)) (n - 1) (x .pels)) (P.predictSkipped (g .given) (sliceOf g (x .«previous_macroblock_address») (x .«quantizer_scale») S.zero-vector S.zero-vector (dcs (r .o))) (natAbs (x .«previous_macroblock_address» +ℤ pos 1)) (n - 1) (x .pels)) (λ l. on (world (sliceOf g (x .«previous_macroblock_address» +ℤ pos n) (x .«quantizer_scale») S.zero-vector S.zero-vector (dcs (r .o))) l)) (skipped-meets g (x .«previous_macroblock_address») (x .«quantizer_scale») S.zero-vector S.zero-vector (dcs (r .o)) 0 (λ e. absurd (false≢true (sym b ∙ e))) (natAbs (x .«previous_macroblock_address» +ℤ pos 1)) (n - 1) (x .pels))
+          (λ l m e. record {
+            o = dcs (r .o);
+            is = rw (p, b) (ap (world (sliceOf g (x .«previous_macroblock_address» +ℤ pos n) (x .«quantizer_scale») S.zero-vector S.zero-vector (dcs (r .o)))) (sym e));
+            for = rw p (zero-in (g .forward));
+            back = rw b (zero-in (g .backward));
+            past = rw reset;
+            order = r .order;
+            some = some;
+          }))
+
+      -- in a B picture
+      b-ready : eqb (g .given .type) 2 ≡ false → Goal (ours g x (r .o))
+      unfolding S.skipped M.advance M.skipReset
+      b-ready p = go (eqb (g .given .type) 3 && not (flag (x .«macroblock_type») 1)) refl
+        where
+          go : (t : Bool) → (eqb (g .given .type) 3 && not (flag (x .«macroblock_type») 1)) ≡ t → Goal (ours g x (r .o))
+          go true e =
+              let c = both (eqb (g .given .type) 3) (not (flag (x .«macroblock_type») 1)) e in
+              let i : flag (x .«macroblock_type») 1 ≡ false = not-true _ (c .1) in
+              let reset = past-reset n (x .«previous_macroblock_address») (x .«past_intra_address») (r .order) h in
+              let f = r .for in
+              let k = r .back in
+              rw (le-ltb n 2 h, lt-ltb 1 n h, p, c .0, i)
+              (right-meets (Ready g false n x) (S.skippedFrom g (x .«macroblock_type») (x .forPrev) (x .backPrev) (natAbs (x .«previous_macroblock_address» +ℤ pos 1)) (n - 1) (x .pels)) (P.predictSkipped (g .given) (sliceOf g (x .«previous_macroblock_address») (x .«quantizer_scale») (x .forPrev) (x .backPrev) (dcs (r .o))) (natAbs (x .«previous_macroblock_address» +ℤ pos 1)) (n - 1) (x .pels)) (λ l. on (world (sliceOf g (x .«previous_macroblock_address» +ℤ pos n) (x .«quantizer_scale») (x .forPrev) (x .backPrev) (dcs (r .o))) l)) (skipped-meets g (x .«previous_macroblock_address») (x .«quantizer_scale») (x .forPrev) (x .backPrev) (dcs (r .o)) (x .«macroblock_type») (λ e. r .flags e refl) (natAbs (x .«previous_macroblock_address» +ℤ pos 1)) (n - 1) (x .pels))
+              (λ l m e. record {
+                o = dcs (r .o);
+                is = rw (p, c .0, i) (ap (world (sliceOf g (x .«previous_macroblock_address» +ℤ pos n) (x .«quantizer_scale») (x .forPrev) (x .backPrev) (dcs (r .o)))) (sym e));
+                for = f;
+                back = k;
+                past = rw reset;
+                order = r .order;
+                some = some;
+              }))
+          go false e = rw (le-ltb n 2 h, p, e) tt
+
+    pub later-ready : Goal w
+    later-ready = subst Goal (sym (r .is)) (go (ltb n 2) refl (eqb (g .given .type) 2) refl)
+      where
+        go : (t : Bool) → ltb n 2 ≡ t → (p : Bool) → eqb (g .given .type) 2 ≡ p → Goal (ours g x (r .o))
+        go true e p q = next-ready (omega (arith, ltb-true n 2 e))
+        go false e true q = p-ready (ltb-false n 2 e) q
+        go false e false q = b-ready (ltb-false n 2 e) q

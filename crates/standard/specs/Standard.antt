@@ -1,0 +1,23 @@
+-- ISO/IEC 11172-2 from the picture down: one module for each layer, in the standard's names and order.
+pub mod Shall
+pub mod State
+pub mod Types
+pub mod Vectors
+pub mod Prediction
+pub mod Skipped
+pub mod Block
+pub mod Macroblock
+pub mod Slice
+pub mod PictureHeader
+pub mod Picture
+unfoldable pub use Shall.*
+unfoldable pub use State.*
+unfoldable pub use Types.*
+unfoldable pub use Vectors.*
+unfoldable pub use Prediction.*
+unfoldable pub use Skipped.*
+unfoldable pub use Block.*
+unfoldable pub use Macroblock.*
+unfoldable pub use Slice.*
+unfoldable pub use PictureHeader.*
+unfoldable pub use Picture.*

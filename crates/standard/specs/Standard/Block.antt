@@ -1,0 +1,117 @@
+-- 2.4.2.8, 2.4.3.7, 2.4.4.1, 2.4.4.2: block(i). dct_coeff_first, dct_coeff_next and end_of_block are read by `pairs` of crates/coefficients.
+use mathlib.Core.Bool.{Bool, true, false, _&&_, _||_}
+use mathlib.Core.List.{List, [], _∷_}
+use Prim.Native.Nat.{ℕ, zero, suc, _+_, _-_, _^_}
+use borrow.Rule.Slice.PartMut.{midOf, putMid}
+use lib.Dec.{eqb, ltb}
+use lib.IntN.{ℤ, pos, negℤ, _+ℤ_, _-ℤ_, _*ℤ_}
+use lib.ListN.{getD, set, replicate}
+use lib.Signed.{ltZ, leZ}
+use Rattle.bits.specs.Programs.{Prog, bits, if_then_else_}
+use Rattle.codes.specs.Matrices.{zigZag}
+use Rattle.coefficients.specs.declared.block.BlockEnd.{BlockEnd}
+use Rattle.coefficients.specs.declared.block.BlockEnd.the-variants.{Whole, Dropped, Outside}
+use Rattle.coefficients.specs.Dcs.{dcSize}
+use Rattle.coefficients.specs.Standard.{dctZZ0}
+use Rattle.coefficients.specs.Syntax.{Pair, Ended, pairs}
+use Rattle.prediction.specs.Predict.{macroblockAt}
+use Rattle.prediction.specs.Planes.{planeOf, planeLength, planeStart}
+use Rattle.prediction.specs.Writers.{overwrite, addBlock, blockWidth, blockPlace}
+use Rattle.picture.specs.Ways.{Way, on, plain, step, give, _>>=_, _>>_}
+use Rattle.picture.specs.Heads.{flag}
+use Rattle.picture.specs.Blocks.{matrixFor}
+use Rattle.standard.specs.Standard.Shall.{forbidden, shall}
+use Rattle.standard.specs.Standard.State.{Coding, Pasts, pasts, Variables}
+
+-- dct_recon so far, row by row, and how many places of the zig-zag order are used
+pub record Filled : Type 0 where
+  pub recon : List ℤ
+  pub n : ℕ
+
+-- 2.4.3.7: i = i + run + 1; dct_zz[i] = level. 2.4.4.1, 2.4.4.2: dct_recon[m][n], where scan[m][n] is i
+unfoldable pub reconstructed : Coding → Bool → ℕ → Filled → List Pair → Way Filled
+reconstructed g intra scale f [] = on f
+reconstructed g intra scale f (p ∷ ps) =
+    let place = getD zigZag (f .n + p .run) 0 in
+    let quant = getD (matrixFor (g .given) intra) place 0 in
+    if g .rules .admitted intra (p .level) scale quant then
+    reconstructed g intra scale (record { recon = set (f .recon) place (g .rules .dctRecon intra (p .level) scale quant); n = f .n + p .run + 1 }) ps
+    else forbidden
+
+-- up to end_of_block, within the 64 places
+abbrev pub isWhole : BlockEnd → Bool
+isWhole e = elim e [ Whole ↦ true | Dropped ↦ false | Outside ↦ false ]
+
+abbrev pub coefficients : Coding → Bool → ℕ → Filled → Ended → Way Filled
+coefficients g intra scale f p = if isWhole (p .end) then reconstructed g intra scale f (p .pairs) else forbidden
+
+-- 2.4.2.8, 2.4.3.7: dct_dc_size_.., dct_dc_differential, and dct_zz[0] from them
+unfoldable pub dctDc : ℕ → Prog (Way ℤ)
+dctDc i = do
+  size ← plain (dcSize (ltb i 4))
+  if eqb size 0 then give (pos 0) else (do
+    differential ← plain (bits size)
+    give (dctZZ0 size differential))
+
+-- the past of block i: Y for 0 to 3, Cb for 4, Cr for 5
+abbrev pub pastOf : ℕ → Pasts → ℤ
+pastOf i p = if ltb i 4 then p .y else (if eqb i 4 then p .cb else p .cr)
+
+abbrev pub pastAs : ℕ → ℤ → Pasts → Pasts
+pastAs i x p = if ltb i 4 then pasts x (p .cb) (p .cr) else (if eqb i 4 then pasts (p .y) x (p .cr) else pasts (p .y) (p .cb) x)
+
+-- 2.4.4.1: macroblock_address - past_intra_address > 1
+abbrev pub far : ℤ → Variables → Bool
+far address v = ltZ (pos 1) (address -ℤ v .«past_intra_address»)
+
+-- 2.4.4.1: what is added to dct_zz[0] * 8. For block 0, for Cb and for Cr it is 128 * 8 where the last intra macroblock is far, else the past; for blocks 1
+-- to 3 it is dct_dc_y_past
+abbrev pub dcPredictor : Bool → ℕ → Pasts → ℤ
+dcPredictor isFar i p = if (eqb i 0 || ltb 3 i) && isFar then pos 1024 else pastOf i p
+
+-- Annex A: the transform takes 12 bits
+abbrev pub inTwelveBits : ℤ → Bool
+inTwelveBits x = leZ (negℤ (pos 2048)) x && leZ x (pos 2047)
+
+-- pasts and pels behind some blocks
+pub record Blocks : Type 0 where
+  pub past : Pasts
+  pub pels : List ℕ
+
+-- 2.4.4.1, 2.4.4.2: the pels of block i in its plane become the transformed values, or these are added to them; clipped to 0 to 255
+unfoldable pub written : Coding → Bool → ℕ → ℕ → Filled → List ℕ → List ℕ
+written g intra i address f l =
+    let m = macroblockAt (g .given .sizes .«mb_width») (g .given .sizes .«mb_height») address in
+    let start = planeStart (g .given .stores .cur) (planeOf i) (g .given .sizes .«mb_size») in
+    let size = planeLength (planeOf i) (g .given .sizes .«mb_size») in
+    let before = midOf start size l in
+    let x = g .rules .transform (f .recon) in
+    putMid start size l (if intra then overwrite before (blockPlace m i) (blockWidth m i) x else addBlock before (blockPlace m i) (blockWidth m i) x)
+
+-- 2.4.4.1: dct_dc_.._past = dct_recon[0][0]
+unfoldable pub intraBlock : Coding → Bool → ℕ → ℕ → ℕ → Blocks → Prog (Way Blocks)
+intraBlock g isFar scale address i b = do
+  zz ← dctDc i
+  let recon = dcPredictor isFar i (b .past) +ℤ pos 8 *ℤ zz
+  shall (inTwelveBits recon)
+  p ← plain (pairs 1)
+  f ← step (coefficients g true scale (record { recon = set (replicate 64 (pos 0)) 0 recon; n = 1 }) p)
+  give (record { past = pastAs i recon (b .past); pels = written g true i address f (b .pels) })
+
+-- 2.4.4.2
+unfoldable pub nonIntraBlock : Coding → ℕ → ℕ → ℕ → Blocks → Prog (Way Blocks)
+nonIntraBlock g scale address i b = do
+  p ← plain (pairs 0)
+  f ← step (coefficients g false scale (record { recon = replicate 64 (pos 0); n = 0 }) p)
+  give (record { past = b .past; pels = written g false i address f (b .pels) })
+
+-- 2.4.3.6: pattern_code[i] = 0; if (cbp & (1 << (5 - i))) pattern_code[i] = 1; if (macroblock_intra) pattern_code[i] = 1; here i is 5 - k
+abbrev pub patternCode : Bool → ℕ → ℕ → Bool
+patternCode intra cbp k = flag cbp (2 ^ k) || intra
+
+-- 2.4.2.7: for (i = 0; i < 6; i++) block(i): the last n of them, i = 6 - n first
+unfoldable pub blocks : Coding → Bool → Bool → ℕ → ℕ → ℕ → ℕ → Blocks → Prog (Way Blocks)
+blocks g intra isFar cbp scale address zero b = give b
+blocks g intra isFar cbp scale address (suc k) b = do
+  x ← if patternCode intra cbp k then (if intra then intraBlock g isFar scale address (5 - k) b else nonIntraBlock g scale address (5 - k) b) else give b
+  blocks g intra isFar cbp scale address k x

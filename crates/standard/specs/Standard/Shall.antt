@@ -1,0 +1,32 @@
+-- Programs that follow the standard's text: what a stream shall be, and reads that the stream has bits for.
+use mathlib.Core.Bool.{Bool}
+use Prim.Native.Nat.{ℕ}
+use mathlib.Core.List.{[]}
+use lib.Dec.{eqb}
+use Rattle.laws.specs.Turns.{Turn, again, stop}
+use Rattle.bits.specs.Programs.{Prog, done, look, skip, loop, many, if_then_else_}
+use Rattle.picture.specs.Ways.{Way, on, out, give}
+
+-- the stream breaks a rule that a decoder relies on: nothing more is said of it
+abbrev pub forbidden : {A : Type 0} → Way A
+forbidden = out 0 []
+
+-- "shall"
+abbrev pub shall : Bool → Prog (Way (Unit {0}))
+shall b = if b then give tt else done forbidden
+
+-- 2.3, nextbits(): the next n bits, which are there
+abbrev pub nextbits : ℕ → Prog (Way ℕ)
+nextbits n = look n (λ h v. if h then give v else done forbidden)
+
+-- 2.2, a field of n bits, which are there
+unfoldable pub field : ℕ → Prog (Way ℕ)
+field n = look n (λ h v. if h then skip n (give v) else done forbidden)
+
+-- while (nextbits() == word, of n bits): they are passed over, and x becomes f x
+unfoldable pub whileTurn : ℕ → ℕ → (ℕ → ℕ) → ℕ → Prog (Turn ℕ (Way ℕ))
+whileTurn n word f x =
+    look n (λ h v. if h then (if eqb v word then skip n (done (again (f x))) else done (stop (on x))) else done (stop forbidden))
+
+unfoldable pub while : ℕ → ℕ → (ℕ → ℕ) → ℕ → Prog (Way ℕ)
+while n word f x = loop many (whileTurn n word f) forbidden x
