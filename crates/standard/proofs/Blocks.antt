@@ -39,7 +39,7 @@ use Rattle.picture.specs.Ways.{Way, on, out, leave, onward, plain, step, give}
 use Rattle.picture.specs.Heads.{flag}
 use Rattle.picture.specs.Blocks as O
 use Rattle.standard.specs.Standard as S
-use Rattle.standard.proofs.Rules.{Agree, a-same, a-give, a-plain, a-onward, a-shall, plain-bind, plain-bind-on}
+use Rattle.standard.proofs.Agreement.{Agree, a-same, a-give, a-plain, a-onward, a-shall, plain-bind, plain-bind-on}
 use Rattle.standard.proofs.Related.{motionOf, Own, own, sliceOf, eights, Rule, coding}
 use Rattle.standard.specs.Rules.{times, premultiplied}
 
@@ -90,7 +90,8 @@ lone-next : (x : S.Filled) (r : ℕ) (z : ℤ) → Lone x → Lone (record { rec
 lone-next x r z l =
     record {
       zeros = λ h k p.
-          getD-set-other (x .recon) (getD zigZag (x .n + r) 0) k z (pos 0) (λ e. omega (arith, zig-zag-first (x .n + r) (omega arith))) ∙ l .zeros (omega arith) k p;
+          getD-set-other (x .recon) (getD zigZag (x .n + r) 0) k z (pos 0) (λ e. omega (arith, zig-zag-first (x .n + r) (omega arith)))
+          ∙ l .zeros (omega arith) k p;
     }
 
 -- what the standard's way gives
@@ -139,16 +140,22 @@ module _ (rule : Rule) (g : Given) (f b : S.Direction) (intra : Bool) (scale : �
       next : S.Filled
       next = record { recon = set (x .recon) place theirs; n = x .n + p .run + 1 }
 
-      placed-same : theirs ≡ dequantised (quantiser intra scale) (p .level) quant → B.placed (quantiser intra scale) (O.matrixFor g intra) (filledOf x) p ≡ filledOf next
+      placed-same : theirs ≡ dequantised (quantiser intra scale) (p .level) quant → B.placed (quantiser intra scale) (O.matrixFor g intra) (filledOf x) p
+          ≡ filledOf next
       placed-same e =
           ap (λ (z : ℤ). B.filled (set (premultiplied (x .recon)) place (z *ℤ getD premultiplierMatrix place (pos 0))) (x .n + p .run + 1)) (sym e)
           ∙ ap (λ (l : List ℤ). B.filled l (x .n + p .run + 1)) (sym (times-set (x .recon) premultiplierMatrix place theirs))
 
-      go : (t : Bool) → (t ≡ true → theirs ≡ dequantised (quantiser intra scale) (p .level) quant) → WayIs (Placed next ps) (S.reconstructed their intra scale next ps)
+      go : (t : Bool) → (t ≡ true → theirs ≡ dequantised (quantiser intra scale) (p .level) quant)
+          → WayIs (Placed next ps) (S.reconstructed their intra scale next ps)
           → WayIs (Placed x (p ∷ ps)) (cond t (S.reconstructed their intra scale next ps) S.forbidden)
       go true k r =
           is-also (S.reconstructed their intra scale next ps) (λ y q.
-          record { same = ap (λ (z : B.Filled). B.allPlaced (quantiser intra scale) (O.matrixFor g intra) z ps) (placed-same (k refl)) ∙ q .same; lone = q .lone }) r
+          record {
+            same = ap (λ (z : B.Filled). B.allPlaced (quantiser intra scale) (O.matrixFor g intra) z ps) (placed-same (k refl))
+                ∙ q .same;
+            lone = q .lone;
+          }) r
       go false k r = tt
 
   coefficients-same : (x : S.Filled) (p : Ended) → Lone x → WayIs (λ y. (p .end ≡ Whole) × Placed x (p .pairs) y) (S.coefficients their intra scale x p)
@@ -175,7 +182,8 @@ module _ (s : List ℕ) where
       a-plain (dcSize (ltb i 4)) (dcSize (ltb i 4)) _ _ refl (go (o .value) (o .at) (size-small (ltb i 4) s a) (eqb (o .value) 0) refl))
     where
       go : (n e : ℕ) → n ≤ 31 → (t : Bool) → eqb n 0 ≡ t
-          → Agree _≡_ s e (cond t (give (pos 0)) (onward (plain (bits n)) (λ d. give (dctZZ0 n d)))) (plain (cond t (done (pos 0)) (bind (bits n) (λ d. done (added n d)))))
+          → Agree _≡_ s e (cond t (give (pos 0)) (onward (plain (bits n)) (λ d. give (dctZZ0 n d))))
+          (plain (cond t (done (pos 0)) (bind (bits n) (λ d. done (added n d)))))
       go n e h true q = a-give refl
       go n e h false q =
           let l = eqb-false n 0 q in
@@ -184,7 +192,8 @@ module _ (s : List ℕ) where
 -- ---- the three predictors
 
 abbrev ownAs : ℕ → ℤ → Own → Own
-ownAs i x o = cond (ltb i 4) (own (o .forSet) (o .backSet) x (o .cb) (o .cr)) (cond (eqb i 4) (own (o .forSet) (o .backSet) (o .y) x (o .cr)) (own (o .forSet) (o .backSet) (o .y) (o .cb) x))
+ownAs i x o = cond (ltb i 4) (own (o .forSet) (o .backSet) x (o .cb) (o .cr))
+    (cond (eqb i 4) (own (o .forSet) (o .backSet) (o .y) x (o .cr)) (own (o .forSet) (o .backSet) (o .y) (o .cb) x))
 
 abbrev dcsOf : Own → List ℤ
 dcsOf o = o .y ∷ o .cb ∷ o .cr ∷ []
@@ -276,25 +285,30 @@ results-same intra scale f di dw d h = go intra (eqb (f .n) 1) (λ e. lone-dc c 
         ≡ cond t (cond i (setConst d di dw (clamp255 x)) (addConst d di dw x)) (cond i (overwrite d di dw (idct c)) (addBlock d di dw (idct c)))
     go true true k =
         ap (overwrite d di dw) (k refl)
-        ∙ rows-alike d di dw 8 (λ y z. clamp255 (getD (replicate 64 x) (y * 8 + z) (pos 0))) (λ y z. clamp255 x) 8 (λ y z p q. ap clamp255 (getD-replicate 64 (y * 8 + z) x (pos 0) (omega arith)))
+        ∙ rows-alike d di dw 8 (λ y z. clamp255 (getD (replicate 64 x) (y * 8 + z) (pos 0))) (λ y z. clamp255 x) 8
+        (λ y z p q. ap clamp255 (getD-replicate 64 (y * 8 + z) x (pos 0) (omega arith)))
     go true false k = refl
     go false true k =
         ap (addBlock d di dw) (k refl)
-        ∙ rows-alike d di dw 8 (λ y z. clamp255 (pos (getD d (di + y * dw + z) 0) +ℤ getD (replicate 64 x) (y * 8 + z) (pos 0))) (λ y z. clamp255 (pos (getD d (di + y * dw + z) 0) +ℤ x)) 8
+        ∙ rows-alike d di dw 8 (λ y z. clamp255 (pos (getD d (di + y * dw + z) 0) +ℤ getD (replicate 64 x) (y * 8 + z) (pos 0)))
+        (λ y z. clamp255 (pos (getD d (di + y * dw + z) 0) +ℤ x)) 8
         (λ y z p q. ap (λ (w : ℤ). clamp255 (pos (getD d (di + y * dw + z) 0) +ℤ w)) (getD-replicate 64 (y * 8 + z) x (pos 0) (omega arith)))
     go false false k = refl
 
-written-same : (rule : Rule) (g : Given) (f b : S.Direction) (intra : Bool) (scale i address : ℕ) (x : S.Filled) (r : B.Read) (l : List ℕ) → r .filled ≡ filledOf x → Lone x
+written-same : (rule : Rule) (g : Given) (f b : S.Direction) (intra : Bool) (scale i address : ℕ) (x : S.Filled) (r : B.Read) (l : List ℕ) → r .filled
+    ≡ filledOf x → Lone x
     → O.written g (quantiser intra scale) i address r l ≡ S.written (coding rule g f b) intra i address x l
 unfolding O.written S.written
 written-same rule g f b intra scale i address x r l e lone =
     let m = macroblockAt (g .sizes .«mb_width») (g .sizes .«mb_height») address in
     let start = planeStart (g .stores .cur) (planeOf i) (g .sizes .«mb_size») in
     let size = planeLength (planeOf i) (g .sizes .«mb_size») in
-    let put : List ℤ → List ℕ = λ y. cond intra (overwrite (midOf start size l) (blockPlace m i) (blockWidth m i) y) (addBlock (midOf start size l) (blockPlace m i) (blockWidth m i) y) in
+    let put : List ℤ → List ℕ = λ y. cond intra (overwrite (midOf start size l) (blockPlace m i) (blockWidth m i) y)
+    (addBlock (midOf start size l) (blockPlace m i) (blockWidth m i) y) in
     ap (putMid start size l) (
     ap (λ (z : B.Filled). O.results (quantiser intra scale) z (blockPlace m i) (blockWidth m i) (midOf start size l)) e
-    ∙ sym (results-same intra scale (filledOf x) (blockPlace m i) (blockWidth m i) (midOf start size l) (λ h k p. times-at (x .recon) premultiplierMatrix k (lone .zeros h k p)))
+    ∙ sym (results-same intra scale (filledOf x) (blockPlace m i) (blockWidth m i) (midOf start size l)
+    (λ h k p. times-at (x .recon) premultiplierMatrix k (lone .zeros h k p)))
     ∙ ap put (sym (rule .transform (x .recon))))
 
 -- ---- a block
@@ -344,14 +358,17 @@ module _ (rule : Rule) (g : Given) (f b : S.Direction) (A : ℤ) (q : ℕ) (for 
       let made : Bool → ℤ → Ended → B.Read = λ t d p. cond (not t) (record { filled = B.filled left 0; predictor = pred; end = p .end })
       (record { filled = B.allPlaced Q matrix (B.withDc (pred +ℤ d) left) (p .pairs); predictor = pred +ℤ d; end = p .end }) in
       let F : S.Pasts → ℤ → Prog (Way S.Blocks) = λ past recon. onward (S.shall (S.inTwelveBits recon)) (λ z. onward (plain (pairs 1)) (λ p.
-      onward (step (S.coefficients G true q (record { recon = set left 0 recon; n = 1 }) p)) (λ f. give (record { past = S.pastAs i recon past; pels = S.written G true i (natAbs A) f (x .pels) })))) in
-      subst (λ (w : World). Agree (Intra isFar k G A q for back fs bs) s a (onward (S.dctDc i) (λ zz. F (x .past) (S.dcPredictor isFar i (x .past) +ℤ pos 8 *ℤ zz))) (O.oneBlock g true i w)) (sym (r .is)) (
+      onward (step (S.coefficients G true q (record { recon = set left 0 recon; n = 1 }) p))
+      (λ f. give (record { past = S.pastAs i recon past; pels = S.written G true i (natAbs A) f (x .pels) })))) in
+      subst (λ (w : World). Agree (Intra isFar k G A q for back fs bs) s a
+      (onward (S.dctDc i) (λ zz. F (x .past) (S.dcPredictor isFar i (x .past) +ℤ pos 8 *ℤ zz))) (O.oneBlock g true i w)) (sym (r .is)) (
       a-same (sym (plain-bind-on (intraCoded (ltb i 4) pred) (λ c. done (B.reconstructed Q matrix pred left c)) E s a)) (
       a-same (sym (plain-bind-on (dcDifference (ltb i 4)) (λ d. K (dcInside (pred +ℤ d)) d) E′ s a)) (
       a-onward _ _ (dc-agrees s i a) (λ zz d e c.
       let x′ = pred +ℤ d in
       let m = component isFar (x .past) o x′ k h (r .past) in
-      let same : S.dcPredictor isFar i (x .past) +ℤ pos 8 *ℤ zz ≡ pos 8 *ℤ x′ = ap (λ (z : ℤ). z +ℤ pos 8 *ℤ zz) (m .pred) ∙ eight-add pred zz ∙ ap (λ (z : ℤ). pos 8 *ℤ (pred +ℤ z)) c in
+      let same : S.dcPredictor isFar i (x .past) +ℤ pos 8 *ℤ zz ≡ pos 8 *ℤ x′ = ap (λ (z : ℤ). z +ℤ pos 8 *ℤ zz) (m .pred) ∙ eight-add pred zz
+      ∙ ap (λ (z : ℤ). pos 8 *ℤ (pred +ℤ z)) c in
       subst (λ (recon : ℤ). Agree (Intra isFar k G A q for back fs bs) s e (F (x .past) recon) (onward (plain (K (dcInside x′) d)) E′)) (sym same) (
       a-shall _ _ (λ z.
       a-same (ap (λ (t : Bool). run (onward (plain (K t d)) E′) s e) (sym (eight-inside x′ z))) (
@@ -367,7 +384,9 @@ module _ (rule : Rule) (g : Given) (f b : S.Direction) (A : ℤ) (q : ℕ) (for 
       let filled = ap (λ (z : B.Filled). B.allPlaced Q matrix z (p .pairs)) (begins x′) ∙ y .1 .same in
       let read : made true d p ≡ whole = λ j. record { filled = filled j; predictor = x′; end = y .0 j } in
       let wr = written-same rule g f b true q i (natAbs A) fl whole (x .pels) refl (y .1 .lone) in
-      subst (λ (c : B.Read). Agree (Intra isFar k G A q for back fs bs) s e (give (record { past = S.pastAs i (pos 8 *ℤ x′) (x .past); pels = S.written G true i (natAbs A) fl (x .pels) })) (step (O.blockEnd g Q i u c))) (sym read)
+      subst (λ (c : B.Read). Agree (Intra isFar k G A q for back fs bs) s e
+      (give (record { past = S.pastAs i (pos 8 *ℤ x′) (x .past); pels = S.written G true i (natAbs A) fl (x .pels) })) (step (O.blockEnd g Q i u c)))
+      (sym read)
       (a-give (record { y = n .y; cb = n .cb; cr = n .cr; is = λ j. world (laid A q for back f fs b bs (m .dcs j)) (wr j); past = m .past })))))))))))))
 
   inter-block : (o : Own) (p : S.Pasts) (k : ℕ) → k < 6 → (x : S.Blocks) (w : World) (a : ℕ) → Inter G A q for back o p x w
@@ -395,7 +414,8 @@ module _ (rule : Rule) (g : Given) (f b : S.Direction) (A : ℤ) (q : ℕ) (for 
       let filled = ap (λ (l : List ℤ). B.allPlaced Q matrix (B.filled l 0) (p .pairs)) (sym times-zero) ∙ y .1 .same in
       let read : made ≡ whole = λ j. record { filled = filled j; predictor = pred; end = y .0 j } in
       let wr = written-same rule g f b false q i (natAbs A) fl whole (x .pels) refl (y .1 .lone) in
-      subst (λ (c : B.Read). Agree (Inter G A q for back o past) s e (give (record { past = x .past; pels = S.written G false i (natAbs A) fl (x .pels) })) (step (O.blockEnd g Q i u c))) (sym read)
+      subst (λ (c : B.Read). Agree (Inter G A q for back o past) s e (give (record { past = x .past; pels = S.written G false i (natAbs A) fl (x .pels) }))
+      (step (O.blockEnd g Q i u c))) (sym read)
       (a-give (record { is = λ j. world (laid A q for back f (o .forSet) b (o .backSet) (kept-dcs o k h j)) (wr j); past = r .past })))))))
 
   -- ---- the blocks that are left
@@ -404,9 +424,12 @@ module _ (rule : Rule) (g : Given) (f b : S.Direction) (A : ℤ) (q : ℕ) (for 
       → Agree (Intra isFar 0 G A q for back fs bs) s a (S.blocks G true isFar cbp q (natAbs A) k x) (O.lastBlocks g true 63 k w)
   unfolding S.blocks O.lastBlocks
   intra-blocks isFar fs bs cbp zero h x w a r = a-give r
-  intra-blocks isFar fs bs cbp (suc k) h x w a r = a-onward _ _ (all (flag cbp (2 ^ k)) (flag 63 (2 ^ k)) (bits-63 k (omega arith))) (λ x w e r. intra-blocks isFar fs bs cbp k (omega arith) x w e r)
+  intra-blocks isFar fs bs cbp (suc k) h x w a r = a-onward _ _ (all (flag cbp (2 ^ k)) (flag 63 (2 ^ k)) (bits-63 k (omega arith)))
+      (λ x w e r. intra-blocks isFar fs bs cbp k (omega arith) x w e r)
     where
-      all : (t u : Bool) → u ≡ true → Agree (Intra isFar k G A q for back fs bs) s a (cond (t || true) (S.intraBlock G isFar q (natAbs A) (5 - k) x) (give x)) (cond u (O.oneBlock g true (5 - k) w) (give w))
+      all : (t u : Bool) → u ≡ true
+          → Agree (Intra isFar k G A q for back fs bs) s a (cond (t || true) (S.intraBlock G isFar q (natAbs A) (5 - k) x) (give x))
+          (cond u (O.oneBlock g true (5 - k) w) (give w))
       all t true z = rw (or-true t) (intra-block isFar fs bs k (omega arith) x w a r)
       all t false z = absurd (false≢true z)
 
@@ -416,6 +439,7 @@ module _ (rule : Rule) (g : Given) (f b : S.Direction) (A : ℤ) (q : ℕ) (for 
   inter-blocks isFar o p cbp zero h x w a r = a-give r
   inter-blocks isFar o p cbp (suc k) h x w a r = a-onward _ _ (some (flag cbp (2 ^ k))) (λ x w e r. inter-blocks isFar o p cbp k (omega arith) x w e r)
     where
-      some : (t : Bool) → Agree (Inter G A q for back o p) s a (cond (t || false) (S.nonIntraBlock G q (natAbs A) (5 - k) x) (give x)) (cond t (O.oneBlock g false (5 - k) w) (give w))
+      some : (t : Bool) → Agree (Inter G A q for back o p) s a (cond (t || false) (S.nonIntraBlock G q (natAbs A) (5 - k) x) (give x))
+          (cond t (O.oneBlock g false (5 - k) w) (give w))
       some true = inter-block o p k (omega arith) x w a r
       some false = a-give r

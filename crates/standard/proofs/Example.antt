@@ -10,7 +10,10 @@ use Rattle.laws.specs.Signed.{clamp255, odd}
 use Rattle.laws.specs.Stores.{storeRow, storeRows}
 use Rattle.bits.specs.Bits.{bitAt, bitsAt, got, next}
 use Rattle.bits.specs.Programs.{Out, run, bind, loop}
-use Rattle.codes.specs.Tables.{macroblockAddressIncrementIndex, macroblockAddressIncrementValue, macroblockTypeIntraIndex, macroblockTypeIntraValue, macroblockTypePredictiveIndex, macroblockTypePredictiveValue, macroblockTypeBIndex, macroblockTypeBValue, motionIndex, motionValue, dctSizeLuminanceIndex, dctSizeLuminanceValue, dctSizeChrominanceIndex, dctSizeChrominanceValue, dctCoeffIndex, dctCoeffValue}
+use Rattle.codes.specs.Tables.{macroblockAddressIncrementIndex, macroblockAddressIncrementValue, macroblockTypeIntraIndex, macroblockTypeIntraValue}
+use Rattle.codes.specs.Tables.{macroblockTypePredictiveIndex, macroblockTypePredictiveValue, macroblockTypeBIndex, macroblockTypeBValue, motionIndex}
+use Rattle.codes.specs.Tables.{motionValue, dctSizeLuminanceIndex, dctSizeLuminanceValue, dctSizeChrominanceIndex, dctSizeChrominanceValue, dctCoeffIndex}
+use Rattle.codes.specs.Tables.{dctCoeffValue}
 use Rattle.codes.specs.Standard.{macroblockTypeIntraCodes, macroblockTypePredictiveCodes, macroblockTypeBCodes}
 use Rattle.codes.specs.Walk.{walkTurn, walk, vlc}
 use Rattle.codes.specs.Codes as Codes
@@ -48,20 +51,52 @@ slice type stream = run (S.slice (S.coding rust (given type) direction direction
 
 -- where the slice is admitted: its last macroblock_address, macroblock_type, dct_dc_y_past, recon_right_for_prev, and three pels of the first row of Y
 abbrev seen : Way S.Variables → List ℤ
-seen (on v) = v .«previous_macroblock_address» ∷ pos (v .«macroblock_type») ∷ v .past .y ∷ v .forPrev .right ∷ pos (getD (v .pels) 0 0) ∷ pos (getD (v .pels) 16 0) ∷ pos (getD (v .pels) 32 0) ∷ []
+seen (on v) = v .«previous_macroblock_address» ∷ pos (v .«macroblock_type») ∷ v .past .y ∷ v .forPrev .right ∷ pos (getD (v .pels) 0 0) ∷ pos
+    (getD (v .pels) 16 0) ∷ pos (getD (v .pels) 32 0) ∷ []
 seen (out n l) = []
 
 -- stuffing, and a DC differential of 5 in the first block: 133 from there on, across macroblocks
-pub i-slice : seen (slice 1 (0x08 ∷ 0x07 ∷ 0xf6 ∷ 0xd2 ∷ 0x94 ∷ 0x88 ∷ 0xb9 ∷ 0x4a ∷ 0x52 ∷ 0x22 ∷ 0xa2 ∷ 0x94 ∷ 0xa5 ∷ 0x22 ∷ 0x20 ∷ 0x00 ∷ 0x00 ∷ 0x01 ∷ 0x00 ∷ 0x00 ∷ []) .value) ≡ pos 2 ∷ pos 17 ∷ pos 1064 ∷ pos 0 ∷ pos 133 ∷ pos 133 ∷ pos 133 ∷ []
-unfolding clamp255 odd storeRow storeRows bitAt bitsAt got next run bind loop macroblockAddressIncrementIndex macroblockAddressIncrementValue macroblockTypeIntraIndex macroblockTypeIntraValue macroblockTypePredictiveIndex macroblockTypePredictiveValue macroblockTypeBIndex macroblockTypeBValue motionIndex motionValue dctSizeLuminanceIndex dctSizeLuminanceValue dctSizeChrominanceIndex dctSizeChrominanceValue dctCoeffIndex dctCoeffValue walkTurn walk vlc Codes.macroblockAddressIncrement Codes.macroblockTypeIntra Codes.macroblockTypePredictive Codes.macroblockTypeB Codes.motion Codes.dctSizeLuminance Codes.dctSizeChrominance Codes.dctCoeff downFrom diagonals zigZag intraQuantMatrix premultiplierMatrix macroblockTypeIntraCodes macroblockTypePredictiveCodes macroblockTypeBCodes complement right recon reconstructed residual standardVector dctZZ0 Dcs.dcSize Coefficients.runLevel Coefficients.coefficient dequantised butterfly columns rows idct overwrite addBlock blockPlace also leave onward plain macroblockType extraTurn extra S.whileTurn S.while S.increment S.inTable S.vector S.forVector S.backVector formed S.predictedPlane S.predictedFrom S.predicted S.skippedFrom S.skipped Syntax.pairTurn Syntax.pairs S.reconstructed S.dctDc S.written S.intraBlock S.nonIntraBlock S.blocks S.coded S.macroblock S.pastMacroblock S.sliceTurn S.slice
+pub i-slice : seen (slice 1
+    (0x08 ∷ 0x07 ∷ 0xf6 ∷ 0xd2 ∷ 0x94 ∷ 0x88 ∷ 0xb9 ∷ 0x4a ∷ 0x52 ∷ 0x22 ∷ 0xa2 ∷ 0x94 ∷ 0xa5 ∷ 0x22 ∷ 0x20 ∷ 0x00 ∷ 0x00 ∷ 0x01 ∷ 0x00 ∷ 0x00 ∷
+    []) .value) ≡ pos 2 ∷ pos 17 ∷ pos 1064 ∷ pos 0 ∷ pos 133 ∷ pos 133 ∷ pos 133 ∷ []
+unfolding clamp255 odd storeRow storeRows bitAt bitsAt got next run bind loop macroblockAddressIncrementIndex macroblockAddressIncrementValue
+    macroblockTypeIntraIndex macroblockTypeIntraValue macroblockTypePredictiveIndex macroblockTypePredictiveValue macroblockTypeBIndex macroblockTypeBValue
+    motionIndex motionValue dctSizeLuminanceIndex dctSizeLuminanceValue dctSizeChrominanceIndex dctSizeChrominanceValue dctCoeffIndex dctCoeffValue
+    walkTurn walk vlc Codes.macroblockAddressIncrement Codes.macroblockTypeIntra Codes.macroblockTypePredictive Codes.macroblockTypeB Codes.motion
+    Codes.dctSizeLuminance Codes.dctSizeChrominance Codes.dctCoeff downFrom diagonals zigZag intraQuantMatrix premultiplierMatrix macroblockTypeIntraCodes
+    macroblockTypePredictiveCodes macroblockTypeBCodes complement right recon reconstructed residual standardVector dctZZ0 Dcs.dcSize Coefficients.runLevel
+    Coefficients.coefficient dequantised butterfly columns rows idct overwrite addBlock blockPlace also leave onward plain macroblockType extraTurn extra
+    S.whileTurn S.while S.increment S.inTable S.vector S.forVector S.backVector formed S.predictedPlane S.predictedFrom S.predicted S.skippedFrom S.skipped
+    Syntax.pairTurn Syntax.pairs S.reconstructed S.dctDc S.written S.intraBlock S.nonIntraBlock S.blocks S.coded S.macroblock S.pastMacroblock S.sliceTurn
+    S.slice
 i-slice = refl
 
 -- a forward vector, a skipped macroblock, an intra macroblock
-pub p-slice : seen (slice 2 (0x0a ∷ 0x55 ∷ 0x8e ∷ 0xda ∷ 0x52 ∷ 0x91 ∷ 0x10 ∷ 0x00 ∷ 0x00 ∷ 0x01 ∷ 0x00 ∷ 0x00 ∷ []) .value) ≡ pos 2 ∷ pos 1 ∷ pos 1064 ∷ pos 0 ∷ pos 50 ∷ pos 50 ∷ pos 133 ∷ []
-unfolding clamp255 odd storeRow storeRows bitAt bitsAt got next run bind loop macroblockAddressIncrementIndex macroblockAddressIncrementValue macroblockTypeIntraIndex macroblockTypeIntraValue macroblockTypePredictiveIndex macroblockTypePredictiveValue macroblockTypeBIndex macroblockTypeBValue motionIndex motionValue dctSizeLuminanceIndex dctSizeLuminanceValue dctSizeChrominanceIndex dctSizeChrominanceValue dctCoeffIndex dctCoeffValue walkTurn walk vlc Codes.macroblockAddressIncrement Codes.macroblockTypeIntra Codes.macroblockTypePredictive Codes.macroblockTypeB Codes.motion Codes.dctSizeLuminance Codes.dctSizeChrominance Codes.dctCoeff downFrom diagonals zigZag intraQuantMatrix premultiplierMatrix macroblockTypeIntraCodes macroblockTypePredictiveCodes macroblockTypeBCodes complement right recon reconstructed residual standardVector dctZZ0 Dcs.dcSize Coefficients.runLevel Coefficients.coefficient dequantised butterfly columns rows idct overwrite addBlock blockPlace also leave onward plain macroblockType extraTurn extra S.whileTurn S.while S.increment S.inTable S.vector S.forVector S.backVector formed S.predictedPlane S.predictedFrom S.predicted S.skippedFrom S.skipped Syntax.pairTurn Syntax.pairs S.reconstructed S.dctDc S.written S.intraBlock S.nonIntraBlock S.blocks S.coded S.macroblock S.pastMacroblock S.sliceTurn S.slice
+pub p-slice : seen (slice 2 (0x0a ∷ 0x55 ∷ 0x8e ∷ 0xda ∷ 0x52 ∷ 0x91 ∷ 0x10 ∷ 0x00 ∷ 0x00 ∷ 0x01 ∷ 0x00 ∷ 0x00 ∷ []) .value)
+    ≡ pos 2 ∷ pos 1 ∷ pos 1064 ∷ pos 0 ∷ pos 50 ∷ pos 50 ∷ pos 133 ∷ []
+unfolding clamp255 odd storeRow storeRows bitAt bitsAt got next run bind loop macroblockAddressIncrementIndex macroblockAddressIncrementValue
+    macroblockTypeIntraIndex macroblockTypeIntraValue macroblockTypePredictiveIndex macroblockTypePredictiveValue macroblockTypeBIndex macroblockTypeBValue
+    motionIndex motionValue dctSizeLuminanceIndex dctSizeLuminanceValue dctSizeChrominanceIndex dctSizeChrominanceValue dctCoeffIndex dctCoeffValue
+    walkTurn walk vlc Codes.macroblockAddressIncrement Codes.macroblockTypeIntra Codes.macroblockTypePredictive Codes.macroblockTypeB Codes.motion
+    Codes.dctSizeLuminance Codes.dctSizeChrominance Codes.dctCoeff downFrom diagonals zigZag intraQuantMatrix premultiplierMatrix macroblockTypeIntraCodes
+    macroblockTypePredictiveCodes macroblockTypeBCodes complement right recon reconstructed residual standardVector dctZZ0 Dcs.dcSize Coefficients.runLevel
+    Coefficients.coefficient dequantised butterfly columns rows idct overwrite addBlock blockPlace also leave onward plain macroblockType extraTurn extra
+    S.whileTurn S.while S.increment S.inTable S.vector S.forVector S.backVector formed S.predictedPlane S.predictedFrom S.predicted S.skippedFrom S.skipped
+    Syntax.pairTurn Syntax.pairs S.reconstructed S.dctDc S.written S.intraBlock S.nonIntraBlock S.blocks S.coded S.macroblock S.pastMacroblock S.sliceTurn
+    S.slice
 p-slice = refl
 
 -- a forward vector, a skipped macroblock, a backward vector
-pub b-slice : seen (slice 3 (0x0a ∷ 0x4a ∷ 0xd6 ∷ 0x00 ∷ 0x00 ∷ 0x01 ∷ 0x00 ∷ 0x00 ∷ []) .value) ≡ pos 2 ∷ pos 4 ∷ pos 1024 ∷ pos 1 ∷ pos 50 ∷ pos 50 ∷ pos 90 ∷ []
-unfolding clamp255 odd storeRow storeRows bitAt bitsAt got next run bind loop macroblockAddressIncrementIndex macroblockAddressIncrementValue macroblockTypeIntraIndex macroblockTypeIntraValue macroblockTypePredictiveIndex macroblockTypePredictiveValue macroblockTypeBIndex macroblockTypeBValue motionIndex motionValue dctSizeLuminanceIndex dctSizeLuminanceValue dctSizeChrominanceIndex dctSizeChrominanceValue dctCoeffIndex dctCoeffValue walkTurn walk vlc Codes.macroblockAddressIncrement Codes.macroblockTypeIntra Codes.macroblockTypePredictive Codes.macroblockTypeB Codes.motion Codes.dctSizeLuminance Codes.dctSizeChrominance Codes.dctCoeff downFrom diagonals zigZag intraQuantMatrix premultiplierMatrix macroblockTypeIntraCodes macroblockTypePredictiveCodes macroblockTypeBCodes complement right recon reconstructed residual standardVector dctZZ0 Dcs.dcSize Coefficients.runLevel Coefficients.coefficient dequantised butterfly columns rows idct overwrite addBlock blockPlace also leave onward plain macroblockType extraTurn extra S.whileTurn S.while S.increment S.inTable S.vector S.forVector S.backVector formed S.predictedPlane S.predictedFrom S.predicted S.skippedFrom S.skipped Syntax.pairTurn Syntax.pairs S.reconstructed S.dctDc S.written S.intraBlock S.nonIntraBlock S.blocks S.coded S.macroblock S.pastMacroblock S.sliceTurn S.slice
+pub b-slice : seen (slice 3 (0x0a ∷ 0x4a ∷ 0xd6 ∷ 0x00 ∷ 0x00 ∷ 0x01 ∷ 0x00 ∷ 0x00 ∷ []) .value)
+    ≡ pos 2 ∷ pos 4 ∷ pos 1024 ∷ pos 1 ∷ pos 50 ∷ pos 50 ∷ pos 90 ∷ []
+unfolding clamp255 odd storeRow storeRows bitAt bitsAt got next run bind loop macroblockAddressIncrementIndex macroblockAddressIncrementValue
+    macroblockTypeIntraIndex macroblockTypeIntraValue macroblockTypePredictiveIndex macroblockTypePredictiveValue macroblockTypeBIndex macroblockTypeBValue
+    motionIndex motionValue dctSizeLuminanceIndex dctSizeLuminanceValue dctSizeChrominanceIndex dctSizeChrominanceValue dctCoeffIndex dctCoeffValue
+    walkTurn walk vlc Codes.macroblockAddressIncrement Codes.macroblockTypeIntra Codes.macroblockTypePredictive Codes.macroblockTypeB Codes.motion
+    Codes.dctSizeLuminance Codes.dctSizeChrominance Codes.dctCoeff downFrom diagonals zigZag intraQuantMatrix premultiplierMatrix macroblockTypeIntraCodes
+    macroblockTypePredictiveCodes macroblockTypeBCodes complement right recon reconstructed residual standardVector dctZZ0 Dcs.dcSize Coefficients.runLevel
+    Coefficients.coefficient dequantised butterfly columns rows idct overwrite addBlock blockPlace also leave onward plain macroblockType extraTurn extra
+    S.whileTurn S.while S.increment S.inTable S.vector S.forVector S.backVector formed S.predictedPlane S.predictedFrom S.predicted S.skippedFrom S.skipped
+    Syntax.pairTurn Syntax.pairs S.reconstructed S.dctDc S.written S.intraBlock S.nonIntraBlock S.blocks S.coded S.macroblock S.pastMacroblock S.sliceTurn
+    S.slice
 b-slice = refl

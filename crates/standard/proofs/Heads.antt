@@ -23,7 +23,7 @@ use Rattle.picture.specs.Ways.{Way, leave, onward, plain, give}
 use Rattle.picture.specs.Heads as O
 use Rattle.picture.specs.Heads.{flag}
 use Rattle.standard.specs.Standard as S
-use Rattle.standard.proofs.Rules.{Agree, a-same, a-give, a-plain, a-onward, a-as, plain-bind, plain-bind-on}
+use Rattle.standard.proofs.Agreement.{Agree, a-same, a-give, a-plain, a-onward, a-as, plain-bind, plain-bind-on}
 use Rattle.standard.proofs.Related.{In, motionOf, Own, own, sliceOf}
 
 zero-range : (f : ℕ) → InRange (2 ^ f) (pos 0)
@@ -35,7 +35,8 @@ pub zero-in : (d : S.Direction) → In d S.zero-vector
 zero-in d = record { right = zero-range (d .«r_size»); down = zero-range (d .«r_size») }
 
 step-in : (s : List ℕ) (r : ℕ) (z : ℤ) (a : ℕ) → InRange (2 ^ r) z → InRange (2 ^ r) (run (standardVector r z) s a .value)
-step-in s r z a i = rw (standard-step r z i s a, step-is r z s a) (corrected-in (run (displacement r) s a .value) (le-refl (2 ^ r)) (displacement-most {s = s} r .value a) i)
+step-in s r z a i = rw (standard-step r z i s a, step-is r z s a)
+    (corrected-in (run (displacement r) s a .value) (le-refl (2 ^ r)) (displacement-most {s = s} r .value a) i)
 
 module _ {s : List ℕ} where
   -- a vector that is read
@@ -52,31 +53,37 @@ module _ {s : List ℕ} where
 
   -- the forward vector behind the type t
   forward-agrees : (g : S.Coding) (t : ℕ) (x : S.Vector) (a : ℕ) → In (g .forward) x
-      → Agree (λ y m. In (g .forward) y × (m ≡ motionOf (g .forward) (flag t 8) y) × (flag t 8 ≡ false → eqb (g .given .type) 2 ≡ true → y ≡ S.zero-vector)) s a (S.forVector g t x) (plain (O.forward (g .given .type) (motionOf (g .forward) (flag t 8) x)))
+      → Agree (λ y m. In (g .forward) y × (m ≡ motionOf (g .forward) (flag t 8) y) × (flag t 8 ≡ false → eqb (g .given .type) 2 ≡ true → y
+      ≡ S.zero-vector)) s a (S.forVector g t x) (plain (O.forward (g .given .type) (motionOf (g .forward) (flag t 8) x)))
   unfolding S.forVector O.forward plain bind
   forward-agrees g t x a i = go (flag t 8) (eqb (g .given .type) 2)
     where
-      go : (b p : Bool) → Agree (λ y m. In (g .forward) y × (m ≡ motionOf (g .forward) b y) × (b ≡ false → p ≡ true → y ≡ S.zero-vector)) s a (cond b (S.vector (g .forward) x) (cond p (give S.zero-vector) (give x)))
+      go : (b p : Bool) → Agree (λ y m. In (g .forward) y × (m ≡ motionOf (g .forward) b y) × (b ≡ false → p ≡ true → y ≡ S.zero-vector)) s a
+          (cond b (S.vector (g .forward) x) (cond p (give S.zero-vector) (give x)))
           (plain (cond b (O.vector (motionOf (g .forward) b x)) (cond p (done (motionOf (g .forward) b S.zero-vector)) (done (motionOf (g .forward) b x)))))
       go true p = a-as (λ y m h. (h .0, h .1, λ z. absurd (false≢true (sym z)))) (vector-agrees (g .forward) true x a i)
       go false true = a-give (zero-in (g .forward), refl, λ z y. refl)
       go false false = a-give (i, refl, λ z y. absurd (false≢true y))
 
   backward-agrees : (g : S.Coding) (t : ℕ) (x : S.Vector) (a : ℕ) → In (g .backward) x
-      → Agree (λ y m. In (g .backward) y × (m ≡ motionOf (g .backward) (flag t 4) y) × (flag t 4 ≡ false → y ≡ x)) s a (S.backVector g t x) (plain (O.backward (motionOf (g .backward) (flag t 4) x)))
+      → Agree (λ y m. In (g .backward) y × (m ≡ motionOf (g .backward) (flag t 4) y) × (flag t 4 ≡ false → y ≡ x)) s a (S.backVector g t x)
+      (plain (O.backward (motionOf (g .backward) (flag t 4) x)))
   unfolding S.backVector O.backward plain bind
   backward-agrees g t x a i = go (flag t 4)
     where
-      go : (b : Bool) → Agree (λ y m. In (g .backward) y × (m ≡ motionOf (g .backward) b y) × (b ≡ false → y ≡ x)) s a (cond b (S.vector (g .backward) x) (give x))
+      go : (b : Bool) → Agree (λ y m. In (g .backward) y × (m ≡ motionOf (g .backward) b y) × (b ≡ false → y ≡ x)) s a
+          (cond b (S.vector (g .backward) x) (give x))
           (plain (cond b (O.vector (motionOf (g .backward) b x)) (done (motionOf (g .backward) b x))))
       go true = a-as (λ y m h. (h .0, h .1, λ z. absurd (false≢true (sym z)))) (vector-agrees (g .backward) true x a i)
       go false = a-give (i, refl, λ z. refl)
 
-  scale-agrees : (t : ℕ) (y : Slice) (a : ℕ) → Agree (λ q z. z ≡ scaleAs q y) s a (cond (flag t 16) (plain (bits 5)) (give (y .«quantizer_scale»))) (plain (O.scale t y))
+  scale-agrees : (t : ℕ) (y : Slice) (a : ℕ)
+      → Agree (λ q z. z ≡ scaleAs q y) s a (cond (flag t 16) (plain (bits 5)) (give (y .«quantizer_scale»))) (plain (O.scale t y))
   unfolding O.scale plain bind run
   scale-agrees t y a = go (flag t 16)
     where
-      go : (b : Bool) → Agree (λ q z. z ≡ scaleAs q y) s a (cond b (plain (bits 5)) (give (y .«quantizer_scale»))) (plain (cond b (bind (bits 5) (λ q. done (scaleAs q y))) (done y)))
+      go : (b : Bool) → Agree (λ q z. z ≡ scaleAs q y) s a (cond b (plain (bits 5)) (give (y .«quantizer_scale»)))
+          (plain (cond b (bind (bits 5) (λ q. done (scaleAs q y))) (done y)))
       go true = record { is = (refl, refl) }
       go false = a-give refl
 
@@ -88,12 +95,14 @@ their g t q f b F = onward (cond (flag t 16) (plain (bits 5)) (give q)) (λ q. o
 abbrev pub reset : ℕ → Own
 reset t = own (flag t 8) (flag t 4) (pos 128) (pos 128) (pos 128)
 
-module _ {C D : Type 0} {Q : C → D → Type 0} {s : List ℕ} (g : S.Coding) (A : ℤ) (q : ℕ) (f b₀ : S.Vector) (o : Own) (t : ℕ) (i : In (g .forward) f) (j : In (g .backward) b₀)
+module _ {C D : Type 0} {Q : C → D → Type 0} {s : List ℕ} (g : S.Coding) (A : ℤ) (q : ℕ) (f b₀ : S.Vector) (o : Own) (t : ℕ) (i : In (g .forward) f)
+    (j : In (g .backward) b₀)
     (F : ℕ → S.Vector → S.Vector → Prog (Way C)) (G : Slice → Prog (Way D)) where
   -- not intra
   pub inter-head : flag t 1 ≡ false
       → ((q : ℕ) (f b : S.Vector) (e : ℕ) → In (g .forward) f → In (g .backward) b
-      → (flag t 8 ≡ false → eqb (g .given .type) 2 ≡ true → f ≡ S.zero-vector) → (flag t 4 ≡ false → b ≡ b₀) → Agree Q s e (F q f b) (G (sliceOf g A q f b (reset t))))
+      → (flag t 8 ≡ false → eqb (g .given .type) 2 ≡ true → f ≡ S.zero-vector) → (flag t 4 ≡ false → b ≡ b₀)
+      → Agree Q s e (F q f b) (G (sliceOf g A q f b (reset t))))
       → (a : ℕ) → Agree Q s a (their g t q f b₀ F) (onward (plain (O.head (g .given .type) t (sliceOf g A q f b₀ o))) G)
   unfolding O.head O.vectors plain bind onward leave
   inter-head h k a =
@@ -104,7 +113,8 @@ module _ {C D : Type 0} {Q : C → D → Type 0} {s : List ℕ} (g : S.Coding) (
       let u = scaleAs q x in
       let F′ = O.forward (g .given .type) (u .«motion_forward») in
       let B′ = O.backward (u .«motion_backward») in
-      subst (λ (z : Slice). Agree Q s e (onward (S.forVector g t f) (λ f. onward (S.backVector g t b₀) (F q f))) (onward (plain (rest (flag t 1) z)) G)) (sym w) (
+      subst (λ (z : Slice). Agree Q s e (onward (S.forVector g t f) (λ f. onward (S.backVector g t b₀) (F q f))) (onward (plain (rest (flag t 1) z)) G))
+      (sym w) (
       a-same (ap (λ (b : Bool). run (onward (plain (rest b u)) G) s e) (sym h)) (
       a-same (sym (plain-bind-on F′ (λ f. bind B′ (λ b. done (motionsAs f b (dcReset u)))) G s e)) (
       a-onward _ _ (forward-agrees g t f e i) (λ f m e c.
@@ -116,7 +126,8 @@ module _ {C D : Type 0} {Q : C → D → Type 0} {s : List ℕ} (g : S.Coding) (
 
   -- intra: the standard keeps its vectors, and will not use them; ours are 0
   pub intra-head : flag t 1 ≡ true → flag t 8 ≡ false → flag t 4 ≡ false
-      → ((q : ℕ) (f : S.Vector) (e : ℕ) → Agree Q s e (F q f b₀) (G (sliceOf g A q S.zero-vector S.zero-vector (own (flag t 8) (flag t 4) (o .y) (o .cb) (o .cr)))))
+      → ((q : ℕ) (f : S.Vector) (e : ℕ)
+      → Agree Q s e (F q f b₀) (G (sliceOf g A q S.zero-vector S.zero-vector (own (flag t 8) (flag t 4) (o .y) (o .cb) (o .cr)))))
       → (a : ℕ) → Agree Q s a (their g t q f b₀ F) (onward (plain (O.head (g .given .type) t (sliceOf g A q f b₀ o))) G)
   unfolding O.head S.forVector S.backVector plain bind onward leave
   intra-head h h8 h4 k a =
@@ -124,11 +135,13 @@ module _ {C D : Type 0} {Q : C → D → Type 0} {s : List ℕ} (g : S.Coding) (
       let rest : Bool → Slice → Prog Slice = λ b z. cond b (done (O.still z)) (O.vectors (g .given .type) (dcReset z)) in
       a-same (sym (plain-bind-on (O.scale t x) (rest (flag t 1)) G s a)) (
       a-onward _ _ (scale-agrees t x a) (λ q z e w.
-      subst (λ (z : Slice). Agree Q s e (onward (S.forVector g t f) (λ f. onward (S.backVector g t b₀) (F q f))) (onward (plain (rest (flag t 1) z)) G)) (sym w) (
+      subst (λ (z : Slice). Agree Q s e (onward (S.forVector g t f) (λ f. onward (S.backVector g t b₀) (F q f))) (onward (plain (rest (flag t 1) z)) G))
+      (sym w) (
       a-same (ap (λ (b : Bool). run (onward (plain (rest b (scaleAs q x))) G) s e) (sym h)) (go q e (eqb (g .given .type) 2)))))
     where
       go : (q e : ℕ) (p : Bool) → Agree Q s e
-          (onward (cond (flag t 8) (S.vector (g .forward) f) (cond p (give S.zero-vector) (give f))) (λ f. onward (cond (flag t 4) (S.vector (g .backward) b₀) (give b₀)) (F q f)))
+          (onward (cond (flag t 8) (S.vector (g .forward) f) (cond p (give S.zero-vector) (give f)))
+          (λ f. onward (cond (flag t 4) (S.vector (g .backward) b₀) (give b₀)) (F q f)))
           (G (sliceOf g A q S.zero-vector S.zero-vector (own (flag t 8) (flag t 4) (o .y) (o .cb) (o .cr))))
       go q e true = rw (h8, h4) (rw (h8, h4) at (k q S.zero-vector e))
       go q e false = rw (h8, h4) (rw (h8, h4) at (k q f e))

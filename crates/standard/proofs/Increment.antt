@@ -22,7 +22,7 @@ use Rattle.picture.specs.Ways.{Way, on, leave, onward, plain, give}
 use Rattle.picture.specs.Increments as O
 use Rattle.standard.specs.Standard as S
 use Rattle.picture.proofs.Fuel.{increment-fuel}
-use Rattle.standard.proofs.Rules.{Meets, Agree, run-plain, a-by, a-same}
+use Rattle.standard.proofs.Agreement.{Meets, Agree, run-plain, a-by, a-same}
 
 mem-at : {A : Type 0} (d : A) (xs : List A) (k : ℕ) → k < length xs → List·Memᴰ (getD xs k d) xs
 mem-at d [] k h = let z : ⊥ = omega arith in absurd z
@@ -32,7 +32,8 @@ mem-at d (x ∷ xs) (suc k) h = List·Memᴰ·tail (mem-at d xs k (omega arith))
 -- ---- the two codes of 11 bits
 
 module _ (s : List ℕ) (a : ℕ) (h : has s a 11 ≡ true) where
-  eleven : (word value k : ℕ) → List·Memᴰ (code 11 word value) macroblockAddressIncrementCodes → got s a 11 ≡ word → run macroblockAddressIncrement s a ≡ record { value = value; at = a + 11 }
+  eleven : (word value k : ℕ) → List·Memᴰ (code 11 word value) macroblockAddressIncrementCodes → got s a 11 ≡ word → run macroblockAddressIncrement s a
+      ≡ record { value = value; at = a + 11 }
   unfolding macroblockAddressIncrement got
   eleven word value k m e =
       let r = agrees-macroblock-address-increment .reads (code 11 word value) m s a (rw h at e) in
@@ -72,14 +73,17 @@ module _ (s : List ℕ) where
   unfolding plain
   on-by n m x y a e h r =
       run-bind (loop n O.incrementTurn 0 x) _ s a
-      ∙ ap (λ (o : Out ℕ). run (done (on (o .value))) s (o .at)) (loop-suc n m O.incrementTurn 0 x s a h ∙ ap (λ (o : Out (Turn ℕ ℕ)). run (turn (loop m O.incrementTurn 0) (o .value)) s (o .at)) r)
+      ∙ ap (λ (o : Out ℕ). run (done (on (o .value))) s (o .at)) (loop-suc n m O.incrementTurn 0 x s a h
+      ∙ ap (λ (o : Out (Turn ℕ ℕ)). run (turn (loop m O.incrementTurn 0) (o .value)) s (o .at)) r)
       ∙ sym (run-bind (loop m O.incrementTurn 0 y) _ s e)
 
-  end-by : (n m x v a e : ℕ) → n ≡ suc m → run (O.incrementTurn x) s a ≡ record { value = stop v; at = e } → run (ours n x) s a ≡ record { value = on v; at = e }
+  end-by : (n m x v a e : ℕ) → n ≡ suc m → run (O.incrementTurn x) s a ≡ record { value = stop v; at = e } → run (ours n x) s a
+      ≡ record { value = on v; at = e }
   unfolding plain run
   end-by n m x v a e h r =
       run-bind (loop n O.incrementTurn 0 x) _ s a
-      ∙ ap (λ (o : Out ℕ). run (done (on (o .value))) s (o .at)) (loop-suc n m O.incrementTurn 0 x s a h ∙ ap (λ (o : Out (Turn ℕ ℕ)). run (turn (loop m O.incrementTurn 0) (o .value)) s (o .at)) r)
+      ∙ ap (λ (o : Out ℕ). run (done (on (o .value))) s (o .at)) (loop-suc n m O.incrementTurn 0 x s a h
+      ∙ ap (λ (o : Out (Turn ℕ ℕ)). run (turn (loop m O.incrementTurn 0) (o .value)) s (o .at)) r)
 
   module _ (word : ℕ) (f : ℕ → ℕ) where
     -- the standard's turn by what it looks at
@@ -109,7 +113,8 @@ module _ (s : List ℕ) where
   module _ {C : Type 0} {R : C → ℕ → Type 0} (word : ℕ) (f : ℕ → ℕ) (P : ℕ → Type 0) (kept : (x : ℕ) → P x → P (f x))
       (turns : (x a : ℕ) → P x → has s a 11 ≡ true → got s a 11 ≡ word → run (O.incrementTurn x) s a ≡ record { value = again (f x); at = a + 11 })
       (F : ℕ → Prog (Way C)) where
-    whiles : (n m x a : ℕ) → n ≤ m → P x → ((y e i : ℕ) → P y → m ≤ i + n → Agree R s e (F y) (ours i y)) → Agree R s a (onward (loop n (their word f) S.forbidden x) F) (ours m x)
+    whiles : (n m x a : ℕ) → n ≤ m → P x → ((y e i : ℕ) → P y → m ≤ i + n → Agree R s e (F y) (ours i y))
+        → Agree R s a (onward (loop n (their word f) S.forbidden x) F) (ours m x)
     unfolding loop onward leave bind run rest
     whiles zero m x a l p k = record { is = tt }
     whiles (suc n) m x a l p k = go (has s a 11) refl (eqb (got s a 11) word) refl (λ m y e l q k. whiles n m y e l q k)
@@ -118,10 +123,12 @@ module _ (s : List ℕ) where
         first = onward-bind (their word f x) (turn (loop n (their word f) S.forbidden)) F a
 
         go : (h : Bool) → has s a 11 ≡ h → (t : Bool) → eqb (got s a 11) word ≡ t
-            → ((m y e : ℕ) → n ≤ m → P y → ((y e i : ℕ) → P y → m ≤ i + n → Agree R s e (F y) (ours i y)) → Agree R s e (onward (loop n (their word f) S.forbidden y) F) (ours m y))
+            → ((m y e : ℕ) → n ≤ m → P y → ((y e i : ℕ) → P y → m ≤ i + n → Agree R s e (F y) (ours i y))
+            → Agree R s e (onward (loop n (their word f) S.forbidden y) F) (ours m y))
             → Agree R s a (onward (loop (suc n) (their word f) S.forbidden x) F) (ours m x)
         go true h true t more =
-            a-by _ _ (first ∙ ap (rest word f F n) (their-on word f x a h t)) (on-by m (m - 1) x (f x) a (a + 11) (omega arith) (turns x a p h (eqb-true _ _ t)))
+            a-by _ _ (first ∙ ap (rest word f F n) (their-on word f x a h t))
+            (on-by m (m - 1) x (f x) a (a + 11) (omega arith) (turns x a p h (eqb-true _ _ t)))
             (more (m - 1) (f x) (a + 11) (omega arith) (kept x p) (λ y e i q j. k y e i q (omega arith)) .is)
         go true h false t more = a-by _ _ (first ∙ ap (rest word f F n) (their-off word f x a h t)) refl (k x a m p (omega arith) .is)
         go false h t e more = a-by _ _ (first ∙ ap (rest word f F n) (their-none word f x a h)) refl tt
@@ -160,17 +167,21 @@ module _ (s : List ℕ) where
       a-by _ _ (run-plain macroblockAddressIncrement _ s a) refl (go (leb 1 c && leb c 33) refl)
     where
       go : (b : Bool) → (leb 1 (run macroblockAddressIncrement s a .value) && leb (run macroblockAddressIncrement s a .value) 33) ≡ b
-          → Meets Increment (ended x (run macroblockAddressIncrement s a .value) (run macroblockAddressIncrement s a .at) b .value) (ended x (run macroblockAddressIncrement s a .value) (run macroblockAddressIncrement s a .at) b .at) (run (ours s m x) s a .value) (run (ours s m x) s a .at)
+          → Meets Increment (ended x (run macroblockAddressIncrement s a .value) (run macroblockAddressIncrement s a .at) b .value)
+          (ended x (run macroblockAddressIncrement s a .value) (run macroblockAddressIncrement s a .at) b .at) (run (ours s m x) s a .value)
+          (run (ours s m x) s a .at)
       go true h =
           let c = run macroblockAddressIncrement s a .value in
-          rw (end-by s m (m - 1) x (x + c) a (run macroblockAddressIncrement s a .at) (omega arith) (stops x a h)) (refl, record { same = refl; some = omega (arith, small c h .2) })
+          rw (end-by s m (m - 1) x (x + c) a (run macroblockAddressIncrement s a .at) (omega arith) (stops x a h))
+          (refl, record { same = refl; some = omega (arith, small c h .2) })
       go false h = tt
 
   both-loops : (m a : ℕ) → 2 * many < m → Agree Increment s a S.increment (ours s m 0)
   unfolding S.increment S.while
   both-loops m a l =
       whiles s 15 (λ x. x) (λ x. x ≡ 0) (λ x z. z) (λ x a z h e. drops s a h x z e) _ many m 0 a (omega arith) refl (λ y e i z j.
-      rw z (whiles s 8 (λ x. x + 33) (λ x. Unit {0}) (λ x u. tt) (λ x a u h e. adds s a h x e) final many i 0 e (omega arith) tt (λ y e k u h. last-code k y e (omega arith))))
+      rw z (whiles s 8 (λ x. x + 33) (λ x. Unit {0}) (λ x u. tt) (λ x a u h e. adds s a h x e) final many i 0 e (omega arith) tt
+      (λ y e k u h. last-code k y e (omega arith))))
 
   plains : (p q : Prog ℕ) (a : ℕ) → run p s a ≡ run q s a → run (plain p) s a ≡ run (plain q) s a
   unfolding plain

@@ -1,4 +1,4 @@
-pub mod Rules
+pub mod Agreement
 pub mod Increment
 pub mod Related
 pub mod Heads

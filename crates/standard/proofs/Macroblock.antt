@@ -21,7 +21,7 @@ use Rattle.picture.specs.Predictions as P
 use Rattle.picture.specs.Blocks as O
 use Rattle.picture.specs.Macroblocks as M
 use Rattle.standard.specs.Standard as S
-use Rattle.standard.proofs.Rules.{Meets, Agree, a-give, a-step, a-plain, a-onward, a-shall, a-after}
+use Rattle.standard.proofs.Agreement.{Meets, Agree, a-give, a-step, a-plain, a-onward, a-shall, a-after}
 use Rattle.standard.proofs.Related.{In, Own, own, sliceOf, eights, pastStart, Related, Rule, coding}
 use Rattle.standard.proofs.Increment.{increment-agrees}
 use Rattle.standard.proofs.Heads.{zero-in, their, reset, inter-head, intra-head}
@@ -45,7 +45,8 @@ either false p q = q refl
 related : (g : S.Coding) (x : S.Variables) (w : World) (o : Own) (f b : S.Vector) → S.forStart g false x ≡ f → S.backStart g false x ≡ b
     → In (g .forward) f → In (g .backward) b → w ≡ world (sliceOf g (x .«previous_macroblock_address») (x .«quantizer_scale») f b o) (x .pels)
     → o .forSet ≡ flag (x .«macroblock_type») 8 → o .backSet ≡ flag (x .«macroblock_type») 4
-    → pastStart (x .«previous_macroblock_address» +ℤ pos 1) x ≡ eights o → leZ (x .«past_intra_address») (x .«previous_macroblock_address») ≡ true → Related g false x w
+    → pastStart (x .«previous_macroblock_address» +ℤ pos 1) x ≡ eights o → leZ (x .«past_intra_address») (x .«previous_macroblock_address») ≡ true
+    → Related g false x w
 related g x w o f b p q i j e s t d h =
     record {
       o = o;
@@ -92,11 +93,15 @@ module _ (rule : Rule) (g : Given) (df db : S.Direction) (s : List ℕ) (first :
 
   -- 2.4.4.1: behind an intra macroblock the pasts are kept for the next address
   intra-rest : (q : ℕ) (f b : S.Vector) (a : ℕ) (y cb cr : ℤ) → flag t 1 ≡ true → flag t 8 ≡ false → pastStart A x ≡ eights (own (flag t 8) (flag t 4) y cb cr)
-      → Agree (Related G false) s a (theirRest true false q f b) (oursRest true false (sliceOf G A q S.zero-vector S.zero-vector (own (flag t 8) (flag t 4) y cb cr)))
+      → Agree (Related G false) s a (theirRest true false q f b)
+      (oursRest true false (sliceOf G A q S.zero-vector S.zero-vector (own (flag t 8) (flag t 4) y cb cr)))
   unfolding onward leave bind plain O.blocks
   intra-rest q f b a y cb cr h1 h8 p =
-      a-after (after true q f b) (intra-blocks rule g df db A q S.zero-vector S.zero-vector s (S.far A x) (flag t 8) (flag t 4) 0 6 (omega arith) _ _ a (record { y = y; cb = cb; cr = cr; is = refl; past = left-six (S.far A x) (x .past) ∙ p })) (λ z w r.
-      related G (after true q f b z) w (own (flag t 8) (flag t 4) (r .y) (r .cb) (r .cr)) S.zero-vector S.zero-vector (for-0 (eqb (g .type) 2)) (rw h1 (back-0 (eqb (g .type) 3))) (zero-in df) (zero-in db) (r .is) refl refl
+      a-after (after true q f b)
+      (intra-blocks rule g df db A q S.zero-vector S.zero-vector s (S.far A x) (flag t 8) (flag t 4) 0 6 (omega arith) _ _ a
+      (record { y = y; cb = cb; cr = cr; is = refl; past = left-six (S.far A x) (x .past) ∙ p })) (λ z w r.
+      related G (after true q f b z) w (own (flag t 8) (flag t 4) (r .y) (r .cb) (r .cr)) S.zero-vector S.zero-vector (for-0 (eqb (g .type) 2))
+      (rw h1 (back-0 (eqb (g .type) 3))) (zero-in df) (zero-in db) (r .is) refl refl
       (rw (no-lt (lit 1) (v A ⊕ lit 1 ⊖ v A) (omega arith)) (r .past)) (yes-le (v A) (v A) (omega arith)))
     where
       for-0 : (p2 : Bool) → cond (cond p2 (not (flag t 8)) (flag t 1)) S.zero-vector f ≡ S.zero-vector
@@ -117,10 +122,13 @@ module _ (rule : Rule) (g : Given) (df db : S.Direction) (s : List ℕ) (first :
       subst (λ (p′ : List ℕ). Agree (Related G false) s e (afterPrediction p) (ourPattern p′)) same (
       a-onward _ _ (patterns (flag t 2) e) (λ cbp c e z.
       subst (λ (c : ℕ). Agree (Related G false) s e (theirBlocks p cbp) (O.lastBlocks g false c 6 (world (sliceOf G A q f b (reset t)) p))) z (
-      a-after (after false q f b) (inter-blocks rule g df db A q f b s (S.far A x) (reset t) (x .past) cbp 6 (omega arith) _ _ e (record { is = refl; past = refl })) (λ z w r.
+      a-after (after false q f b)
+      (inter-blocks rule g df db A q f b s (S.far A x) (reset t) (x .past) cbp 6 (omega arith) _ _ e (record { is = refl; past = refl })) (λ z w r.
       related G (after false q f b z) w (reset t) f b (for-is (eqb (g .type) 2) kf (flag t 8) refl) (back-is (eqb (g .type) 3) refl) i j (r .is) refl refl
-      (rw (yes-lt (lit 1) (v (x .«previous_macroblock_address») ⊕ lit n ⊕ lit 1 ⊖ v (x .«past_intra_address»)) (omega (arith, le-yes (v (x .«past_intra_address»)) (v (x .«previous_macroblock_address»)) order))) refl)
-      (yes-le (v (x .«past_intra_address»)) (v (x .«previous_macroblock_address») ⊕ lit n) (omega (arith, le-yes (v (x .«past_intra_address»)) (v (x .«previous_macroblock_address»)) order))))))))
+      (rw (yes-lt (lit 1) (v (x .«previous_macroblock_address») ⊕ lit n ⊕ lit 1 ⊖ v (x .«past_intra_address»))
+      (omega (arith, le-yes (v (x .«past_intra_address»)) (v (x .«previous_macroblock_address»)) order))) refl)
+      (yes-le (v (x .«past_intra_address»)) (v (x .«previous_macroblock_address») ⊕ lit n)
+      (omega (arith, le-yes (v (x .«past_intra_address»)) (v (x .«previous_macroblock_address»)) order))))))))
     where
       theirBlocks : List ℕ → ℕ → Prog (Way S.Variables)
       theirBlocks p cbp = onward (S.blocks G false (S.far A x) cbp q (natAbs A) 6 (record { past = x .past; pels = p })) (λ b′. give (after false q f b b′))
@@ -135,7 +143,8 @@ module _ (rule : Rule) (g : Given) (df db : S.Direction) (s : List ℕ) (first :
       patterns true e = a-same-both _ e
       patterns false e = a-give refl
 
-      for-is : (p2 : Bool) → (flag t 8 ≡ false → p2 ≡ true → f ≡ S.zero-vector) → (h8 : Bool) → flag t 8 ≡ h8 → cond (cond p2 (not (flag t 8)) (flag t 1)) S.zero-vector f ≡ f
+      for-is : (p2 : Bool) → (flag t 8 ≡ false → p2 ≡ true → f ≡ S.zero-vector) → (h8 : Bool) → flag t 8 ≡ h8
+          → cond (cond p2 (not (flag t 8)) (flag t 1)) S.zero-vector f ≡ f
       for-is true k true e = rw e
       for-is true k false e = rw e (sym (k e refl))
       for-is false k h8 e = rw h1
@@ -154,7 +163,8 @@ module _ (rule : Rule) (g : Given) (df db : S.Direction) (s : List ℕ) where
   start-0 true x e = refl
   start-0 false x e = rw e
 
-  coded-agrees : (first : Bool) (n : ℕ) (x : S.Variables) (l : List ℕ) (w : World) (a : ℕ) → Ready C first n x l w → Agree (Related C false) s a (S.coded C first n x l) (M.body g w)
+  coded-agrees : (first : Bool) (n : ℕ) (x : S.Variables) (l : List ℕ) (w : World) (a : ℕ) → Ready C first n x l w
+      → Agree (Related C false) s a (S.coded C first n x l) (M.body g w)
   unfolding S.coded M.body M.predictUnlessIntra H.pattern
   coded-agrees first n x l w a r =
       let p = macroblockType (g .type) in
@@ -166,17 +176,24 @@ module _ (rule : Rule) (g : Given) (df db : S.Direction) (s : List ℕ) where
       let o = r .o in
       let F : ℕ → S.Vector → S.Vector → Prog (Way S.Variables) = theirRest rule g df db s first n x l t (flag t 1) (flag t 2) in
       let K : Slice → Prog (Way World) = oursRest rule g df db s first n x l t (flag t 1) (flag t 2) in
-      let intra : S.inTable (g .type) t ≡ true → flag t 1 ≡ true → Agree (Related C false) s e (their C t (x .«quantizer_scale») f b F) (onward (plain (H.head (g .type) t (sliceOf C A (x .«quantizer_scale») f b o))) K) = λ tab h.
+      let intra : S.inTable (g .type) t ≡ true → flag t 1 ≡ true
+      → Agree (Related C false) s e (their C t (x .«quantizer_scale») f b F)
+      (onward (plain (H.head (g .type) t (sliceOf C A (x .«quantizer_scale») f b o))) K) = λ tab h.
       let q = intra-alone (g .type) t tab h in
       intra-head C A (x .«quantizer_scale») f b o t (r .for) (r .back) F K h (q .0) (q .1) (λ q′ f′ e.
       let y = sliceOf C A q′ S.zero-vector S.zero-vector (own (flag t 8) (flag t 4) (o .y) (o .cb) (o .cr)) in
-      subst (λ (z : Bool). Agree (Related C false) s e (theirRest rule g df db s first n x l t z (flag t 2) q′ f′ b) (oursRest rule g df db s first n x l t z (flag t 2) y)) (sym h) (
-      subst (λ (z : Bool). Agree (Related C false) s e (theirRest rule g df db s first n x l t true z q′ f′ b) (oursRest rule g df db s first n x l t true z y)) (sym (q .2)) (
+      subst (λ (z : Bool). Agree (Related C false) s e (theirRest rule g df db s first n x l t z (flag t 2) q′ f′ b)
+      (oursRest rule g df db s first n x l t z (flag t 2) y)) (sym h) (
+      subst (λ (z : Bool). Agree (Related C false) s e (theirRest rule g df db s first n x l t true z q′ f′ b)
+      (oursRest rule g df db s first n x l t true z y)) (sym (q .2)) (
       intra-rest rule g df db s first n x l t q′ f′ b e (o .y) (o .cb) (o .cr) h (q .0) (r .past)))) e in
-      let inter : S.inTable (g .type) t ≡ true → flag t 1 ≡ false → Agree (Related C false) s e (their C t (x .«quantizer_scale») f b F) (onward (plain (H.head (g .type) t (sliceOf C A (x .«quantizer_scale») f b o))) K) = λ tab h.
+      let inter : S.inTable (g .type) t ≡ true → flag t 1 ≡ false
+      → Agree (Related C false) s e (their C t (x .«quantizer_scale») f b F)
+      (onward (plain (H.head (g .type) t (sliceOf C A (x .«quantizer_scale») f b o))) K) = λ tab h.
       inter-head C A (x .«quantizer_scale») f b o t (r .for) (r .back) F K h (λ q′ f′ b′ e i j kf kb.
       let y = sliceOf C A q′ f′ b′ (reset t) in
-      subst (λ (z : Bool). Agree (Related C false) s e (theirRest rule g df db s first n x l t z (flag t 2) q′ f′ b′) (oursRest rule g df db s first n x l t z (flag t 2) y)) (sym h) (
+      subst (λ (z : Bool). Agree (Related C false) s e (theirRest rule g df db s first n x l t z (flag t 2) q′ f′ b′)
+      (oursRest rule g df db s first n x l t z (flag t 2) y)) (sym h) (
       inter-rest rule g df db s first n x l t q′ f′ b′ e h i j kf (λ z. kb (no-backward (g .type) t tab z) ∙ start-0 first x z) (r .order) (r .some))) e in
       subst (λ (w : World). Agree (Related C false) s a (S.coded C first n x l) (M.body g w)) (sym (r .is)) (
       a-plain p p _ _ refl (a-shall _ _ (λ tab. either (flag t 1) (intra tab) (inter tab))))
@@ -200,8 +217,11 @@ module _ (rule : Rule) (g : Given) (df db : S.Direction) (s : List ℕ) where
       → Agree (Related C false) s e (onward (step (S.skipped C true n x)) (S.coded C true n (S.typed (S.lastType C true n x) x))) (M.firstOf g n w)
   unfolding S.skipped onward leave bind M.firstOf
   begins x w r n some e h =
-      let low : ltZ (w .slice .«macroblock_address» +ℤ pos n) (pos 0) ≡ false = ap (λ (z : ℤ). ltZ (z +ℤ pos n) (pos 0)) (address-is true x w r) ∙ not-below (x .«previous_macroblock_address» +ℤ pos n) h in
-      let high : leZ (pos (g .sizes .«mb_size»)) (w .slice .«macroblock_address» +ℤ pos n) ≡ false = ap (λ (z : ℤ). leZ (pos (g .sizes .«mb_size»)) (z +ℤ pos n)) (address-is true x w r) ∙ not-above (x .«previous_macroblock_address» +ℤ pos n) h in
+      let low : ltZ (w .slice .«macroblock_address» +ℤ pos n) (pos 0) ≡ false = ap (λ (z : ℤ). ltZ (z +ℤ pos n) (pos 0)) (address-is true x w r)
+      ∙ not-below (x .«previous_macroblock_address» +ℤ pos n) h in
+      let high : leZ (pos (g .sizes .«mb_size»)) (w .slice .«macroblock_address» +ℤ pos n)
+      ≡ false = ap (λ (z : ℤ). leZ (pos (g .sizes .«mb_size»)) (z +ℤ pos n)) (address-is true x w r)
+      ∙ not-above (x .«previous_macroblock_address» +ℤ pos n) h in
       rw (low, high)
       (coded-agrees true n (S.typed (S.lastType C true n x) x) (x .pels) (M.further n w) e (first-ready C x w n some r))
 
@@ -209,7 +229,9 @@ module _ (rule : Rule) (g : Given) (df db : S.Direction) (s : List ℕ) where
       → Agree (Related C false) s e (onward (step (S.skipped C false n x)) (S.coded C false n (S.typed (S.lastType C false n x) x))) (M.laterOf g n w)
   unfolding M.laterOf
   goes-on x w r n some e h =
-      let high : leZ (pos (g .sizes .«mb_size»)) (w .slice .«macroblock_address» +ℤ pos n) ≡ false = ap (λ (z : ℤ). leZ (pos (g .sizes .«mb_size»)) (z +ℤ pos n)) (address-is false x w r) ∙ not-above (x .«previous_macroblock_address» +ℤ pos n) h in
+      let high : leZ (pos (g .sizes .«mb_size»)) (w .slice .«macroblock_address» +ℤ pos n)
+      ≡ false = ap (λ (z : ℤ). leZ (pos (g .sizes .«mb_size»)) (z +ℤ pos n)) (address-is false x w r)
+      ∙ not-above (x .«previous_macroblock_address» +ℤ pos n) h in
       rw high
       (a-onward _ _ (a-step _ _ (later-ready C x w n some r)) (λ l y e k. coded-agrees false n (S.typed (S.lastType C false n x) x) l y e k))
 
@@ -224,11 +246,13 @@ module _ (rule : Rule) (g : Given) (df db : S.Direction) (s : List ℕ) where
     where
       counted : Bool → S.Variables → ℕ → Prog (Way S.Variables)
       counted first x n =
-          onward (S.shall (leZ (pos 0) (x .«previous_macroblock_address» +ℤ pos n) && ltZ (x .«previous_macroblock_address» +ℤ pos n) (pos (g .sizes .«mb_size»)))) (λ z.
+          onward (S.shall (leZ (pos 0) (x .«previous_macroblock_address» +ℤ pos n) && ltZ (x .«previous_macroblock_address» +ℤ pos n)
+          (pos (g .sizes .«mb_size»)))) (λ z.
           onward (step (S.skipped C first n x)) (S.coded C first n (S.typed (S.lastType C first n x) x)))
 
       go : (first : Bool) (x : S.Variables) (w : World) → Related C first x w → (n : ℕ) → 1 ≤ n → (e : ℕ)
           → (leZ (pos 0) (x .«previous_macroblock_address» +ℤ pos n) && ltZ (x .«previous_macroblock_address» +ℤ pos n) (pos (g .sizes .«mb_size»))) ≡ true
-          → Agree (Related C false) s e (onward (step (S.skipped C first n x)) (S.coded C first n (S.typed (S.lastType C first n x) x))) (cond first (M.firstOf g n w) (M.laterOf g n w))
+          → Agree (Related C false) s e (onward (step (S.skipped C first n x)) (S.coded C first n (S.typed (S.lastType C first n x) x)))
+          (cond first (M.firstOf g n w) (M.laterOf g n w))
       go true x w r n some e h = begins x w r n some e h
       go false x w r n some e h = goes-on x w r n some e h

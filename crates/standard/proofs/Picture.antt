@@ -1,6 +1,6 @@
 -- 2.4.2.5: the slices of a picture. Assumes a stream that question 1 admits.
 use mathlib.Core.Path.{_≡_, refl, sym, ap, _∙_, subst}
-use mathlib.Core.Bool.{Bool, true, false, cond, not, _&&_, _||_, false≢true}
+use mathlib.Core.Bool.{Bool, true, false, cond, not, _&&_, _||_, true≢false, false≢true}
 use mathlib.Core.List.{List}
 use Prim.Native.Nat.{ℕ, _-_, _≤_}
 use native.Mathlib.Omega.{arith}
@@ -24,7 +24,7 @@ use Rattle.picture.specs.Ways.{Way, on, out, leave, onward, plain, give}
 use Rattle.picture.specs.Slices as O
 use Rattle.picture.specs.Pictures as P
 use Rattle.standard.specs.Standard as S
-use Rattle.standard.proofs.Rules.{Meets, TurnMeets, Agree, run-plain, a-same, a-give, a-onward, a-shall, a-after, a-loop, plain-bind}
+use Rattle.standard.proofs.Agreement.{Meets, TurnMeets, Agree, run-plain, a-same, a-give, a-onward, a-shall, a-after, a-loop, plain-bind, left-forbidden}
 use Rattle.standard.proofs.Related.{motionOf, Related, Rule, coding}
 use Rattle.standard.proofs.Slice.{Begun, slice-agrees}
 
@@ -59,7 +59,8 @@ module _ (rule : Rule) (g : Given) (df db : S.Direction) (s : List ℕ) (long : 
   abbrev Turns : Out (Turn S.Slices (Way (List ℕ))) → Out (Turn P.Slices (Way P.Frame)) → Type 0
   Turns o u = TurnMeets Kept Shown (o .value) (o .at) (u .value) (u .at)
 
-  past-meets : (p : Picture) → p .«picture_type» ≡ ty → p .stores ≡ st → (x : S.Variables) (w : World) (e : ℕ) → Related C false x w → Turns (run (S.pastSlice C (on x)) s e) (run (P.pastSlice g p (on w)) s e)
+  past-meets : (p : Picture) → p .«picture_type» ≡ ty → p .stores ≡ st → (x : S.Variables) (w : World) (e : ℕ) → Related C false x w
+      → Turns (run (S.pastSlice C (on x)) s e) (run (P.pastSlice g p (on w)) s e)
   unfolding S.pastSlice P.pastSlice run
   past-meets p pt ps x w e r = go (ltZ (prev +ℤ pos 1) (pos n)) refl (leZ (pos n) (w .slice .«macroblock_address» +ℤ pos 1)) refl
     where
@@ -77,7 +78,8 @@ module _ (rule : Rule) (g : Given) (df db : S.Direction) (s : List ℕ) (long : 
 
       go : (more : Bool) → ltZ (prev +ℤ pos 1) (pos n) ≡ more → (last : Bool) → leZ (pos n) (w .slice .«macroblock_address» +ℤ pos 1) ≡ last
           → Turns (run (cond more (done (again (record { begun = true; pels = x .pels }))) (done (stop (on (x .pels))))) s e)
-          (run (cond last (done (stop (on (P.frame (sliceAs (w .slice) p) (w .store))))) (done (again (P.slicesOf true (P.frame (sliceAs (w .slice) p) (w .store)))))) s e)
+          (run (cond last (done (stop (on (P.frame (sliceAs (w .slice) p) (w .store)))))
+          (done (again (P.slicesOf true (P.frame (sliceAs (w .slice) p) (w .store)))))) s e)
       go true h false k = (refl, record { same = refl; shown = shown })
       go false h true k = (refl, shown)
       go true h true k =
@@ -99,12 +101,16 @@ module _ (rule : Rule) (g : Given) (df db : S.Direction) (s : List ℕ) (long : 
   slice-meets : (c : ℤ) (l : List ℕ) (p : Picture) → p .«picture_type» ≡ ty → p .stores ≡ st → (k : List ℕ) (e : ℕ) → k ≡ l → Begun df db (p .slice)
       → Turns (run (bind (S.slice C (natAbs c) l) (S.pastSlice C)) s e) (run (bind (O.slice g (natAbs c) (world (p .slice) k)) (P.pastSlice g p)) s e)
   slice-meets c l p pt ps k e same b =
-      subst (λ (l : List ℕ). Turns (run (bind (S.slice C (natAbs c) l) (S.pastSlice C)) s e) (run (bind (O.slice g (natAbs c) (world (p .slice) k)) (P.pastSlice g p)) s e)) same
+      subst (λ (l : List ℕ). Turns (run (bind (S.slice C (natAbs c) l) (S.pastSlice C)) s e)
+      (run (bind (O.slice g (natAbs c) (world (p .slice) k)) (P.pastSlice g p)) s e)) same
       (rw (run-bind (S.slice C (natAbs c) k) (S.pastSlice C) s e, run-bind (O.slice g (natAbs c) (world (p .slice) k)) (P.pastSlice g p) s e)
-      (go (run (S.slice C (natAbs c) k) s e .value) (run (S.slice C (natAbs c) k) s e .at) _ _ (slice-agrees rule g df db s long (natAbs c) (world (p .slice) k) e b .is)))
+      (go (run (S.slice C (natAbs c) k) s e .value) (run (S.slice C (natAbs c) k) s e .at) _ _
+      (slice-agrees rule g df db s long (natAbs c) (world (p .slice) k) e b .is)))
     where
-      go : (x : Way S.Variables) (e : ℕ) (y : Way World) (j : ℕ) → Meets (Related C false) x e y j → Turns (run (S.pastSlice C x) s e) (run (P.pastSlice g p y) s j)
-      go (on x) e (on y) j m = subst (λ (j : ℕ). Turns (run (S.pastSlice C (on x)) s e) (run (P.pastSlice g p (on y)) s j)) (m .0) (past-meets p pt ps x y e (m .1))
+      go : (x : Way S.Variables) (e : ℕ) (y : Way World) (j : ℕ) → Meets (Related C false) x e y j
+          → Turns (run (S.pastSlice C x) s e) (run (P.pastSlice g p y) s j)
+      go (on x) e (on y) j m = subst (λ (j : ℕ). Turns (run (S.pastSlice C (on x)) s e) (run (P.pastSlice g p (on y)) s j)) (m .0)
+          (past-meets p pt ps x y e (m .1))
       go (on x) e (out n l) j m = absurd m
       go (out n l) e y j m = left n l e _
 
@@ -121,20 +127,25 @@ module _ (rule : Rule) (g : Given) (df db : S.Direction) (s : List ℕ) (long : 
       p : Picture
       p = startCodeAs c (y .frame .picture)
 
-      go : (t u yb xb : Bool) → yb ≡ xb → Turns (run (cond t (bind (S.slice C (natAbs c) (x .pels)) (S.pastSlice C)) (cond (u && not xb) (done (again (record { begun = false; pels = x .pels }))) (done (stop S.forbidden)))) s e)
+      go : (t u yb xb : Bool) → yb ≡ xb
+          → Turns (run (cond t (bind (S.slice C (natAbs c) (x .pels)) (S.pastSlice C))
+          (cond (u && not xb) (done (again (record { begun = false; pels = x .pels }))) (done (stop S.forbidden)))) s e)
           (run (cond t (bind (O.slice g (natAbs c) (world (p .slice) (y .frame .store))) (P.pastSlice g p))
           (cond (u && not yb) (done (again (P.slicesOf false (P.frame p (y .frame .store))))) (done (stop (on (P.frame p (y .frame .store))))))) s e)
       go true u yb xb q = slice-meets c (x .pels) p (i .shown .type) (i .shown .stores) (y .frame .store) e (i .shown .pels) (i .shown .begun)
       go false false yb xb q = tt
-      go false true false false q = (refl, record { same = refl; shown = record { pels = i .shown .pels; begun = i .shown .begun; type = i .shown .type; stores = i .shown .stores } })
+      go false true false false q =
+          (refl, record { same = refl; shown = record { pels = i .shown .pels; begun = i .shown .begun; type = i .shown .type; stores = i .shown .stores } })
       go false true false true q = tt
       go false true true false q = absurd (false≢true (sym q))
       go false true true true q = tt
 
   -- 2.4.2.5: the standard's slices of a picture and ours: the same store, at the same place
-  pub slices-agree : (f : P.Frame) (a : ℕ) → Begun df db (f .picture .slice) → f .picture .«picture_type» ≡ ty → f .picture .stores ≡ st → Agree Shown s a (S.slices C (f .store)) (P.slices g f)
+  pub slices-agree : (f : P.Frame) (a : ℕ) → Begun df db (f .picture .slice) → f .picture .«picture_type» ≡ ty → f .picture .stores ≡ st
+      → Agree Shown s a (S.slices C (f .store)) (P.slices g f)
   unfolding S.slices P.slices
-  slices-agree f a b pt ps = a-loop Kept Shown s (S.slicesTurn C) (P.slicesTurn g) (on f) turn-meets many _ (P.slicesOf false f) a (record { same = refl; shown = record { pels = refl; begun = b; type = pt; stores = ps } })
+  slices-agree f a b pt ps = a-loop Kept Shown s (S.slicesTurn C) (P.slicesTurn g) (on f) turn-meets many _ (P.slicesOf false f) a
+      (record { same = refl; shown = record { pels = refl; begun = b; type = pt; stores = ps } })
 
 -- ---- the header
 
@@ -143,7 +154,8 @@ module _ (s : List ℕ) where
   unfolding S.field plain bind run
   field-bits n a = record { is = go (has s a n) }
     where
-      go : (h : Bool) → Meets _≡_ (run (cond h (skip n (give (got s a n))) (done S.forbidden)) s a .value) (run (cond h (skip n (give (got s a n))) (done S.forbidden)) s a .at) (on (got s a n)) (next s a n)
+      go : (h : Bool) → Meets _≡_ (run (cond h (skip n (give (got s a n))) (done S.forbidden)) s a .value)
+          (run (cond h (skip n (give (got s a n))) (done S.forbidden)) s a .at) (on (got s a n)) (next s a n)
       go true = (refl, refl)
       go false = tt
 
@@ -151,12 +163,14 @@ module _ (s : List ℕ) where
   unfolding S.field plain bind run
   field-skips n a = record { is = go (has s a n) }
     where
-      go : (h : Bool) → Meets (λ (v : ℕ) (u : Unit {0}). Unit {0}) (run (cond h (skip n (give (got s a n))) (done S.forbidden)) s a .value) (run (cond h (skip n (give (got s a n))) (done S.forbidden)) s a .at) (on tt) (next s a n)
+      go : (h : Bool) → Meets (λ (v : ℕ) (u : Unit {0}). Unit {0}) (run (cond h (skip n (give (got s a n))) (done S.forbidden)) s a .value)
+          (run (cond h (skip n (give (got s a n))) (done S.forbidden)) s a .at) (on tt) (next s a n)
       go true = (refl, tt)
       go false = tt
 
   -- a look ahead of the standard's
-  nextbits-their : {C D : Type 0} {Q : C → D → Type 0} (n a : ℕ) (f : ℕ → Prog (Way C)) {q : Prog (Way D)} → ((x : ℕ) → Agree Q s a (f x) q) → Agree Q s a (onward (S.nextbits n) f) q
+  nextbits-their : {C D : Type 0} {Q : C → D → Type 0} (n a : ℕ) (f : ℕ → Prog (Way C)) {q : Prog (Way D)} → ((x : ℕ) → Agree Q s a (f x) q)
+      → Agree Q s a (onward (S.nextbits n) f) q
   unfolding onward leave bind run
   nextbits-their {C} {D} {Q} n a f {q} k = record { is = go (has s a n) }
     where
@@ -220,13 +234,15 @@ module _ (s : List ℕ) where
     ends type f b = onward (S.nextbits 1) (λ x. onward (S.shall (eqb x 0)) (λ z. give (found-header type f b)))
 
     ends-agree : (type : ℕ) (f b : S.Direction) (x : P.Headed) (e : ℕ) → Headed p (found-header type f b) x → Agree (Headed p) s e (ends type f b) (give x)
-    ends-agree type f b x e r = nextbits-their 1 e (λ y. onward (S.shall (eqb y 0)) (λ z. give (found-header type f b))) (λ y. a-shall (eqb y 0) (λ z. give (found-header type f b)) (λ z. a-give r))
+    ends-agree type f b x e r = nextbits-their 1 e (λ y. onward (S.shall (eqb y 0)) (λ z. give (found-header type f b)))
+        (λ y. a-shall (eqb y 0) (λ z. give (found-header type f b)) (λ z. a-give r))
 
     abbrev directions : ℕ → Prog (Way S.Header)
     directions type = onward (cond (eqb type 1) (give df) S.direction) (λ f. onward (cond (eqb type 3) S.direction (give db)) (ends type f))
 
     abbrev ours : ℕ → Prog P.Headed
-    ours type = cond (eqb type 0 || ltb 3 type) (done (P.headed (typeAs type p) false)) (cond (eqb type 1) (done (P.headed (typeAs type p) true)) (P.forwardHeader (typeAs type p)))
+    ours type = cond (eqb type 0 || ltb 3 type) (done (P.headed (typeAs type p) false))
+        (cond (eqb type 1) (done (P.headed (typeAs type p) true)) (P.forwardHeader (typeAs type p)))
 
     i-header : (e : ℕ) → Agree (Headed p) s e (directions 1) (plain (ours 1))
     unfolding onward leave bind plain
@@ -237,14 +253,24 @@ module _ (s : List ℕ) where
     p-header e =
         let m = p .slice .«motion_forward» in
         let x = typeAs 2 p in
-        let K : Bool → P.Direction → Prog P.Headed = λ t y. cond (t && false) (P.backwardHeader (P.forwardAs (y .motion) x)) (done (P.headed (P.forwardAs (y .motion) x) (y .decoded))) in
+        let K : Bool → P.Direction
+        → Prog P.Headed = λ t y. cond (t && false) (P.backwardHeader (P.forwardAs (y .motion) x))
+        (done (P.headed (P.forwardAs (y .motion) x) (y .decoded))) in
         a-same (sym (plain-bind (P.direction m) (λ y. K (y .decoded) y) s e)) (a-onward _ _ (direction-agrees m e) (λ f y e d.
         a-same (ap (λ (t : Bool). run (plain (K t y)) s e) (sym (d .decoded))) (
         ends-agree 2 f db (P.headed (P.forwardAs (y .motion) x) (y .decoded)) e (record {
           decoded = d .decoded;
           type = refl;
           stores = refl;
-          begun = record { forSet = m .«is_set»; backSet = b .backSet; for = record { right = m .h; down = m .v }; back = b .back; forward = d .motion; backward = b .backward; left = b .left };
+          begun = record {
+            forSet = m .«is_set»;
+            backSet = b .backSet;
+            for = record { right = m .h; down = m .v };
+            back = b .back;
+            forward = d .motion;
+            backward = b .backward;
+            left = b .left;
+          };
         }))))
 
     b-header : (e : ℕ) → Agree (Headed p) s e (directions 3) (plain (ours 3))
@@ -253,10 +279,13 @@ module _ (s : List ℕ) where
         let m = p .slice .«motion_forward» in
         let n = p .slice .«motion_backward» in
         let x = typeAs 3 p in
-        let K : Bool → P.Direction → Prog P.Headed = λ t y. cond (t && true) (P.backwardHeader (P.forwardAs (y .motion) x)) (done (P.headed (P.forwardAs (y .motion) x) (y .decoded))) in
+        let K : Bool → P.Direction
+        → Prog P.Headed = λ t y. cond (t && true) (P.backwardHeader (P.forwardAs (y .motion) x))
+        (done (P.headed (P.forwardAs (y .motion) x) (y .decoded))) in
         a-same (sym (plain-bind (P.direction m) (λ y. K (y .decoded) y) s e)) (a-onward _ _ (direction-agrees m e) (λ f y e d.
         a-same (ap (λ (t : Bool). run (plain (K t y)) s e) (sym (d .decoded))) (
-        a-same (sym (plain-bind (P.direction n) (λ z. done (P.headed (P.backwardAs (z .motion) (P.forwardAs (y .motion) x)) (z .decoded))) s e)) (a-onward _ _ (direction-agrees n e) (λ k z e c.
+        a-same (sym (plain-bind (P.direction n) (λ z. done (P.headed (P.backwardAs (z .motion) (P.forwardAs (y .motion) x)) (z .decoded))) s e))
+        (a-onward _ _ (direction-agrees n e) (λ k z e c.
         ends-agree 3 f k (P.headed (P.backwardAs (z .motion) (P.forwardAs (y .motion) x)) (z .decoded)) e (record {
           decoded = c .decoded;
           type = refl;
@@ -310,7 +339,8 @@ module _ (rule : Rule) (s : List ℕ) (long : length s ≤ 16777216) (z : Sizes)
       give (record { header = record { «picture_coding_type» = type; forward = f; backward = b }; stores = after; pels = x }))
 
   coded-agrees : (f b : S.Direction) (q : Picture) (e : ℕ) → Begun f b (q .slice)
-      → Agree Result s e (theirs f b (q .«picture_type») (S.references (q .«picture_type») (q .stores)) (S.turned (q .«picture_type») (q .stores))) (P.coded z m q l)
+      → Agree Result s e (theirs f b (q .«picture_type») (S.references (q .«picture_type») (q .stores)) (S.turned (q .«picture_type») (q .stores)))
+      (P.coded z m q l)
   unfolding P.coded
   coded-agrees f b q e begun = go (eqb (q .«picture_type») 3)
     where
@@ -321,7 +351,8 @@ module _ (rule : Rule) (s : List ℕ) (long : length s ≤ 16777216) (z : Sizes)
       q′ = storesAs (P.before t) q
 
       go : (x : Bool) → Agree Result s e (theirs f b (q .«picture_type») (cond x t (P.before t)) (cond x t (P.after t)))
-          (cond x (P.slices (P.given z m q) (P.frame q l)) (onward (P.slices (P.given z m q′) (P.frame q′ l)) (λ f. give (P.frame (storesAs (P.after t) (f .picture)) (f .store)))))
+          (cond x (P.slices (P.given z m q) (P.frame q l))
+          (onward (P.slices (P.given z m q′) (P.frame q′ l)) (λ f. give (P.frame (storesAs (P.after t) (f .picture)) (f .store)))))
       go true =
           a-after _ (slices-agree rule (P.given z m q) f b s long (q .«picture_type») t (P.frame q l) e begun refl refl)
           (λ y k r. record { pels = r .pels; stores = r .stores; type = r .type; begun = r .begun })
@@ -330,7 +361,8 @@ module _ (rule : Rule) (s : List ℕ) (long : length s ≤ 16777216) (z : Sizes)
           (λ y k e r. a-give (record { pels = r .pels; stores = refl; type = r .type; begun = r .begun }))
 
   -- 2.4.2.5, 2.4.4: the standard's picture() and ours
-  pub picture-agrees : (p : Picture) (df db : S.Direction) (a : ℕ) → Begun df db (p .slice) → Agree Result s a (S.picture (rule .rules) z m (p .stores) df db l) (P.picture z m p l)
+  pub picture-agrees : (p : Picture) (df db : S.Direction) (a : ℕ) → Begun df db (p .slice)
+      → Agree Result s a (S.picture (rule .rules) z m (p .stores) df db l) (P.picture z m p l)
   unfolding S.picture P.picture
   picture-agrees p df db a b =
       let K : Bool → P.Headed → Prog (Way P.Frame) = λ t h. cond t (P.coded z m (h .picture) l) (give (P.frame (h .picture) l)) in
@@ -338,6 +370,15 @@ module _ (rule : Rule) (s : List ℕ) (long : length s ≤ 16777216) (z : Sizes)
       a-same (run-plain (P.pictureHeader p) K′ s a ∙ sym (run-bind (P.pictureHeader p) K′ s a)) (
       a-onward _ _ (header-agrees s p df db b a) (λ h x e r.
       a-same (ap (λ (t : Bool). run (K t x) s e) (sym (r .decoded))) (
-      subst (λ (type : ℕ). Agree Result s e (theirs (h .forward) (h .backward) type (S.references type (p .stores)) (S.turned type (p .stores))) (P.coded z m (x .picture) l)) (r .type) (
-      subst (λ (t : Stores). Agree Result s e (theirs (h .forward) (h .backward) (x .picture .«picture_type») (S.references (x .picture .«picture_type») t) (S.turned (x .picture .«picture_type») t)) (P.coded z m (x .picture) l)) (r .stores) (
+      subst (λ (type : ℕ). Agree Result s e (theirs (h .forward) (h .backward) type (S.references type (p .stores)) (S.turned type (p .stores)))
+      (P.coded z m (x .picture) l)) (r .type) (
+      subst (λ (t : Stores). Agree Result s e
+      (theirs (h .forward) (h .backward) (x .picture .«picture_type») (S.references (x .picture .«picture_type») t)
+      (S.turned (x .picture .«picture_type») t)) (P.coded z m (x .picture) l)) (r .stores) (
       coded-agrees (h .forward) (h .backward) (x .picture) e (r .begun))))))
+
+  -- so a picture that conforms never ends with 8 or 9 (RULES Q8, Q9)
+  pub never-leaves : (p : Picture) (df db : S.Direction) (a : ℕ) → Begun df db (p .slice)
+      → S.conforms (run (S.picture (rule .rules) z m (p .stores) df db l) s a .value) ≡ true
+      → (n : ℕ) (k : List ℕ) → run (P.picture z m p l) s a .value ≡ out n k → ⊥
+  never-leaves p df db a b c n k e = absurd (true≢false (sym c ∙ left-forbidden (picture-agrees p df db a b) n k e))

@@ -29,7 +29,7 @@ use Rattle.prediction.proofs.Standard as L
 use Rattle.picture.specs.Ways.{Way, on, out, also}
 use Rattle.picture.specs.Predictions as P
 use Rattle.standard.specs.Standard as S
-use Rattle.standard.proofs.Rules.{WayMeets}
+use Rattle.standard.proofs.Agreement.{WayMeets}
 use Rattle.standard.proofs.Related.{motionOf}
 
 pub also-meets : {A B C D : Type 0} {R : A → B → Type 0} (Q : C → D → Type 0) (w : Way A) (u : Way B) (f : A → Way C) (k : B → Way D) → WayMeets R w u
@@ -44,7 +44,8 @@ refused-next : (o : After) (f : List ℕ → After) → P.unlessRefused (next o 
 unfolding P.unlessRefused next also
 refused-next o f = go (o .answer) (o .store)
   where
-    go : (a : Predicted) (l : List ℕ) → P.unlessRefused (next (record { store = l; answer = a }) f) ≡ also (P.unlessRefused (record { store = l; answer = a })) (λ l. P.unlessRefused (f l))
+    go : (a : Predicted) (l : List ℕ) → P.unlessRefused (next (record { store = l; answer = a }) f)
+        ≡ also (P.unlessRefused (record { store = l; answer = a })) (λ l. P.unlessRefused (f l))
     go Done l = refl
     go Refused l = refl
 
@@ -67,7 +68,8 @@ rest g m k average right down l =
 
 -- the block at p, referring to samples inside
 module _ (p : Place) (size : (p .size ≡ 8) ⊎ (p .size ≡ 16)) (right down : ℤ) (e : S.inPicture p right down ≡ true) where
-  parts : (S.isPlace p ≡ true) × (S.inside (p .row * p .size) (p .size) down (height p) ≡ true) × (S.inside (p .column * p .size) (p .size) right (width p) ≡ true)
+  parts : (S.isPlace p ≡ true) × (S.inside (p .row * p .size) (p .size) down (height p) ≡ true) × (S.inside (p .column * p .size) (p .size) right (width p)
+      ≡ true)
   parts =
       let t = both (S.isPlace p && S.inside (p .row * p .size) (p .size) down (height p)) _ e in
       let u = both (S.isPlace p) _ (t .0) in
@@ -93,7 +95,8 @@ module _ (p : Place) (size : (p .size ≡ 8) ⊎ (p .size ≡ 16)) (right down :
       let columns = both (leZ (pos 0) (pos (p .column * p .size) +ℤ whole right)) _ (parts .2) in
       record { top = le-is _ _ (rows .0); bottom = le-is _ _ (rows .1); left = le-is _ _ (columns .0); right = le-is _ _ (columns .1) }
 
-  pels-same : (s d : List ℕ) (average : Bool) → predicted p s d right down average (L.row placed right down inside * width p + L.column placed right down inside) ≡ S.pels p s d right down average
+  pels-same : (s d : List ℕ) (average : Bool)
+      → predicted p s d right down average (L.row placed right down inside * width p + L.column placed right down inside) ≡ S.pels p s d right down average
   unfolding predicted
   pels-same s d average =
       rows-alike d (address p) (width p) (p .size) _ _ (p .size) (λ y x a b.
@@ -133,12 +136,17 @@ from-meets g address k d set x average l =
     let down = inHalves (d .«full_pel_vector») (x .down) in
     let plane = plane-meets g m k average in
     let ours = ofStores m k (g .given .stores .cur) average in
-    subst (WayMeets _≡_ (S.predictedFrom g address k d x average l)) (sym (refused-next (ours Y right down l) (λ s. next (ours Cr (chroma right) (chroma down) s) (ours Cb (chroma right) (chroma down))))) (
+    subst (WayMeets _≡_ (S.predictedFrom g address k d x average l))
+    (sym (refused-next (ours Y right down l) (λ s. next (ours Cr (chroma right) (chroma down) s) (ours Cb (chroma right) (chroma down))))) (
     also-meets _≡_ (S.predictedPlane g m k average Y right down l) (P.unlessRefused (ours Y right down l)) _ _ (plane Y right down l) (λ a b e.
-    subst (λ (b : List ℕ). WayMeets _≡_ (rest g m k average right down a) (P.unlessRefused (next (ours Cr (chroma right) (chroma down) b) (ours Cb (chroma right) (chroma down))))) e (
-    subst (WayMeets _≡_ (rest g m k average right down a)) (sym (refused-next (ours Cr (chroma right) (chroma down) a) (ours Cb (chroma right) (chroma down)))) (
+    subst (λ (b : List ℕ). WayMeets _≡_ (rest g m k average right down a)
+    (P.unlessRefused (next (ours Cr (chroma right) (chroma down) b) (ours Cb (chroma right) (chroma down))))) e (
+    subst (WayMeets _≡_ (rest g m k average right down a))
+    (sym (refused-next (ours Cr (chroma right) (chroma down) a) (ours Cb (chroma right) (chroma down)))) (
     rw (L.chrominance-is right, L.chrominance-is down)
-    (also-meets _≡_ (S.predictedPlane g m k average Cr (chrominance right) (chrominance down) a) (P.unlessRefused (ours Cr (chrominance right) (chrominance down) a)) _ _
+    (also-meets _≡_ (S.predictedPlane g m k average Cr (chrominance right) (chrominance down) a)
+    (P.unlessRefused (ours Cr (chrominance right) (chrominance down) a)) _ _
     (plane Cr (chrominance right) (chrominance down) a) (λ a b e.
-    subst (λ (b : List ℕ). WayMeets _≡_ (S.predictedPlane g m k average Cb (chrominance right) (chrominance down) a) (P.unlessRefused (ours Cb (chrominance right) (chrominance down) b))) e
+    subst (λ (b : List ℕ). WayMeets _≡_ (S.predictedPlane g m k average Cb (chrominance right) (chrominance down) a)
+    (P.unlessRefused (ours Cb (chrominance right) (chrominance down) b))) e
     (plane Cb (chrominance right) (chrominance down) a)))))))

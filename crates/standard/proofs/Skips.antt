@@ -16,7 +16,7 @@ use Rattle.picture.specs.Predictions as P
 use Rattle.picture.specs.Macroblocks as M
 use Rattle.picture.specs.Heads.{flag}
 use Rattle.standard.specs.Standard as S
-use Rattle.standard.proofs.Rules.{WayMeets}
+use Rattle.standard.proofs.Agreement.{WayMeets}
 use Rattle.standard.proofs.Related.{In, motionOf, Own, own, sliceOf, eights, pastStart, Related}
 use Rattle.standard.proofs.Heads.{zero-in}
 use Rattle.standard.proofs.Predictions.{also-meets, from-meets}
@@ -64,18 +64,23 @@ module _ (g : S.Coding) (A : ℤ) (q : ℕ) (for back : S.Vector) (o : Own) (t a
           → WayMeets _≡_ (cond (not b) X (cond (flag t 8 && flag t 4) (also X Y) (cond (flag t 8) X (cond (flag t 4) Z S.forbidden))))
           (cond (b && o .forSet) (also X′ (λ l. cond (o .backSet) (Y′ l) (on l))) (cond b Z′ X′))
       go true e =
-          subst (λ (F : Bool). WayMeets _≡_ (cond (flag t 8 && flag t 4) (also X Y) (cond (flag t 8) X (cond (flag t 4) Z S.forbidden))) (cond F (also X′ (λ l. cond (o .backSet) (Y′ l) (on l))) Z′)) (sym (e refl .0))
-          (subst (λ (B : Bool). WayMeets _≡_ (cond (flag t 8 && flag t 4) (also X Y) (cond (flag t 8) X (cond (flag t 4) Z S.forbidden))) (cond (flag t 8) (also X′ (λ l. cond B (Y′ l) (on l))) Z′)) (sym (e refl .1))
+          subst (λ (F : Bool). WayMeets _≡_ (cond (flag t 8 && flag t 4) (also X Y) (cond (flag t 8) X (cond (flag t 4) Z S.forbidden)))
+          (cond F (also X′ (λ l. cond (o .backSet) (Y′ l) (on l))) Z′)) (sym (e refl .0))
+          (subst (λ (B : Bool). WayMeets _≡_ (cond (flag t 8 && flag t 4) (also X Y) (cond (flag t 8) X (cond (flag t 4) Z S.forbidden)))
+          (cond (flag t 8) (also X′ (λ l. cond B (Y′ l) (on l))) Z′)) (sym (e refl .1))
           (flags (flag t 8) (flag t 4)))
       go false e = from-meets g address (g .given .stores .fwd) (g .forward) (o .forSet) for false l
 
-module _ (g : S.Coding) (A : ℤ) (q : ℕ) (for back : S.Vector) (o : Own) (t : ℕ) (e : eqb (g .given .type) 3 ≡ true → (o .forSet ≡ flag t 8) × (o .backSet ≡ flag t 4)) where
-  skipped-meets : (address n : ℕ) (l : List ℕ) → WayMeets _≡_ (S.skippedFrom g t for back address n l) (P.predictSkipped (g .given) (sliceOf g A q for back o) address n l)
+module _ (g : S.Coding) (A : ℤ) (q : ℕ) (for back : S.Vector) (o : Own) (t : ℕ) (e : eqb (g .given .type) 3 ≡ true
+    → (o .forSet ≡ flag t 8) × (o .backSet ≡ flag t 4)) where
+  skipped-meets : (address n : ℕ) (l : List ℕ)
+      → WayMeets _≡_ (S.skippedFrom g t for back address n l) (P.predictSkipped (g .given) (sliceOf g A q for back o) address n l)
   unfolding S.skippedFrom P.predictSkipped
   skipped-meets address zero l = refl
   skipped-meets address (suc n) l =
       also-meets _≡_ (S.predicted g t address for back l) _ _ _ (predicted-meets g A q for back o t address l e)
-      (λ x y h. subst (λ (y : List ℕ). WayMeets _≡_ (S.skippedFrom g t for back (address + 1) n x) (P.predictSkipped (g .given) (sliceOf g A q for back o) (address + 1) n y)) h (skipped-meets (address + 1) n x))
+      (λ x y h. subst (λ (y : List ℕ). WayMeets _≡_ (S.skippedFrom g t for back (address + 1) n x)
+      (P.predictSkipped (g .given) (sliceOf g A q for back o) (address + 1) n y)) h (skipped-meets (address + 1) n x))
 
 -- ---- before the type is read: address, vectors and predictors as the macroblock will use them
 
@@ -149,10 +154,17 @@ module _ (g : S.Coding) (x : S.Variables) (w : World) (n : ℕ) (some : 1 ≤ n)
           let b : eqb (g .given .type) 3 ≡ false = ap (λ (k : ℕ). eqb k 3) (eqb-true (g .given .type) 2 p) in
           let reset = past-reset n (x .«previous_macroblock_address») (x .«past_intra_address») (r .order) h in
           rw (le-ltb n 2 h, lt-ltb 1 n h, p, b)
-          (right-meets (Ready g false n (S.typed 0 x)) (S.skippedFrom g 0 S.zero-vector S.zero-vector (natAbs (x .«previous_macroblock_address» +ℤ pos 1)) (n - 1) (x .pels)) (P.predictSkipped (g .given) (sliceOf g (x .«previous_macroblock_address») (x .«quantizer_scale») S.zero-vector S.zero-vector (dcs (r .o))) (natAbs (x .«previous_macroblock_address» +ℤ pos 1)) (n - 1) (x .pels)) (λ l. on (world (sliceOf g (x .«previous_macroblock_address» +ℤ pos n) (x .«quantizer_scale») S.zero-vector S.zero-vector (dcs (r .o))) l)) (skipped-meets g (x .«previous_macroblock_address») (x .«quantizer_scale») S.zero-vector S.zero-vector (dcs (r .o)) 0 (λ e. absurd (false≢true (sym b ∙ e))) (natAbs (x .«previous_macroblock_address» +ℤ pos 1)) (n - 1) (x .pels))
+          (right-meets (Ready g false n (S.typed 0 x))
+          (S.skippedFrom g 0 S.zero-vector S.zero-vector (natAbs (x .«previous_macroblock_address» +ℤ pos 1)) (n - 1) (x .pels))
+          (P.predictSkipped (g .given) (sliceOf g (x .«previous_macroblock_address») (x .«quantizer_scale») S.zero-vector S.zero-vector (dcs (r .o)))
+          (natAbs (x .«previous_macroblock_address» +ℤ pos 1)) (n - 1) (x .pels))
+          (λ l. on (world (sliceOf g (x .«previous_macroblock_address» +ℤ pos n) (x .«quantizer_scale») S.zero-vector S.zero-vector (dcs (r .o))) l))
+          (skipped-meets g (x .«previous_macroblock_address») (x .«quantizer_scale») S.zero-vector S.zero-vector (dcs (r .o)) 0
+          (λ e. absurd (false≢true (sym b ∙ e))) (natAbs (x .«previous_macroblock_address» +ℤ pos 1)) (n - 1) (x .pels))
           (λ l m e. record {
             o = dcs (r .o);
-            is = rw (p, b) (ap (world (sliceOf g (x .«previous_macroblock_address» +ℤ pos n) (x .«quantizer_scale») S.zero-vector S.zero-vector (dcs (r .o)))) (sym e));
+            is = rw (p, b) (ap (world
+                (sliceOf g (x .«previous_macroblock_address» +ℤ pos n) (x .«quantizer_scale») S.zero-vector S.zero-vector (dcs (r .o)))) (sym e));
             for = rw p (zero-in (g .forward));
             back = rw b (zero-in (g .backward));
             past = rw reset;
@@ -173,10 +185,18 @@ module _ (g : S.Coding) (x : S.Variables) (w : World) (n : ℕ) (some : 1 ≤ n)
               let f = r .for in
               let k = r .back in
               rw (le-ltb n 2 h, lt-ltb 1 n h, p, c .0, i)
-              (right-meets (Ready g false n x) (S.skippedFrom g (x .«macroblock_type») (x .forPrev) (x .backPrev) (natAbs (x .«previous_macroblock_address» +ℤ pos 1)) (n - 1) (x .pels)) (P.predictSkipped (g .given) (sliceOf g (x .«previous_macroblock_address») (x .«quantizer_scale») (x .forPrev) (x .backPrev) (dcs (r .o))) (natAbs (x .«previous_macroblock_address» +ℤ pos 1)) (n - 1) (x .pels)) (λ l. on (world (sliceOf g (x .«previous_macroblock_address» +ℤ pos n) (x .«quantizer_scale») (x .forPrev) (x .backPrev) (dcs (r .o))) l)) (skipped-meets g (x .«previous_macroblock_address») (x .«quantizer_scale») (x .forPrev) (x .backPrev) (dcs (r .o)) (x .«macroblock_type») (λ e. r .flags e refl) (natAbs (x .«previous_macroblock_address» +ℤ pos 1)) (n - 1) (x .pels))
+              (right-meets (Ready g false n x)
+              (S.skippedFrom g (x .«macroblock_type») (x .forPrev) (x .backPrev) (natAbs (x .«previous_macroblock_address» +ℤ pos 1)) (n - 1)
+              (x .pels)) (P.predictSkipped (g .given)
+              (sliceOf g (x .«previous_macroblock_address») (x .«quantizer_scale») (x .forPrev) (x .backPrev) (dcs (r .o)))
+              (natAbs (x .«previous_macroblock_address» +ℤ pos 1)) (n - 1) (x .pels))
+              (λ l. on (world (sliceOf g (x .«previous_macroblock_address» +ℤ pos n) (x .«quantizer_scale») (x .forPrev) (x .backPrev) (dcs (r .o)))
+              l)) (skipped-meets g (x .«previous_macroblock_address») (x .«quantizer_scale») (x .forPrev) (x .backPrev) (dcs (r .o))
+              (x .«macroblock_type») (λ e. r .flags e refl) (natAbs (x .«previous_macroblock_address» +ℤ pos 1)) (n - 1) (x .pels))
               (λ l m e. record {
                 o = dcs (r .o);
-                is = rw (p, c .0, i) (ap (world (sliceOf g (x .«previous_macroblock_address» +ℤ pos n) (x .«quantizer_scale») (x .forPrev) (x .backPrev) (dcs (r .o)))) (sym e));
+                is = rw (p, c .0, i) (ap
+                    (world (sliceOf g (x .«previous_macroblock_address» +ℤ pos n) (x .«quantizer_scale») (x .forPrev) (x .backPrev) (dcs (r .o)))) (sym e));
                 for = f;
                 back = k;
                 past = rw reset;

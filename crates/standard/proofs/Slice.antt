@@ -19,7 +19,7 @@ use Rattle.picture.specs.Ways.{Way, on, out}
 use Rattle.picture.specs.Macroblocks as M
 use Rattle.picture.specs.Slices as O
 use Rattle.standard.specs.Standard as S
-use Rattle.standard.proofs.Rules.{Meets, TurnMeets, Agree, run-plain, a-by, a-loop}
+use Rattle.standard.proofs.Agreement.{Meets, TurnMeets, Agree, run-plain, a-by, a-loop}
 use Rattle.standard.proofs.Related.{motionOf, own, Related, Rule, coding}
 use Rattle.standard.proofs.Heads.{zero-in}
 use Rattle.standard.proofs.Macroblock.{macroblock-agrees}
@@ -49,7 +49,8 @@ module _ (rule : Rule) (g : Given) (df db : S.Direction) (s : List ℕ) (long : 
   -- the end of a slice
   module _ (x : S.Variables) (w : World) (e : ℕ) (r : Related C false x w) where
     abbrev theirs : Bool → Bool → Bool → Prog (Turn S.Slicing (Way S.Variables))
-    theirs h z more = cond (not h) (done (stop S.forbidden)) (cond z (done (stop (on x))) (cond more (done (again (record { first = false; variables = x }))) (done (stop S.forbidden))))
+    theirs h z more = cond (not h) (done (stop S.forbidden))
+        (cond z (done (stop (on x))) (cond more (done (again (record { first = false; variables = x }))) (done (stop S.forbidden))))
 
     abbrev isMore : Bool
     isMore = ltZ (x .«previous_macroblock_address» +ℤ pos 1) (pos (g .sizes .«mb_size»))
@@ -58,7 +59,8 @@ module _ (rule : Rule) (g : Given) (df db : S.Direction) (s : List ℕ) (long : 
     not-last p q =
         let n = g .sizes .«mb_size» in
         let prev = x .«previous_macroblock_address» in
-        let a : leZ (pos n) (prev +ℤ pos 1) ≡ true = ap (λ (z : ℤ). leZ (pos n) (z +ℤ pos 1)) (sym (ap (λ (w : World). w .slice .«macroblock_address») (r .is))) ∙ p in
+        let a : leZ (pos n) (prev +ℤ pos 1)
+        ≡ true = ap (λ (z : ℤ). leZ (pos n) (z +ℤ pos 1)) (sym (ap (λ (w : World). w .slice .«macroblock_address») (r .is))) ∙ p in
         let h = le-yes (lit n) (v prev ⊕ lit 1) a in
         let k = lt-yes (v prev ⊕ lit 1) (lit n) q in
         omega arith
@@ -82,7 +84,8 @@ module _ (rule : Rule) (g : Given) (df db : S.Direction) (s : List ℕ) (long : 
     past-meets = go (O.isLast g w) refl
       where
         go : (last : Bool) → O.isLast g w ≡ last
-            → Turns (run (S.pastMacroblock C (on x)) s e) (run (cond last (done (stop (on w))) (bind (nonZero 23) (λ more. cond more (done (again (O.slicing false w))) (done (stop (on w)))))) s e)
+            → Turns (run (S.pastMacroblock C (on x)) s e)
+            (run (cond last (done (stop (on w))) (bind (nonZero 23) (λ more. cond more (done (again (O.slicing false w))) (done (stop (on w)))))) s e)
         go true p = at-last p (has s e 23) (eqb (got s e 23) 0) isMore refl
         go false p = before-last (has s e 23) (eqb (got s e 23) 0) isMore
 
@@ -97,11 +100,17 @@ module _ (rule : Rule) (g : Given) (df db : S.Direction) (s : List ℕ) (long : 
       let u = run (M.macroblock g (y .first) (y .world)) s a in
       let m : Agree (Related C false) s a (S.macroblock C (x .first) (x .variables)) (M.macroblock g (y .first) (y .world)) =
       rw (i .first) (macroblock-agrees rule g df db s long (x .first) (x .variables) (y .world) a (i .same)) in
-      rw (run-bind (S.macroblock C (x .first) (x .variables)) (S.pastMacroblock C) s a, run-bind (M.macroblock g (y .first) (y .world)) (O.pastMacroblock g) s a)
+      rw (
+        run-bind (S.macroblock C (x .first) (x .variables)) (S.pastMacroblock C) s a,
+        run-bind (M.macroblock g (y .first) (y .world))
+            (O.pastMacroblock g) s a,
+      )
       (go (o .value) (o .at) (u .value) (u .at) (m .is))
     where
-      go : (x : Way S.Variables) (e : ℕ) (y : Way World) (j : ℕ) → Meets (Related C false) x e y j → Turns (run (S.pastMacroblock C x) s e) (run (O.pastMacroblock g y) s j)
-      go (on x) e (on y) j m = subst (λ (j : ℕ). Turns (run (S.pastMacroblock C (on x)) s e) (run (O.pastMacroblock g (on y)) s j)) (m .0) (past-meets x y e (m .1))
+      go : (x : Way S.Variables) (e : ℕ) (y : Way World) (j : ℕ) → Meets (Related C false) x e y j
+          → Turns (run (S.pastMacroblock C x) s e) (run (O.pastMacroblock g y) s j)
+      go (on x) e (on y) j m = subst (λ (j : ℕ). Turns (run (S.pastMacroblock C (on x)) s e) (run (O.pastMacroblock g (on y)) s j)) (m .0)
+          (past-meets x y e (m .1))
       go (on x) e (out n l) j m = absurd m
       go (out n l) e y j m = left n l e _
 
@@ -124,11 +133,13 @@ module _ (rule : Rule) (g : Given) (df db : S.Direction) (s : List ℕ) (long : 
       }
 
   -- 2.4.2.6, 2.4.4: the standard's slice() and ours, from behind the start code on
-  pub slice-agrees : (position : ℕ) (w : World) (a : ℕ) → Begun df db (w .slice) → Agree (Related C false) s a (S.slice C position (w .store)) (O.slice g position w)
+  pub slice-agrees : (position : ℕ) (w : World) (a : ℕ) → Begun df db (w .slice)
+      → Agree (Related C false) s a (S.slice C position (w .store)) (O.slice g position w)
   unfolding S.slice O.slice
   slice-agrees position w a b =
       let o = run (bits 5) s a in
       let e = run O.extra s (o .at) in
       let q = o .value in
       a-by _ _ (run-plain (bits 5) _ s a ∙ run-plain O.extra _ s (o .at)) (run-bind (bits 5) _ s a ∙ run-bind O.extra _ s (o .at))
-      (a-loop (Between C) (Related C false) s (S.sliceTurn C) (O.sliceTurn g) (on w) turn-meets many _ _ (e .at) (record { first = refl; same = start-related position q w b }) .is)
+      (a-loop (Between C) (Related C false) s (S.sliceTurn C) (O.sliceTurn g) (on w) turn-meets many _ _ (e .at)
+      (record { first = refl; same = start-related position q w b }) .is)

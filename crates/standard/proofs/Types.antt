@@ -37,13 +37,15 @@ alone t = not (flag t 1) || (not (flag t 8) && not (flag t 4) && not (flag t 2))
 abbrev forwards : ℕ → Bool
 forwards t = not (flag t 4)
 
-in-table : (p : ℕ → Bool) (type t : ℕ) → allRows p macroblockTypeIntraCodes ≡ true → allRows p macroblockTypePredictiveCodes ≡ true → (eqb type 3 ≡ true → allRows p macroblockTypeBCodes ≡ true)
+in-table : (p : ℕ → Bool) (type t : ℕ) → allRows p macroblockTypeIntraCodes ≡ true → allRows p macroblockTypePredictiveCodes ≡ true
+    → (eqb type 3 ≡ true → allRows p macroblockTypeBCodes ≡ true)
     → S.inTable type t ≡ true → p t ≡ true
 unfolding S.inTable
 in-table p type t i q b e = go (eqb type 1) (eqb type 2) (eqb type 3) b e
   where
     go : (x y z : Bool) → (z ≡ true → allRows p macroblockTypeBCodes ≡ true)
-        → cond x (S.rowOf macroblockTypeIntraCodes t) (cond y (S.rowOf macroblockTypePredictiveCodes t) (cond z (S.rowOf macroblockTypeBCodes t) false)) ≡ true → p t ≡ true
+        → cond x (S.rowOf macroblockTypeIntraCodes t) (cond y (S.rowOf macroblockTypePredictiveCodes t) (cond z (S.rowOf macroblockTypeBCodes t) false))
+        ≡ true → p t ≡ true
     go true y z b e = row-passes p macroblockTypeIntraCodes t i e
     go false true z b e = row-passes p macroblockTypePredictiveCodes t q e
     go false false true b e = row-passes p macroblockTypeBCodes t (b refl) e

@@ -1,5 +1,5 @@
 -- Programs that follow the standard's text: what a stream shall be, and reads that the stream has bits for.
-use mathlib.Core.Bool.{Bool}
+use mathlib.Core.Bool.{Bool, true, false}
 use Prim.Native.Nat.{ℕ}
 use mathlib.Core.List.{[]}
 use lib.Dec.{eqb}
@@ -10,6 +10,11 @@ use Rattle.picture.specs.Ways.{Way, on, out, give}
 -- the stream breaks a rule that a decoder relies on: nothing more is said of it
 abbrev pub forbidden : {A : Type 0} → Way A
 forbidden = out 0 []
+
+-- a run that was not ended so: as far as it has read, the stream conforms
+abbrev pub conforms : {A : Type 0} → Way A → Bool
+conforms (on x) = true
+conforms (out n l) = false
 
 -- "shall"
 abbrev pub shall : Bool → Prog (Way (Unit {0}))

@@ -1,14 +1,14 @@
 -- What it means that the standard's run and ours agree, with a rule for each form of a program. Where the standard's run ends with `forbidden`, nothing is
 -- said of ours. Assumes nothing.
 use mathlib.Core.Path.{_≡_, refl, sym, ap, _∙_, subst}
-use mathlib.Core.Bool.{Bool, true, false, cond}
+use mathlib.Core.Bool.{Bool, true, false, cond, true≢false, false≢true}
 use mathlib.Core.List.{List}
 use Prim.Native.Nat.{ℕ, zero, suc}
 use Rattle.laws.specs.Turns.{Turn, again, stop}
 use Rattle.bits.specs.Programs.{Prog, Out, done, run, bind, loop, turn}
 use Rattle.bits.proofs.Programs.{run-bind}
 use Rattle.picture.specs.Ways.{Way, on, out, leave, onward, plain, step, give}
-use Rattle.standard.specs.Standard.Shall.{forbidden, shall}
+use Rattle.standard.specs.Standard.Shall.{forbidden, conforms, shall}
 
 -- of what steps that read nothing give
 abbrev pub WayMeets : {A B : Type 0} → (A → B → Type 0) → Way A → Way B → Type 0
@@ -28,7 +28,8 @@ pub record Agree {A B : Type 0} (R : A → B → Type 0) (s : List ℕ) (a : ℕ
 
 -- ---- runs
 
-pub run-plain : {A B : Type 0} (p : Prog A) (f : A → Prog (Way B)) (s : List ℕ) (a : ℕ) → run (onward (plain p) f) s a ≡ run (f (run p s a .value)) s (run p s a .at)
+pub run-plain : {A B : Type 0} (p : Prog A) (f : A → Prog (Way B)) (s : List ℕ) (a : ℕ) → run (onward (plain p) f) s a
+    ≡ run (f (run p s a .value)) s (run p s a .at)
 unfolding onward plain leave run
 run-plain p f s a =
     run-bind (bind p (λ v. done (on v))) (leave f) s a ∙ ap (λ (o : Out (Way _)). run (leave f (o .value)) s (o .at)) (run-bind p (λ v. done (on v)) s a)
@@ -45,7 +46,8 @@ module _ {A B : Type 0} {R : A → B → Type 0} {s : List ℕ} {a : ℕ} where
   a-step (out n l) u h = record { is = tt }
 
   -- from what the two runs give
-  pub a-by : {p : Prog (Way A)} {q : Prog (Way B)} (o : Out (Way A)) (u : Out (Way B)) → run p s a ≡ o → run q s a ≡ u → Meets R (o .value) (o .at) (u .value) (u .at) → Agree R s a p q
+  pub a-by : {p : Prog (Way A)} {q : Prog (Way B)} (o : Out (Way A)) (u : Out (Way B)) → run p s a ≡ o → run q s a ≡ u
+      → Meets R (o .value) (o .at) (u .value) (u .at) → Agree R s a p q
   a-by o u d e h = record { is = rw (d, e) h }
 
   -- runs that are the same
@@ -59,8 +61,10 @@ module _ {A B C D : Type 0} {R : A → B → Type 0} {Q : C → D → Type 0} {s
   a-onward {a} {p} {q} f g h k =
       a-by _ _ (run-bind p (leave f) s a) (run-bind q (leave g) s a) (go (run p s a .value) (run p s a .at) (run q s a .value) (run q s a .at) (h .is))
     where
-      go : (x : Way A) (e : ℕ) (y : Way B) (i : ℕ) → Meets R x e y i → Meets Q (run (leave f x) s e .value) (run (leave f x) s e .at) (run (leave g y) s i .value) (run (leave g y) s i .at)
-      go (on x) e (on y) i m = subst (λ (j : ℕ). Meets Q (run (f x) s e .value) (run (f x) s e .at) (run (g y) s j .value) (run (g y) s j .at)) (m .0) (k x y e (m .1) .is)
+      go : (x : Way A) (e : ℕ) (y : Way B) (i : ℕ) → Meets R x e y i
+          → Meets Q (run (leave f x) s e .value) (run (leave f x) s e .at) (run (leave g y) s i .value) (run (leave g y) s i .at)
+      go (on x) e (on y) i m = subst (λ (j : ℕ). Meets Q (run (f x) s e .value) (run (f x) s e .at) (run (g y) s j .value) (run (g y) s j .at)) (m .0)
+          (k x y e (m .1) .is)
       go (on x) e (out n l) i m = absurd m
       go (out n l) e y i m = tt
 
@@ -98,9 +102,11 @@ module _ {S T A B : Type 0} (I : S → T → Type 0) (R : A → B → Type 0) (s
     where
       go : (t : Turn S (Way A)) (e : ℕ) (u : Turn T (Way B)) (j : ℕ) → TurnMeets I R t e u j
           → ((x : S) (y : T) (a : ℕ) → I x y → Agree R s a (loop n f forbidden x) (loop n g d y))
-          → Meets R (run (turn (loop n f forbidden) t) s e .value) (run (turn (loop n f forbidden) t) s e .at) (run (turn (loop n g d) u) s j .value) (run (turn (loop n g d) u) s j .at)
+          → Meets R (run (turn (loop n f forbidden) t) s e .value) (run (turn (loop n f forbidden) t) s e .at) (run (turn (loop n g d) u) s j .value)
+          (run (turn (loop n g d) u) s j .at)
       go (again x) e (again y) j m k =
-          subst (λ (z : ℕ). Meets R (run (loop n f forbidden x) s e .value) (run (loop n f forbidden x) s e .at) (run (loop n g d y) s z .value) (run (loop n g d y) s z .at)) (m .0) (k x y e (m .1) .is)
+          subst (λ (z : ℕ). Meets R (run (loop n f forbidden x) s e .value) (run (loop n f forbidden x) s e .at) (run (loop n g d y) s z .value)
+          (run (loop n g d y) s z .at)) (m .0) (k x y e (m .1) .is)
       go (again x) e (stop v) j m k = absurd m
       go (stop (on v)) e (again y) j m k = absurd m
       go (stop (on v)) e (stop w) j m k = m
@@ -112,18 +118,21 @@ module _ {A B : Type 0} (p : Prog A) (k : A → Prog B) (s : List ℕ) (a : ℕ)
   pub plain-bind : run (plain (bind p k)) s a ≡ run (onward (plain p) (λ x. plain (k x))) s a
   unfolding plain
   plain-bind =
-      run-bind (bind p k) _ s a ∙ ap (λ (o : Out B). run (done (on (o .value))) s (o .at)) (run-bind p k s a) ∙ sym (run-bind (k (run p s a .value)) _ s (run p s a .at))
+      run-bind (bind p k) _ s a ∙ ap (λ (o : Out B). run (done (on (o .value))) s (o .at)) (run-bind p k s a)
+      ∙ sym (run-bind (k (run p s a .value)) _ s (run p s a .at))
       ∙ sym (run-plain p (λ x. plain (k x)) s a)
 
 module _ {A B C : Type 0} (p : Prog A) (k : A → Prog B) (f : B → Prog (Way C)) (s : List ℕ) (a : ℕ) where
   pub plain-bind-on : run (onward (plain (bind p k)) f) s a ≡ run (onward (plain p) (λ x. onward (plain (k x)) f)) s a
   plain-bind-on =
-      run-plain (bind p k) f s a ∙ ap (λ (o : Out B). run (f (o .value)) s (o .at)) (run-bind p k s a) ∙ sym (run-plain (k (run p s a .value)) f s (run p s a .at))
+      run-plain (bind p k) f s a ∙ ap (λ (o : Out B). run (f (o .value)) s (o .at)) (run-bind p k s a)
+      ∙ sym (run-plain (k (run p s a .value)) f s (run p s a .at))
       ∙ sym (run-plain p (λ x. onward (plain (k x)) f) s a)
 
 -- ---- a weaker relation
 
-pub a-as : {A B : Type 0} {R Q : A → B → Type 0} {s : List ℕ} {a : ℕ} {p : Prog (Way A)} {q : Prog (Way B)} → ((x : A) (y : B) → R x y → Q x y) → Agree R s a p q → Agree Q s a p q
+pub a-as : {A B : Type 0} {R Q : A → B → Type 0} {s : List ℕ} {a : ℕ} {p : Prog (Way A)} {q : Prog (Way B)} → ((x : A) (y : B) → R x y → Q x y)
+    → Agree R s a p q → Agree Q s a p q
 a-as {A} {B} {R} {Q} {s} {a} {p} {q} k h = record { is = go (run p s a .value) (run p s a .at) (run q s a .value) (run q s a .at) (h .is) }
   where
     go : (x : Way A) (e : ℕ) (y : Way B) (i : ℕ) → Meets R x e y i → Meets Q x e y i
@@ -131,48 +140,43 @@ a-as {A} {B} {R} {Q} {s} {a} {p} {q} k h = record { is = go (run p s a .value) (
     go (on x) e (out n l) i m = m
     go (out n l) e y i m = tt
 
--- ---- a loop of ours that cannot leave
-
-abbrev pub PlainMeets : {S T A B : Type 0} → (S → T → Type 0) → (A → B → Type 0) → Turn S (Way A) → ℕ → Turn T B → ℕ → Type 0
-PlainMeets I R (again x) e (again y) i = (e ≡ i) × I x y
-PlainMeets I R (again x) e (stop v) i = ⊥
-PlainMeets I R (stop (on v)) e (again y) i = ⊥
-PlainMeets I R (stop (on v)) e (stop w) i = (e ≡ i) × R v w
-PlainMeets I R (stop (out n l)) e y i = Unit {0}
-
-module _ {S T A B : Type 0} (I : S → T → Type 0) (R : A → B → Type 0) (s : List ℕ) (f : S → Prog (Turn S (Way A))) (g : T → Prog (Turn T B)) (d : B)
-    (turns : (x : S) (y : T) (a : ℕ) → I x y → PlainMeets I R (run (f x) s a .value) (run (f x) s a .at) (run (g y) s a .value) (run (g y) s a .at)) where
-  ours-turn : (n : ℕ) (y : T) (a : ℕ) → run (plain (loop (suc n) g d y)) s a ≡ run (plain (turn (loop n g d) (run (g y) s a .value))) s (run (g y) s a .at)
-  unfolding plain loop
-  ours-turn n y a =
-      run-bind (bind (g y) (turn (loop n g d))) _ s a ∙ ap (λ (o : Out B). run (done (on (o .value))) s (o .at)) (run-bind (g y) (turn (loop n g d)) s a)
-      ∙ sym (run-bind (turn (loop n g d) (run (g y) s a .value)) _ s (run (g y) s a .at))
-
-  pub a-loop-plain : (n : ℕ) (x : S) (y : T) (a : ℕ) → I x y → Agree R s a (loop n f forbidden x) (plain (loop n g d y))
-  unfolding loop run plain bind
-  a-loop-plain zero x y a i = record { is = tt }
-  a-loop-plain (suc n) x y a i =
-      a-by _ _ (run-bind (f x) (turn (loop n f forbidden)) s a) (ours-turn n y a)
-      (go (run (f x) s a .value) (run (f x) s a .at) (run (g y) s a .value) (run (g y) s a .at) (turns x y a i) (λ x y a i. a-loop-plain n x y a i))
-    where
-      go : (t : Turn S (Way A)) (e : ℕ) (u : Turn T B) (j : ℕ) → PlainMeets I R t e u j
-          → ((x : S) (y : T) (a : ℕ) → I x y → Agree R s a (loop n f forbidden x) (plain (loop n g d y)))
-          → Meets R (run (turn (loop n f forbidden) t) s e .value) (run (turn (loop n f forbidden) t) s e .at) (run (plain (turn (loop n g d) u)) s j .value) (run (plain (turn (loop n g d) u)) s j .at)
-      go (again x) e (again y) j m k =
-          subst (λ (z : ℕ). Meets R (run (loop n f forbidden x) s e .value) (run (loop n f forbidden x) s e .at) (run (plain (loop n g d y)) s z .value) (run (plain (loop n g d y)) s z .at)) (m .0) (k x y e (m .1) .is)
-      go (again x) e (stop v) j m k = absurd m
-      go (stop (on v)) e (again y) j m k = absurd m
-      go (stop (on v)) e (stop w) j m k = m
-      go (stop (out n l)) e u j m k = tt
-
 -- ---- what the standard makes of a value at the end
 
 pub a-after : {A B C : Type 0} {R : A → B → Type 0} {Q : C → B → Type 0} {s : List ℕ} {a : ℕ} {p : Prog (Way A)} {q : Prog (Way B)} (f : A → C)
     → Agree R s a p q → ((x : A) (y : B) → R x y → Q (f x) y) → Agree Q s a (onward p (λ x. give (f x))) q
 unfolding onward leave run
-a-after {A} {B} {C} {R} {Q} {s} {a} {p} {q} f h k = a-by _ _ (run-bind p (leave (λ x. give (f x))) s a) refl (go (run p s a .value) (run p s a .at) (run q s a .value) (run q s a .at) (h .is))
+a-after {A} {B} {C} {R} {Q} {s} {a} {p} {q} f h k = a-by _ _ (run-bind p (leave (λ x. give (f x))) s a) refl
+    (go (run p s a .value) (run p s a .at) (run q s a .value) (run q s a .at) (h .is))
   where
-    go : (x : Way A) (e : ℕ) (y : Way B) (i : ℕ) → Meets R x e y i → Meets Q (run (leave (λ x. give (f x)) x) s e .value) (run (leave (λ x. give (f x)) x) s e .at) y i
+    go : (x : Way A) (e : ℕ) (y : Way B) (i : ℕ) → Meets R x e y i
+        → Meets Q (run (leave (λ x. give (f x)) x) s e .value) (run (leave (λ x. give (f x)) x) s e .at) y i
     go (on x) e (on y) i m = (m .0, k x y (m .1))
     go (on x) e (out n l) i m = absurd m
     go (out n l) e y i m = tt
+
+-- ---- what an agreement says
+
+abbrev fromOn : {A : Type 0} → A → Way A → A
+fromOn d (on x) = x
+fromOn d (out n l) = d
+
+module _ {A B : Type 0} {R : A → B → Type 0} {s : List ℕ} {a : ℕ} {p : Prog (Way A)} {q : Prog (Way B)} (h : Agree R s a p q) where
+  -- where the standard's run gives x, ours goes on with a y that fits, and ends at the same place
+  pub agreed : {x : A} → run p s a .value ≡ on x → (y : B) × (run q s a ≡ record { value = on y; at = run p s a .at }) × R x y
+  agreed {x} e = go (run p s a .value) (run q s a .value) (run q s a .at) refl (h .is) e
+    where
+      go : (w : Way A) (u : Way B) (i : ℕ) → run q s a ≡ record { value = u; at = i } → Meets R w (run p s a .at) u i → w ≡ on x
+          → (y : B) × (run q s a ≡ record { value = on y; at = run p s a .at }) × R x y
+      go (on z) (on y) i o m e =
+          (y, o ∙ ap (λ (j : ℕ). record { value = on y; at = j }) (sym (m .0)), subst (λ (z : A). R z y) (ap (fromOn x) e) (m .1))
+      go (on z) (out n l) i o m e = absurd m
+      go (out n l) u i o m e = absurd (false≢true (ap conforms e))
+
+  -- where ours leaves early, the stream does not conform
+  pub left-forbidden : (n : ℕ) (l : List ℕ) → run q s a .value ≡ out n l → conforms (run p s a .value) ≡ false
+  left-forbidden n l e = go (run p s a .value) (run q s a .value) (h .is) e
+    where
+      go : (w : Way A) (u : Way B) → Meets R w (run p s a .at) u (run q s a .at) → u ≡ out n l → conforms w ≡ false
+      go (on x) (on y) m e = absurd (true≢false (ap conforms e))
+      go (on x) (out n l) m e = absurd m
+      go (out n l) u m e = refl
