@@ -1,7 +1,7 @@
 -- 2.4.4.2 to 2.4.4.4: predictions, and skipped macroblocks with what they reset. Assumes nothing.
 use mathlib.Core.Path.{_≡_, refl, sym, ap, _∙_, subst}
 use mathlib.Core.Bool.{Bool, true, false, cond, not, _&&_, false≢true}
-use mathlib.Core.List.{List}
+use mathlib.Core.List.{List, []}
 use Prim.Native.Nat.{ℕ, zero, suc, _+_, _-_, _≤_}
 use native.Mathlib.Omega.{arith}
 use borrow.Author.Tests.{eqb-true, ltb-true, ltb-false, le-ltb, lt-ltb}
@@ -93,12 +93,20 @@ pub record Ready (g : S.Coding) (first : Bool) (n : ℕ) (x : S.Variables) (l : 
   pub order : leZ (x .«past_intra_address») (x .«previous_macroblock_address») ≡ true
   pub some : 1 ≤ n
 
--- the test of 2.4.4.1 is passed
-past-reset : (n : ℕ) (prev past : ℤ) → leZ past prev ≡ true → 2 ≤ n → ltZ (pos 1) (prev +ℤ pos n -ℤ past) ≡ true
-past-reset n prev past h l = yes-lt (lit 1) (v prev ⊕ lit n ⊖ v past) (omega (arith, le-yes (v past) (v prev) h))
+-- 2.4.4.1: behind a skipped macroblock, and in the first macroblock of a slice, the pasts are 128 * 8
+far-skipped : (x : S.Variables) (n : ℕ) → leZ (x .«past_intra_address») (x .«previous_macroblock_address») ≡ true → 2 ≤ n
+    → S.far (x .«previous_macroblock_address» +ℤ pos n) x ≡ true
+far-skipped x n h l =
+    let prev = v (x .«previous_macroblock_address») in
+    let past = v (x .«past_intra_address») in
+    yes-lt (lit 1) (prev ⊕ lit n ⊖ past) (omega (arith, le-yes past prev h))
 
-past-behind : (n : ℕ) (prev past : ℤ) → ltZ past prev ≡ true → 1 ≤ n → ltZ (pos 1) (prev +ℤ pos n -ℤ past) ≡ true
-past-behind n prev past h l = yes-lt (lit 1) (v prev ⊕ lit n ⊖ v past) (omega (arith, lt-yes (v past) (v prev) h))
+far-first : (x : S.Variables) (n : ℕ) → ltZ (x .«past_intra_address») (x .«previous_macroblock_address») ≡ true → 1 ≤ n
+    → S.far (x .«previous_macroblock_address» +ℤ pos n) x ≡ true
+far-first x n h l =
+    let prev = v (x .«previous_macroblock_address») in
+    let past = v (x .«past_intra_address») in
+    yes-lt (lit 1) (prev ⊕ lit n ⊖ past) (omega (arith, lt-yes past prev h))
 
 right-meets : {A B D : Type 0} {R : A → B → Type 0} (Q : A → D → Type 0) (w : Way A) (u : Way B) (k : B → Way D) → WayMeets R w u
     → ((x : A) (y : B) → R x y → WayMeets Q (on x) (k y)) → WayMeets Q w (also u k)
@@ -121,19 +129,22 @@ module _ (g : S.Coding) (x : S.Variables) (w : World) (n : ℕ) (some : 1 ≤ n)
   -- the first macroblock of a slice
   pub first-ready : Related g true x w → Ready g true n (S.typed (S.lastType g true n x) x) (x .pels) (M.further n w)
   first-ready r =
-      let prev = x .«previous_macroblock_address» in
-      let past = x .«past_intra_address» in
-      let behind = past-behind n prev past (r .start refl) some in
-      let one = past-behind 1 prev past (r .start refl) (omega arith) in
       record {
         o = r .o;
         is = ap (M.further n) (r .is);
         for = r .for;
         back = r .back;
-        past = rw behind (rw one at (r .past));
+        past = rw (far-first x n (r .start refl) some) (rw (far-first x 1 (r .start refl) (omega arith)) at (r .past));
         order = r .order;
         some = some;
       }
+
+  abbrev from : ℕ
+  from = natAbs (x .«previous_macroblock_address» +ℤ pos 1)
+
+  -- our state at this address, where a macroblock has been skipped
+  abbrev skippedTo : ℤ → S.Vector → S.Vector → Own → List ℕ → World
+  skippedTo A f b o l = world (sliceOf g A (x .«quantizer_scale») f b (dcs o)) l
 
   abbrev Goal : World → Type 0
   Goal w = WayMeets (Ready g false n (S.typed (S.lastType g false n x) x)) (S.skipped g false n x) (M.advance (g .given) n w)
@@ -147,62 +158,48 @@ module _ (g : S.Coding) (x : S.Variables) (w : World) (n : ℕ) (some : 1 ≤ n)
         (record { o = r .o; is = refl; for = r .for; back = r .back; past = r .past; order = r .order; some = omega arith })
 
     module _ (h : 2 ≤ n) where
+      -- skipped macroblocks of the type t with the vectors f and b, from which the next one starts as if behind a macroblock of the type u
+      skips-ready : (t u : ℕ) (f b : S.Vector) → (eqb (g .given .type) 3 ≡ true → (r .o .forSet ≡ flag t 8) × (r .o .backSet ≡ flag t 4))
+          → S.forStart g false (S.typed u x) ≡ f → S.backStart g false (S.typed u x) ≡ b → In (g .forward) f → In (g .backward) b
+          → WayMeets (Ready g false n (S.typed u x)) (S.skippedFrom g t f b from (n - 1) (x .pels))
+          (also (P.predictSkipped (g .given) (skippedTo (x .«previous_macroblock_address») f b (r .o) [] .slice) from (n - 1) (x .pels))
+          (λ l. on (skippedTo (x .«previous_macroblock_address» +ℤ pos n) f b (r .o) l)))
+      skips-ready t u f b k ef eb i j =
+          right-meets (Ready g false n (S.typed u x)) (S.skippedFrom g t f b from (n - 1) (x .pels)) _ _
+          (skipped-meets g (x .«previous_macroblock_address») (x .«quantizer_scale») f b (dcs (r .o)) t k from (n - 1) (x .pels)) (λ l m e. record {
+            o = dcs (r .o);
+            is = rw (ef, eb) (ap (skippedTo (x .«previous_macroblock_address» +ℤ pos n) f b (r .o)) (sym e));
+            for = rw ef i;
+            back = rw eb j;
+            past = rw (far-skipped x n (r .order) h);
+            order = r .order;
+            some = some;
+          })
+
       -- in a P picture
       p-ready : eqb (g .given .type) 2 ≡ true → Goal (ours g x (r .o))
       unfolding S.skipped M.advance M.skipReset
       p-ready p =
           let b : eqb (g .given .type) 3 ≡ false = ap (λ (k : ℕ). eqb k 3) (eqb-true (g .given .type) 2 p) in
-          let reset = past-reset n (x .«previous_macroblock_address») (x .«past_intra_address») (r .order) h in
           rw (le-ltb n 2 h, lt-ltb 1 n h, p, b)
-          (right-meets (Ready g false n (S.typed 0 x))
-          (S.skippedFrom g 0 S.zero-vector S.zero-vector (natAbs (x .«previous_macroblock_address» +ℤ pos 1)) (n - 1) (x .pels))
-          (P.predictSkipped (g .given) (sliceOf g (x .«previous_macroblock_address») (x .«quantizer_scale») S.zero-vector S.zero-vector (dcs (r .o)))
-          (natAbs (x .«previous_macroblock_address» +ℤ pos 1)) (n - 1) (x .pels))
-          (λ l. on (world (sliceOf g (x .«previous_macroblock_address» +ℤ pos n) (x .«quantizer_scale») S.zero-vector S.zero-vector (dcs (r .o))) l))
-          (skipped-meets g (x .«previous_macroblock_address») (x .«quantizer_scale») S.zero-vector S.zero-vector (dcs (r .o)) 0
-          (λ e. absurd (false≢true (sym b ∙ e))) (natAbs (x .«previous_macroblock_address» +ℤ pos 1)) (n - 1) (x .pels))
-          (λ l m e. record {
-            o = dcs (r .o);
-            is = rw (p, b) (ap (world
-                (sliceOf g (x .«previous_macroblock_address» +ℤ pos n) (x .«quantizer_scale») S.zero-vector S.zero-vector (dcs (r .o)))) (sym e));
-            for = rw p (zero-in (g .forward));
-            back = rw b (zero-in (g .backward));
-            past = rw reset;
-            order = r .order;
-            some = some;
-          }))
+          (skips-ready 0 0 S.zero-vector S.zero-vector (λ e. absurd (false≢true (sym b ∙ e))) (rw p refl) (rw b refl) (zero-in (g .forward)) (zero-in (g .backward)))
 
       -- in a B picture
       b-ready : eqb (g .given .type) 2 ≡ false → Goal (ours g x (r .o))
       unfolding S.skipped M.advance M.skipReset
       b-ready p = go (eqb (g .given .type) 3 && not (flag (x .«macroblock_type») 1)) refl
         where
-          go : (t : Bool) → (eqb (g .given .type) 3 && not (flag (x .«macroblock_type») 1)) ≡ t → Goal (ours g x (r .o))
+          t : ℕ
+          t = x .«macroblock_type»
+
+          go : (y : Bool) → (eqb (g .given .type) 3 && not (flag t 1)) ≡ y → Goal (ours g x (r .o))
           go true e =
-              let c = both (eqb (g .given .type) 3) (not (flag (x .«macroblock_type») 1)) e in
-              let i : flag (x .«macroblock_type») 1 ≡ false = not-true _ (c .1) in
-              let reset = past-reset n (x .«previous_macroblock_address») (x .«past_intra_address») (r .order) h in
-              let f = r .for in
-              let k = r .back in
-              rw (le-ltb n 2 h, lt-ltb 1 n h, p, c .0, i)
-              (right-meets (Ready g false n x)
-              (S.skippedFrom g (x .«macroblock_type») (x .forPrev) (x .backPrev) (natAbs (x .«previous_macroblock_address» +ℤ pos 1)) (n - 1)
-              (x .pels)) (P.predictSkipped (g .given)
-              (sliceOf g (x .«previous_macroblock_address») (x .«quantizer_scale») (x .forPrev) (x .backPrev) (dcs (r .o)))
-              (natAbs (x .«previous_macroblock_address» +ℤ pos 1)) (n - 1) (x .pels))
-              (λ l. on (world (sliceOf g (x .«previous_macroblock_address» +ℤ pos n) (x .«quantizer_scale») (x .forPrev) (x .backPrev) (dcs (r .o)))
-              l)) (skipped-meets g (x .«previous_macroblock_address») (x .«quantizer_scale») (x .forPrev) (x .backPrev) (dcs (r .o))
-              (x .«macroblock_type») (λ e. r .flags e refl) (natAbs (x .«previous_macroblock_address» +ℤ pos 1)) (n - 1) (x .pels))
-              (λ l m e. record {
-                o = dcs (r .o);
-                is = rw (p, c .0, i) (ap
-                    (world (sliceOf g (x .«previous_macroblock_address» +ℤ pos n) (x .«quantizer_scale») (x .forPrev) (x .backPrev) (dcs (r .o)))) (sym e));
-                for = f;
-                back = k;
-                past = rw reset;
-                order = r .order;
-                some = some;
-              }))
+              let c = both (eqb (g .given .type) 3) (not (flag t 1)) e in
+              let i : flag t 1 ≡ false = not-true _ (c .1) in
+              let f : S.forStart g false x ≡ x .forPrev = rw (p, i) in
+              let b : S.backStart g false x ≡ x .backPrev = rw (c .0, i) in
+              let skips = skips-ready t t (x .forPrev) (x .backPrev) (λ e. r .flags e refl) f b (rw f at (r .for)) (rw b at (r .back)) in
+              rw (le-ltb n 2 h, lt-ltb 1 n h, p, c .0, i) skips
           go false e = rw (le-ltb n 2 h, p, e) tt
 
     pub later-ready : Goal w
