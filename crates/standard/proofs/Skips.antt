@@ -196,7 +196,8 @@ module _ (g : S.Coding) (x : S.Variables) (w : World) (n : ℕ) (some : 1 ≤ n)
           go true e =
               let c = both (eqb (g .given .type) 3) (not (flag t 1)) e in
               let i : flag t 1 ≡ false = not-true _ (c .1) in
-              let f : S.forStart g false x ≡ x .forPrev = rw (p, i) in
+              let kept : Bool → S.Vector = λ z. cond z S.zero-vector (x .forPrev) in
+              let f : S.forStart g false x ≡ x .forPrev = ap (λ (z : Bool). kept (cond z (not (flag t 8)) (flag t 1))) p ∙ ap kept i in
               let b : S.backStart g false x ≡ x .backPrev = rw (c .0, i) in
               let skips = skips-ready t t (x .forPrev) (x .backPrev) (λ e. r .flags e refl) f b (rw f at (r .for)) (rw b at (r .back)) in
               rw (le-ltb n 2 h, lt-ltb 1 n h, p, c .0, i) skips
