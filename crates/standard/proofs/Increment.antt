@@ -1,4 +1,4 @@
--- 2.4.2.7: the address increment. Assumes a stream that question 1 admits.
+-- 2.4.2.7: the address increment. Assumes RULES Q1.
 use mathlib.Core.Path.{_≡_, refl, sym, ap, _∙_}
 use mathlib.Core.Bool.{Bool, true, false, cond, _&&_, false≢true}
 use mathlib.Core.List.{List, [], _∷_, List·Memᴰ, List·Memᴰ·head, List·Memᴰ·tail}

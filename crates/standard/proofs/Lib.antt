@@ -8,5 +8,7 @@ pub mod Skips
 pub mod Blocks
 pub mod Macroblock
 pub mod Slice
+pub mod Slices
+pub mod Header
 pub mod Picture
 pub mod Example

@@ -1,4 +1,4 @@
--- 2.4.2.6: a slice. Assumes a stream that question 1 admits.
+-- 2.4.2.6: a slice. Assumes RULES Q1.
 use mathlib.Core.Path.{_≡_, refl, sym, ap, _∙_, subst}
 use mathlib.Core.Bool.{Bool, true, false, cond, not, _&&_, false≢true}
 use mathlib.Core.List.{List}

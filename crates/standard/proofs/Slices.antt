@@ -1,0 +1,157 @@
+-- 2.4.2.5: the slices of a picture. Assumes RULES Q1.
+use mathlib.Core.Path.{_≡_, refl, sym, ap, _∙_, subst}
+use mathlib.Core.Bool.{Bool, true, false, cond, not, _&&_, false≢true}
+use mathlib.Core.List.{List}
+use Prim.Native.Nat.{ℕ, zero, suc, _-_, _≤_}
+use native.Mathlib.Omega.{arith}
+use borrow.Author.Tests.{ne-eqb}
+use lib.IntN.{ℤ, pos, negsuc, natAbs, _+ℤ_}
+use lib.ListN.{length}
+use lib.Signed.{ltZ, leZ}
+use Rattle.laws.specs.Turns.{Turn, again, stop}
+use Rattle.laws.proofs.Ints.{v, lit, _⊕_, le-yes, le-no, lt-yes, lt-no}
+use Rattle.bits.specs.Bits.{has, found}
+use Rattle.bits.specs.Programs.{Out, done, run, bind, many, eqZ}
+use Rattle.bits.proofs.Programs.{run-bind}
+use Rattle.picture.specs.declared.state.Stores.{Stores}
+use Rattle.picture.specs.declared.state.Picture.{Picture}
+use Rattle.picture.specs.State.{Given, World, world, startCodeAs, sliceAs}
+use Rattle.picture.specs.Ways.{Way, on, out, leave}
+use Rattle.picture.specs.Slices as O
+use Rattle.picture.specs.Pictures as P
+use Rattle.standard.specs.Standard as S
+use Rattle.standard.proofs.Agreement.{Meets, TurnMeets, Agree, a-loop}
+use Rattle.standard.proofs.Related.{Related, Rule, coding}
+use Rattle.standard.proofs.Slice.{Begun, slice-agrees}
+
+-- a slice start code is no picture start code
+not-picture : (c : ℤ) → P.isSlice c ≡ true → eqZ c (pos 0) ≡ false
+not-picture (pos zero) h = absurd (false≢true h)
+not-picture (pos (suc n)) h = ne-eqb (suc n) 0 (λ e. omega arith)
+not-picture (negsuc n) h = absurd (false≢true h)
+
+module _ (rule : Rule) (g : Given) (df db : S.Direction) (s : List ℕ) (long : length s ≤ 16777216) (ty : ℕ) (st : Stores) where
+  abbrev C : S.Coding
+  C = coding rule g df db
+
+  -- a macroblock leaves what a slice begins with
+  begun-again : (x : S.Variables) (w : World) → Related C false x w → Begun df db (w .slice)
+  begun-again x w r =
+      record {
+        forSet = r .o .forSet;
+        backSet = r .o .backSet;
+        for = S.forStart C false x;
+        back = S.backStart C false x;
+        forward = ap (λ (w : World). w .slice .«motion_forward») (r .is);
+        backward = ap (λ (w : World). w .slice .«motion_backward») (r .is);
+        left = ap (λ (w : World). w .slice .«block_data») (r .is);
+      }
+
+  -- what the standard knows of a frame between slices, and behind them
+  pub record Shown (l : List ℕ) (f : P.Frame) : Type 0 where
+    pub pels : f .store ≡ l
+    pub begun : Begun df db (f .picture .slice)
+    pub type : f .picture .«picture_type» ≡ ty
+    pub stores : f .picture .stores ≡ st
+
+  -- behind them the frame has the code of a slice, not of a picture
+  pub record Ended (l : List ℕ) (f : P.Frame) : Type 0 where
+    pub shown : Shown l f
+    pub code : eqZ (f .picture .«start_code») (pos 0) ≡ false
+
+  pub record Kept (x : S.Slices) (y : P.Slices) : Type 0 where
+    pub same : y .begun ≡ x .begun
+    pub shown : Shown (x .pels) (y .frame)
+
+  abbrev Turns : Out (Turn S.Slices (Way (List ℕ))) → Out (Turn P.Slices (Way P.Frame)) → Type 0
+  Turns o u = TurnMeets Kept Ended (o .value) (o .at) (u .value) (u .at)
+
+  past-meets : (p : Picture) → p .«picture_type» ≡ ty → p .stores ≡ st → eqZ (p .«start_code») (pos 0) ≡ false
+      → (x : S.Variables) (w : World) (e : ℕ) → Related C false x w
+      → Turns (run (S.pastSlice C (on x)) s e) (run (P.pastSlice g p (on w)) s e)
+  unfolding S.pastSlice P.pastSlice run
+  past-meets p pt ps pc x w e r = go (ltZ (prev +ℤ pos 1) (pos n)) refl (leZ (pos n) (w .slice .«macroblock_address» +ℤ pos 1)) refl
+    where
+      prev : ℤ
+      prev = x .«previous_macroblock_address»
+
+      n : ℕ
+      n = g .sizes .«mb_size»
+
+      address : leZ (pos n) (w .slice .«macroblock_address» +ℤ pos 1) ≡ leZ (pos n) (prev +ℤ pos 1)
+      address = ap (λ (w : World). leZ (pos n) (w .slice .«macroblock_address» +ℤ pos 1)) (r .is)
+
+      shown : Shown (x .pels) (P.frame (sliceAs (w .slice) p) (w .store))
+      shown = record { pels = ap (λ (w : World). w .store) (r .is); begun = begun-again x w r; type = pt; stores = ps }
+
+      go : (more : Bool) → ltZ (prev +ℤ pos 1) (pos n) ≡ more → (last : Bool) → leZ (pos n) (w .slice .«macroblock_address» +ℤ pos 1) ≡ last
+          → Turns (run (cond more (done (again (record { begun = true; pels = x .pels }))) (done (stop (on (x .pels))))) s e)
+          (run (cond last (done (stop (on (P.frame (sliceAs (w .slice) p) (w .store)))))
+          (done (again (P.slicesOf true (P.frame (sliceAs (w .slice) p) (w .store)))))) s e)
+      go true h false k = (refl, record { same = refl; shown = shown })
+      go false h true k = (refl, record { shown = shown; code = pc })
+      go true h true k =
+          let a = lt-yes (v prev ⊕ lit 1) (lit n) h in
+          let b = le-yes (lit n) (v prev ⊕ lit 1) (sym address ∙ k) in
+          let z : ⊥ = omega arith in
+          absurd z
+      go false h false k =
+          let a = lt-no (v prev ⊕ lit 1) (lit n) h in
+          let b = le-no (lit n) (v prev ⊕ lit 1) (sym address ∙ k) in
+          let z : ⊥ = omega arith in
+          absurd z
+
+  left : (n : ℕ) (l : List ℕ) (e : ℕ) (u : Out (Turn P.Slices (Way P.Frame))) → Turns (run (S.pastSlice C (out n l)) s e) u
+  unfolding S.pastSlice run
+  left n l e u = tt
+
+  -- a slice, in the frame that has kept its start code
+  slice-meets : (c : ℤ) (l : List ℕ) (p : Picture) → p .«picture_type» ≡ ty → p .stores ≡ st → eqZ (p .«start_code») (pos 0) ≡ false
+      → (k : List ℕ) (e : ℕ) → k ≡ l → Begun df db (p .slice)
+      → Turns (run (bind (S.slice C (natAbs c) l) (S.pastSlice C)) s e) (run (bind (O.slice g (natAbs c) (world (p .slice) k)) (P.pastSlice g p)) s e)
+  slice-meets c l p pt ps pc k e same b =
+      subst (λ (l : List ℕ). Turns (run (bind (S.slice C (natAbs c) l) (S.pastSlice C)) s e)
+      (run (bind (O.slice g (natAbs c) (world (p .slice) k)) (P.pastSlice g p)) s e)) same
+      (rw (run-bind (S.slice C (natAbs c) k) (S.pastSlice C) s e, run-bind (O.slice g (natAbs c) (world (p .slice) k)) (P.pastSlice g p) s e)
+      (go (run (S.slice C (natAbs c) k) s e .value) (run (S.slice C (natAbs c) k) s e .at) _ _
+      (slice-agrees rule g df db s long (natAbs c) (world (p .slice) k) e b .is)))
+    where
+      go : (x : Way S.Variables) (e : ℕ) (y : Way World) (j : ℕ) → Meets (Related C false) x e y j
+          → Turns (run (S.pastSlice C x) s e) (run (P.pastSlice g p y) s j)
+      go (on x) e (on y) j m = subst (λ (j : ℕ). Turns (run (S.pastSlice C (on x)) s e) (run (P.pastSlice g p (on y)) s j)) (m .0)
+          (past-meets p pt ps pc x y e (m .1))
+      go (on x) e (out n l) j m = absurd m
+      go (out n l) e y j m = left n l e _
+
+  turn-meets : (x : S.Slices) (y : P.Slices) (a : ℕ) → Kept x y → Turns (run (S.slicesTurn C x) s a) (run (P.slicesTurn g y) s a)
+  unfolding S.slicesTurn P.slicesTurn bind run
+  turn-meets x y a i = go (P.isSlice (found s a .code)) refl (P.isExtra (found s a .code)) (y .begun) (x .begun) (i .same)
+    where
+      c : ℤ
+      c = found s a .code
+
+      e : ℕ
+      e = found s a .at
+
+      p : Picture
+      p = startCodeAs c (y .frame .picture)
+
+      go : (t : Bool) → P.isSlice c ≡ t → (u yb xb : Bool) → yb ≡ xb
+          → Turns (run (cond t (bind (S.slice C (natAbs c) (x .pels)) (S.pastSlice C))
+          (cond (u && not xb) (done (again (record { begun = false; pels = x .pels }))) (done (stop S.forbidden)))) s e)
+          (run (cond t (bind (O.slice g (natAbs c) (world (p .slice) (y .frame .store))) (P.pastSlice g p))
+          (cond (u && not yb) (done (again (P.slicesOf false (P.frame p (y .frame .store))))) (done (stop (on (P.frame p (y .frame .store))))))) s e)
+      go true h u yb xb q = slice-meets c (x .pels) p (i .shown .type) (i .shown .stores) (not-picture c h) (y .frame .store) e (i .shown .pels) (i .shown .begun)
+      go false h false yb xb q = tt
+      go false h true false false q =
+          (refl, record { same = refl; shown = record { pels = i .shown .pels; begun = i .shown .begun; type = i .shown .type; stores = i .shown .stores } })
+      go false h true false true q = tt
+      go false h true true false q = absurd (false≢true (sym q))
+      go false h true true true q = tt
+
+  -- 2.4.2.5: the standard's slices of a picture and ours: the same store, at the same place
+  pub slices-agree : (f : P.Frame) (a : ℕ) → Begun df db (f .picture .slice) → f .picture .«picture_type» ≡ ty → f .picture .stores ≡ st
+      → Agree Ended s a (S.slices C (f .store)) (P.slices g f)
+  unfolding S.slices P.slices
+  slices-agree f a b pt ps = a-loop Kept Ended s (S.slicesTurn C) (P.slicesTurn g) (on f) turn-meets many _ (P.slicesOf false f) a
+      (record { same = refl; shown = record { pels = refl; begun = b; type = pt; stores = ps } })
