@@ -1,0 +1,4 @@
+// Lists the pictures of a stream on standard input (RULES L).
+mod text;
+
+fn main() {}
