@@ -6,6 +6,8 @@ use Prim.Native.Nat.{ℕ, zero, suc, _+_, _/_, _%_}
 use lib.Dec.{ltb}
 use lib.ListN.{length}
 use lib.Seq.{sets}
+use Rattle.decoder.specs.declared.answers.Outcome.{Outcome}
+use Rattle.decoder.specs.declared.answers.Outcome.the-variants as H
 use Rattle.decoder.specs.Listing.{Line, listing}
 
 -- a number in decimal digits, with no 0 in front, where n digits are enough
@@ -34,6 +36,10 @@ names =
 -- RULES L: what the program prints of the stream s
 unfoldable pub listingText : List ℕ → List ℕ
 listingText s = names ++ linesText (listing s)
+
+-- RULES L.3: the number that ends the calls
+abbrev pub numberIn : Outcome → ℕ
+numberIn x = elim x [ H.Picture p ↦ 0 | H.Refused n ↦ n ]
 
 -- the text t is written to the page from the place at on: every byte of the page, and the place behind t
 pub record Wrote (page : List ℕ) (at : ℕ) (t after : List ℕ) (next : ℕ) : Type 0 where

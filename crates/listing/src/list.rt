@@ -1,0 +1,60 @@
+// The text of the listing.
+use crate::text::write_bytes;
+use crate::text::write_line;
+use decoder::answers::Opening;
+use decoder::answers::Outcome;
+use decoder::record::Decoder;
+ghost use mathlib.Core.Path.{_≡_};
+ghost use Prim.Native.Nat.{_≤_};
+ghost use lib.ListN.{length, replicate, take};
+ghost use Rattle.io.specs.Counts.{Counts};
+ghost use Rattle.listing.specs.Text.{numberIn, listingText};
+
+// The number of an answer that is no picture.
+fn number(outcome: Outcome) -> u64
+    ensures { λ r. ⌜ r ≡ numberIn outcome ⌝ }
+{
+    match outcome {
+        Outcome::Picture(_) => 0,
+        Outcome::Refused(answer) => answer as u64,
+    }
+}
+
+// RULES L.1: room for the three stores of 48 macroblocks.
+fn empty_store() -> [u8; 55296]
+    ensures { λ r. ⌜ r ≡ replicate 55296 0 ⌝ }
+{
+    [0; 55296]
+}
+
+// Writes the listing of a stream to a page, and answers how many bytes it has. RULES R.1: a stream of 65,536 bytes has at most 18,079 pictures, and a
+// line at most 84 bytes.
+pub fn list(stream: &[u8], page: &mut [u8]) -> usize
+    requires { ⌜ 1572864 ≤ length (now page) ⌝ }
+    ensures { λ r. ⌜ take r (now (page .exit)) ≡ listingText (now (stream .entry)) ⌝ }
+    ensures { λ r. ⌜ Counts r (now (page .exit)) ⌝ }
+{
+    let mut at = write_bytes(page, 0, b"handed store type answer\n");
+    if 65536 < stream.len() {
+        return write_line(page, at, 0, 0, 0, 1);
+    }
+    let mut store = empty_store();
+    let opened = Decoder::open(stream, &mut store);
+    let opening = opened.answer;
+    if let Opening::Refused(answer) = opening {
+        return write_line(page, at, 0, 0, 0, answer as u64);
+    }
+    let mut decoder = opened.decoder;
+    let mut handed: u64 = 0;
+    loop {
+        let call = decoder.decode(stream, &mut store);
+        decoder = call.decoder;
+        let outcome = call.outcome;
+        let Outcome::Picture(shown) = outcome else {
+            return write_line(page, at, handed, 0, 0, number(outcome));
+        };
+        handed += 1;
+        let kind = decoder.picture.picture_type as u64;
+        at = write_line(page, at, handed, shown.store as u64, kind, 0);
+    }
+}
