@@ -1,18 +1,18 @@
 -- Where a record fits: what question 2 asks for is enough, and the changes of the record keep it. Assumes nothing.
-use mathlib.Core.Path.{_≡_, refl, sym, ap₂, subst, _∙_}
+use mathlib.Core.Path.{_≡_, refl, subst}
 use mathlib.Core.Bool.{Bool, true, false, cond, _&&_, _||_}
 use mathlib.Core.List.{List, [], _∷_}
-use Prim.Native.Nat.{ℕ, _+_, _*_, _/_, _≤_}
+use Prim.Native.Nat.{ℕ, _*_, _≤_}
 use native.Mathlib.Omega.{arith}
 use lib.Dec.{eqb, leb}
-use lib.IntN.{ℤ, pos, negsuc, negℤ}
+use lib.IntN.{ℤ, pos, negℤ}
 use borrow.Author.Tests.{eqb-true, leb-true}
 use Rattle.laws.proofs.Tests.{each}
 use Rattle.bits.specs.declared.reader.Reader.{Reader}
-use Rattle.bits.specs.Programs.{Out, run, findStartCode}
+use Rattle.bits.specs.Programs.{Out, findStartCode}
 use Rattle.bits.specs.Runs.{Reading}
 use Rattle.picture.specs.declared.state.Sizes.{Sizes}
-use Rattle.picture.specs.Possible.{between, possiblePicture, PossiblePicture}
+use Rattle.picture.specs.Possible.{between, possiblePicture}
 use Rattle.picture.proofs.Possible.{picture-of}
 use Rattle.decoder.specs.declared.record.Sequence.{Sequence}
 use Rattle.decoder.specs.declared.record.Decoder.{Decoder}

@@ -1,6 +1,6 @@
 -- The steps of a turn, one law for each way out. Assumes nothing.
-use mathlib.Core.Path.{_≡_, refl, ap, sym, _∙_}
-use mathlib.Core.Bool.{Bool, true, false, cond, _&&_}
+use mathlib.Core.Path.{_≡_, _∙_}
+use mathlib.Core.Bool.{Bool, true, false, _&&_}
 use mathlib.Core.List.{List}
 use Prim.Native.Nat.{ℕ}
 use lib.Dec.{eqb}
@@ -10,7 +10,7 @@ use Rattle.decoder.specs.declared.turns.Turned.{Turned}
 use Rattle.decoder.specs.declared.answers.Outcome.the-variants.{Refused}
 use Rattle.decoder.specs.Record.{place, heldAs}
 use Rattle.decoder.specs.Turns.{Going, going, Ended, gave, hasEnded, isReference, pictureAt, handed, shown, flushed}
-use Rattle.decoder.specs.Turned.{Shows, turnOf}
+use Rattle.decoder.specs.Turned.{Shows}
 
 -- an end of the turns
 abbrev ends : Ended → Turn Going Ended

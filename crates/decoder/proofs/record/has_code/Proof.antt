@@ -1,4 +1,3 @@
-use mir.Syntax.{w32}
 use borrow.Author.Needs.{sfits-of}
 use Rattle.decoder.proofs.Seeking.{eq-test}
 use Rattle.decoder.proofs.record.has_code.Statement.{statement}

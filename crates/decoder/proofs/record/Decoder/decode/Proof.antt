@@ -1,6 +1,6 @@
 -- `Decoder::decode` meets its contract, at each "no" and behind all questions.
 use denote.Ref.{now}
-use mathlib.Core.Path.{_≡_, refl, sym, _∙_}
+use mathlib.Core.Path.{refl, sym, _∙_}
 use borrow.Author.Tests.{not-true, not-false}
 use borrow.Author.Needs.{needs}
 use Rattle.decoder.proofs.Fits.{fit-of}
