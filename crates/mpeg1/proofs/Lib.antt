@@ -1,0 +1,6 @@
+pub mod Begins
+pub mod Copies
+pub mod Crossing
+pub mod Elements
+pub mod Lengths
+pub mod RoundTrip

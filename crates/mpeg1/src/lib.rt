@@ -1,0 +1,4 @@
+// The calls of `decoder` for C and Rust hosts. The record crosses as numbers and floats in memory that the host owns.
+mod fields;
+mod reading;
+mod writing;
