@@ -1,4 +1,5 @@
 -- The record in memory that a host owns: 222 numbers and four floats.
+use mathlib.Core.Path.{_≡_}
 use mathlib.Core.Bool.{Bool, true, false, _&&_}
 use mathlib.Core.List.{List, [], _∷_, _++_, map}
 use Prim.Native.Nat.{ℕ, _+_}
@@ -121,3 +122,8 @@ begins (a ∷ x) (b ∷ l) = eqZ a b && begins x l
 -- a memory holds a record where that, written again, gives the same numbers: each is a value of its field's type
 unfoldable pub isRecord : List ℤ → List Float → Bool
 isRecord n c = leb 222 (length n) && leb 4 (length c) && begins (numbersOf (recordOf n c)) n
+
+-- it holds the record d
+pub record Holds (n : List ℤ) (c : List Float) (d : Decoder) : Type 0 where
+  pub is : isRecord n c ≡ true
+  pub record-is : recordOf n c ≡ d
