@@ -1,0 +1,165 @@
+// A case: what the calls begin with, and which calls are made. Both sides make them, and everything is compared after each.
+use crate::difference::{self, Difference};
+use crate::ours::{Lent, Ours};
+use crate::record::Record;
+use crate::reference::{Answer, Reference};
+use crate::tally::{Call, Tally};
+
+// A conversion after so many hand-outs.
+#[derive(Clone, Copy)]
+pub struct Conversion {
+    pub after: usize,
+    pub index: usize,
+    pub width: usize,
+    pub height: usize,
+    pub area: usize,
+}
+
+pub struct Case {
+    // The record that is passed in; with none the stream is opened.
+    pub begin: Option<Record>,
+    pub stream: Vec<u8>,
+    pub store: Vec<u8>,
+    pub most: usize,
+    pub conversions: Vec<Conversion>,
+    pub noise: u32,
+}
+
+// One bit of ours that is turned over before comparing, so that a test can see that the comparison finds it.
+#[derive(Clone, Copy, PartialEq, Debug)]
+pub enum Damage {
+    Opening,
+    Answer,
+    Shown,
+    Time,
+    Number(usize),
+    Clock(usize),
+    Store(usize),
+    Conversion,
+    Pixel(usize),
+}
+
+struct Run<'a> {
+    case: &'a Case,
+    tally: &'a mut Tally,
+    damage: Option<Damage>,
+    ours: Ours,
+    reference: Reference,
+}
+
+impl Case {
+    pub fn run(&self, tally: &mut Tally) -> Result<(), Difference> {
+        self.run_damaged(tally, None)
+    }
+
+    pub fn run_damaged(&self, tally: &mut Tally, damage: Option<Damage>) -> Result<(), Difference> {
+        tally.cases += 1;
+        let begin = self.begin.clone();
+        // the record before an opening is any: opening does not read it
+        let mut ours = Ours::from(&begin.clone().unwrap_or_else(unset), &self.store);
+        let (reference, opened) = match begin {
+            Some(record) => (Reference::from(record, self.store.clone(), self.noise), None),
+            None => {
+                let said = ours.open(&self.stream) ^ (damage == Some(Damage::Opening)) as u32;
+                let (reference, number) = Reference::open(&self.stream, self.store.clone());
+                tally.add(Call::Opening, number);
+                difference::answers("opening", said, number)?;
+                (reference, Some(number))
+            }
+        };
+        let mut run = Run { case: self, tally, damage, ours, reference };
+        if opened.is_some() {
+            run.compare("opening")?;
+        }
+        run.convert_after(0)?;
+        run.hand_outs()
+    }
+}
+
+fn unset() -> Record {
+    Record { numbers: [-3; crate::record::NUMBERS], clock: [-3.5; 4] }
+}
+
+impl Run<'_> {
+    // Up to the most, or until a number comes twice; behind a 5 the next call tries at another place (RULES Q5).
+    fn hand_outs(&mut self) -> Result<(), Difference> {
+        let mut last = 0;
+        for call in 1..=self.case.most {
+            let number = self.hand_out(call)?;
+            self.convert_after(call)?;
+            if number != 0 && number != 5 && number == last {
+                break;
+            }
+            last = number;
+        }
+        Ok(())
+    }
+
+    fn hand_out(&mut self, call: usize) -> Result<u32, Difference> {
+        let stream = &self.case.stream;
+        let said = damaged(self.ours.hand_out(stream), self.damage);
+        let answer = self.reference.hand_out(stream);
+        self.tally.add(Call::HandOut, answer.number());
+        let what = format!("hand-out {call}");
+        difference::answers(&what, said.number(), answer.number())?;
+        if let (Answer::Picture { shown, time }, Answer::Picture { shown: store, time: shown_time }) = (said, answer) {
+            difference::values(&what, "store shown", shown as i64, store as i64)?;
+            difference::floats(&what, "time", time, shown_time)?;
+        }
+        self.compare(&what)?;
+        Ok(answer.number())
+    }
+
+    // Record and store, whole.
+    fn compare(&mut self, what: &str) -> Result<(), Difference> {
+        match self.damage {
+            Some(Damage::Number(at)) => self.ours.numbers.all()[at] ^= 1,
+            Some(Damage::Clock(at)) => flip(&mut self.ours.clock.all()[at]),
+            Some(Damage::Store(at)) => self.ours.store.all()[at] ^= 1,
+            _ => (),
+        }
+        difference::records(what, &mut self.ours, &self.reference.record)?;
+        difference::stores(what, &mut self.ours, &self.reference.store)
+    }
+
+    fn convert_after(&mut self, call: usize) -> Result<(), Difference> {
+        let case = self.case;
+        for conversion in case.conversions.iter().filter(|conversion| conversion.after == call) {
+            self.convert(conversion)?;
+        }
+        Ok(())
+    }
+
+    fn convert(&mut self, conversion: &Conversion) -> Result<(), Difference> {
+        let Conversion { after, index, width, height, area } = *conversion;
+        let mut expected: Vec<u32> = (0..area as u32).map(|at| at.wrapping_mul(0x9e37_79b9)).collect();
+        let mut pixels = Lent::new(&expected, 0x5a5a_5a5a);
+        let said = self.ours.convert(index, &mut pixels, width, height) ^ (self.damage == Some(Damage::Conversion)) as u32;
+        let number = self.reference.convert(index, &mut expected, width, height);
+        self.tally.add(Call::Conversion, number);
+        let what = format!("conversion of store {index} to {width}x{height} in {area} after {after} hand-outs");
+        difference::answers(&what, said, number)?;
+        if let Some(Damage::Pixel(at)) = self.damage {
+            pixels.all()[at] ^= 1;
+        }
+        difference::areas(&what, &mut pixels, &expected)?;
+        self.compare(&what)
+    }
+}
+
+fn flip(value: &mut f64) {
+    *value = f64::from_bits(value.to_bits() ^ 1);
+}
+
+fn damaged(answer: Answer, damage: Option<Damage>) -> Answer {
+    match (answer, damage) {
+        (Answer::Number(number), Some(Damage::Answer)) => Answer::Number(number ^ 1),
+        (Answer::Picture { .. }, Some(Damage::Answer)) => Answer::Number(1),
+        (Answer::Picture { shown, time }, Some(Damage::Shown)) => Answer::Picture { shown: shown ^ 1, time },
+        (Answer::Picture { shown, mut time }, Some(Damage::Time)) => {
+            flip(&mut time);
+            Answer::Picture { shown, time }
+        }
+        (answer, _) => answer,
+    }
+}

@@ -1,0 +1,120 @@
+// Our calls, those of the archive, on memory with guards around it.
+use crate::record::{Record, NUMBERS};
+use crate::reference::Answer;
+
+extern "C" {
+    fn mpeg1_open(
+        stream: *const u8,
+        n: usize,
+        store: *mut u8,
+        m: usize,
+        numbers: *mut i64,
+        nn: usize,
+        clock: *mut f64,
+        nc: usize,
+    ) -> u32;
+    fn mpeg1_decode(
+        stream: *const u8,
+        n: usize,
+        store: *mut u8,
+        m: usize,
+        numbers: *mut i64,
+        nn: usize,
+        clock: *mut f64,
+        nc: usize,
+        shown: *mut usize,
+        time: *mut f64,
+    ) -> u32;
+    fn mpeg1_write_rgb_scaled(
+        store: *const u8,
+        m: usize,
+        numbers: *const i64,
+        nn: usize,
+        clock: *const f64,
+        nc: usize,
+        index: usize,
+        area: *mut u32,
+        na: usize,
+        width: usize,
+        height: usize,
+    ) -> u32;
+    fn mpeg1_record_numbers() -> usize;
+}
+
+// How many values stand before and behind lent memory, which no call may change.
+const GUARD: usize = 16;
+
+// Values that are lent, between guards.
+pub struct Lent<T> {
+    values: Vec<T>,
+    guard: T,
+}
+
+impl<T: Copy + PartialEq> Lent<T> {
+    pub fn new(given: &[T], guard: T) -> Self {
+        let values = [&[guard; GUARD], given, &[guard; GUARD]].concat();
+        Lent { values, guard }
+    }
+
+    fn len(&self) -> usize {
+        self.values.len() - 2 * GUARD
+    }
+
+    fn pointer(&mut self) -> *mut T {
+        self.all()[GUARD..].as_mut_ptr()
+    }
+
+    // With the guards.
+    pub fn all(&mut self) -> &mut [T] {
+        &mut self.values
+    }
+
+    pub fn inner(&mut self) -> &mut [T] {
+        let end = GUARD + self.len();
+        &mut self.values[GUARD..end]
+    }
+
+    pub fn guarded(&self) -> bool {
+        let kept = |part: &[T]| part.iter().all(|value| *value == self.guard);
+        kept(&self.values[..GUARD]) && kept(&self.values[GUARD + self.len()..])
+    }
+}
+
+pub struct Ours {
+    pub numbers: Lent<i64>,
+    pub clock: Lent<f64>,
+    pub store: Lent<u8>,
+}
+
+impl Ours {
+    pub fn from(record: &Record, store: &[u8]) -> Self {
+        Ours { numbers: Lent::new(&record.numbers, -77), clock: Lent::new(&record.clock, -7.5), store: Lent::new(store, 0x5a) }
+    }
+
+    pub fn open(&mut self, stream: &[u8]) -> u32 {
+        let (m, nn, nc) = (self.store.len(), self.numbers.len(), self.clock.len());
+        let (store, numbers, clock) = (self.store.pointer(), self.numbers.pointer(), self.clock.pointer());
+        unsafe { mpeg1_open(stream.as_ptr(), stream.len(), store, m, numbers, nn, clock, nc) }
+    }
+
+    pub fn hand_out(&mut self, stream: &[u8]) -> Answer {
+        let (m, nn, nc) = (self.store.len(), self.numbers.len(), self.clock.len());
+        let (store, numbers, clock) = (self.store.pointer(), self.numbers.pointer(), self.clock.pointer());
+        let (mut shown, mut time) = (usize::MAX, -1.0);
+        match unsafe { mpeg1_decode(stream.as_ptr(), stream.len(), store, m, numbers, nn, clock, nc, &mut shown, &mut time) } {
+            0 => Answer::Picture { shown, time },
+            number => Answer::Number(number),
+        }
+    }
+
+    pub fn convert(&mut self, index: usize, area: &mut Lent<u32>, width: usize, height: usize) -> u32 {
+        let (m, nn, nc, na) = (self.store.len(), self.numbers.len(), self.clock.len(), area.len());
+        let (store, numbers, clock) = (self.store.pointer(), self.numbers.pointer(), self.clock.pointer());
+        unsafe { mpeg1_write_rgb_scaled(store, m, numbers, nn, clock, nc, index, area.pointer(), na, width, height) }
+    }
+}
+
+// The archive's record is the one that record.rs describes.
+pub fn check_layout() {
+    assert_eq!(unsafe { mpeg1_record_numbers() }, NUMBERS, "numbers in a record of the archive");
+}
