@@ -15,6 +15,7 @@ mod conversions;
 mod damage;
 mod difference;
 mod hands;
+mod headers;
 mod kept;
 mod long;
 mod made;
@@ -73,6 +74,18 @@ fn read(path: &Path) -> Vec<u8> {
     std::fs::read(path).unwrap_or_else(|error| panic!("{}: {error}", path.display()))
 }
 
+// All pictures of these streams, with what their headers say.
+fn whole(paths: &[impl AsRef<Path>]) {
+    let mut headers = headers::Headers::default();
+    let cases = paths.iter().enumerate().map(|(n, path)| {
+        let stream = read(path.as_ref());
+        headers.add(&stream);
+        streams::whole(stream, &mut chance(1, n))
+    });
+    run("whole", cases);
+    println!("{headers}");
+}
+
 fn truncations(sources: &Sources, most: usize) -> impl Iterator<Item = Case> + '_ {
     let small = sources.public.iter().filter(move |stream| stream.len() <= most);
     small.flat_map(|stream| (0..=stream.len()).map(|end| streams::opened(stream[..end].to_vec(), &mut chance(7, end))))
@@ -90,14 +103,14 @@ fn main() {
     reference::quiet_panics();
     match given[1].as_str() {
         "selftest" => std::process::exit(!selftest::run(&read(&folder.join("ipb_16x16.m1v"))) as i32),
-        "whole" => run(&title, sources.public.iter().enumerate().map(|(n, stream)| streams::whole(stream.clone(), &mut chance(1, n)))),
+        "whole" => whole(&paths),
         "truncations" => run(&title, truncations(&sources, number(2))),
         "streams" => run(&title, (0..count()).map(|n| sources.case(&mut chance(seed(), n)))),
         "records" => run(&title, (0..count()).map(|n| hands::case(&sources.codes, &mut chance(seed(), n)))),
         "conversions" => run(&title, (0..count() / 10).map(|n| conversions::case(&mut chance(seed(), n)))),
         "long" => run(&title, long::cases(&sources.codes, &mut chance(seed(), 0)).into_iter()),
         "again" => run(&title, std::iter::once(kept::case(&String::from_utf8(read(Path::new(&given[2]))).expect("a text")))),
-        "files" => run("files", given[2..].iter().enumerate().map(|(n, path)| streams::whole(read(Path::new(path)), &mut chance(2, n)))),
+        "files" => whole(&given[2..]),
         _ => panic!("see main.rs"),
     }
 }

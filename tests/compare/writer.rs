@@ -48,9 +48,10 @@ impl Writer<'_> {
     // RULES 7.7 to 7.11. `last` is the last address that the slice is to reach.
     fn increment(&mut self, last: i32) {
         if self.is_wild() {
-            for _ in 0..1 + self.random.below(2) {
-                self.put_any_code(INCREMENT);
-            }
+            match self.random.below(4) {
+                0 => [35, 34].map(|value| self.put_code(INCREMENT, value)).len(),
+                more => (0..more).map(|_| self.put_any_code(INCREMENT)).count(),
+            };
             return;
         }
         while self.rarely(20) {
