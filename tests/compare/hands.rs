@@ -37,14 +37,17 @@ const BOUNDED: [(usize, i64, i64); 24] = [
 ];
 
 fn bounds(random: &mut Random) -> (usize, i64, i64) {
-    match random.below(32) {
-        0..=7 => {
-            let k = random.below(64);
-            let most = 2048 * premultiplier()[k] as i64;
-            (BLOCK + k, -most, most)
-        }
-        n => BOUNDED[n - 8],
+    let all = all_bounds();
+    match random.below(4) {
+        0 => all[random.below(all.len())],
+        _ => BOUNDED[random.below(BOUNDED.len())],
     }
+}
+
+// All fields that have bounds.
+fn all_bounds() -> Vec<(usize, i64, i64)> {
+    let most = |k: usize| 2048 * premultiplier()[k] as i64;
+    BOUNDED.into_iter().chain((0..64).map(|k| (BLOCK + k, -most(k), most(k)))).collect()
 }
 
 fn between(random: &mut Random, least: i64, greatest: i64) -> i64 {
@@ -184,12 +187,38 @@ pub fn lent(given: &[u8], record: &Record, random: &mut Random) -> Vec<u8> {
     store
 }
 
-pub fn case(codes: &Codes, random: &mut Random) -> Case {
+// A random stream, and what the Rust has after some calls.
+fn base(codes: &Codes, random: &mut Random) -> (Vec<u8>, Reference) {
     let stream = made::stream(codes, Random::new(random.wide() | 1));
     let (mut before, _) = Reference::open(&stream, vec![7; store_for(&stream).min(1152 * 80)]);
     for _ in 0..random.below(3) {
         before.hand_out(&stream);
     }
+    (stream, before)
+}
+
+// Each bounded field at both edges and one past them, by itself, on records that are possible otherwise; the sizes follow width and height.
+pub fn edges(codes: &Codes, random: &mut Random) -> Vec<Case> {
+    let (stream, before) = std::iter::repeat_with(|| base(codes, random))
+        .find(|(_, before)| before.record.has_header() && before.record.numbers[STOP] == 0)
+        .expect("a record that is possible");
+    let values = |(at, least, greatest): (usize, i64, i64)| [least - 1, least, greatest, greatest + 1].map(|value| (at, value));
+    let cases = all_bounds().into_iter().flat_map(values).map(|(at, value)| {
+        let mut record = before.record.clone();
+        record.numbers[at] = value;
+        if at == WIDTH || at == HEIGHT {
+            let n = &mut record.numbers;
+            let (across, down) = (macroblocks_over(n[WIDTH]), macroblocks_over(n[HEIGHT]));
+            n[MB_WIDTH..=MB_SIZE].copy_from_slice(&[across, down, across * down]);
+        }
+        let conversions = vec![Conversion { after: 0, index: 0, width: 3, height: 2, area: 6 }];
+        Case { begin: Some(record), stream: stream.clone(), store: before.store.clone(), most: 1, conversions, noise: random.next() }
+    });
+    cases.collect()
+}
+
+pub fn case(codes: &Codes, random: &mut Random) -> Case {
+    let (stream, before) = base(codes, random);
     let mut record = before.record.clone();
     for _ in 0..=random.below(4) {
         change(&mut record, random, &stream);

@@ -27,7 +27,7 @@ fn sequence_header(w: &mut Writer) {
     sizes(w);
     w.bits.start_code(0xb3);
     // tries that are refused by 5
-    while w.rarely(100) {
+    while w.rarely(30) {
         let (width, height) = w.random.one_of(&[(0, 0), (0, 16), (16, 0)]);
         w.bits.put(12, width);
         w.bits.put(12, height);
@@ -201,7 +201,7 @@ pub fn stream(codes: &Codes, random: Random) -> Vec<u8> {
     if w.rarely(3) {
         fill(&mut w);
     }
-    for _ in 0..1 + w.random.below(4) {
+    for _ in 0..1 + w.random.below(6) {
         picture(&mut w);
         if w.rarely(12) {
             other_unit(&mut w);

@@ -5,6 +5,7 @@
 //        compare FOLDER truncations MOST    those of at most MOST bytes, cut after each byte
 //        compare FOLDER streams SEED COUNT  random streams, damaged ones among them
 //        compare FOLDER records SEED COUNT  single calls on records made by hand
+//        compare FOLDER edges SEED COUNT    each bound of question 2, at its edge and past it, on COUNT records
 //        compare FOLDER conversions SEED COUNT
 //        compare FOLDER long SEED           the largest streams, pictures and outputs
 //        compare FOLDER again FILE          a case that was kept
@@ -107,6 +108,7 @@ fn main() {
         "truncations" => run(&title, truncations(&sources, number(2))),
         "streams" => run(&title, (0..count()).map(|n| sources.case(&mut chance(seed(), n)))),
         "records" => run(&title, (0..count()).map(|n| hands::case(&sources.codes, &mut chance(seed(), n)))),
+        "edges" => run(&title, (0..count()).flat_map(|n| hands::edges(&sources.codes, &mut chance(seed(), n)))),
         "conversions" => run(&title, (0..count() / 10).map(|n| conversions::case(&mut chance(seed(), n)))),
         "long" => run(&title, long::cases(&sources.codes, &mut chance(seed(), 0)).into_iter()),
         "again" => run(&title, std::iter::once(kept::case(&String::from_utf8(read(Path::new(&given[2]))).expect("a text")))),

@@ -66,12 +66,12 @@ impl Sources {
 
     pub fn case(&self, random: &mut Random) -> Case {
         let stream = match random.below(20) {
-            0 => damaged(self.beginning(random), self.beginning(random), random),
-            1 => {
+            0..=1 => damaged(self.beginning(random), self.beginning(random), random),
+            2 => {
                 let (a, b) = (self.made(random), self.made(random));
                 damaged(&a, &b, random)
             }
-            2..=6 => {
+            3..=6 => {
                 let made = self.made(random);
                 damaged(&made, &made, random)
             }
