@@ -47,7 +47,11 @@ fn conversion(random: &mut Random, record: &Record) -> Conversion {
     // one of the two is small where the other is large
     if width.min(4096) * height.min(4096) > 60_000 {
         let small = random.below(13);
-        if random.below(2) == 0 { width = small } else { height = small }
+        if random.below(2) == 0 {
+            width = small
+        } else {
+            height = small
+        }
     }
     let product = width.saturating_mul(height);
     let product = if product > 60_000 { random.below(60) } else { product };

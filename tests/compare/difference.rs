@@ -9,11 +9,19 @@ fn differ<T: std::fmt::Display>(what: &str, thing: &str, ours: T, rust: T) -> Re
 }
 
 pub fn answers(what: &str, ours: u32, rust: u32) -> Result<(), Difference> {
-    if ours == rust { Ok(()) } else { differ(what, "answer", ours, rust) }
+    if ours == rust {
+        Ok(())
+    } else {
+        differ(what, "answer", ours, rust)
+    }
 }
 
 pub fn values(what: &str, thing: &str, ours: i64, rust: i64) -> Result<(), Difference> {
-    if ours == rust { Ok(()) } else { differ(what, thing, ours, rust) }
+    if ours == rust {
+        Ok(())
+    } else {
+        differ(what, thing, ours, rust)
+    }
 }
 
 // Bit by bit.
@@ -25,7 +33,11 @@ pub fn floats(what: &str, thing: &str, ours: f64, rust: f64) -> Result<(), Diffe
 }
 
 fn guards<T: Copy + PartialEq>(what: &str, thing: &str, lent: &Lent<T>) -> Result<(), Difference> {
-    if lent.guarded() { Ok(()) } else { Err(Difference(format!("{what}: {thing}: ours has changed memory outside it"))) }
+    if lent.guarded() {
+        Ok(())
+    } else {
+        Err(Difference(format!("{what}: {thing}: ours has changed memory outside it")))
+    }
 }
 
 pub fn records(what: &str, ours: &mut Ours, rust: &Record) -> Result<(), Difference> {

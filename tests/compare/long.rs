@@ -9,7 +9,11 @@ use crate::reference::{store_for, LONGEST};
 // A stream that is filled up: behind its end, or before its beginning.
 fn filled(stream: &[u8], length: usize, byte: u8, before: bool) -> Vec<u8> {
     let filling = vec![byte; length - stream.len()];
-    if before { [&filling, stream].concat() } else { [stream, &filling].concat() }
+    if before {
+        [&filling, stream].concat()
+    } else {
+        [stream, &filling].concat()
+    }
 }
 
 fn lengths(codes: &Codes, random: &mut Random) -> Vec<Case> {

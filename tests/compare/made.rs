@@ -18,7 +18,7 @@ fn matrix(w: &mut Writer) {
 // Macroblocks across and down, few most often.
 fn sizes(w: &mut Writer) {
     (w.across, w.down) = match w.random.below(40) {
-        0 => w.random.one_of(&[(40, 1), (1, 12), (8, 6), (5, 4), (1, 40), (70, 1)]),
+        0 => w.random.one_of(&[(40, 1), (1, 12), (8, 6), (5, 4), (1, 40), (70, 1), (1, 180)]),
         _ => w.random.one_of(&[(1, 1), (1, 1), (2, 1), (1, 2), (2, 2), (3, 1), (3, 2), (2, 3)]),
     };
 }
@@ -163,7 +163,11 @@ fn last_picture(w: &mut Writer) -> usize {
     for block in 1..=blocks {
         w.block(block.min(5), true);
     }
-    if w.rarely(2) { 0 } else { w.random.below(30) }
+    if w.rarely(2) {
+        0
+    } else {
+        w.random.below(30)
+    }
 }
 
 // 136 bytes behind the sequence start code pass question 4 (RULES H).

@@ -3,16 +3,7 @@ use crate::record::{Record, NUMBERS};
 use crate::reference::Answer;
 
 extern "C" {
-    fn mpeg1_open(
-        stream: *const u8,
-        n: usize,
-        store: *mut u8,
-        m: usize,
-        numbers: *mut i64,
-        nn: usize,
-        clock: *mut f64,
-        nc: usize,
-    ) -> u32;
+    fn mpeg1_open(stream: *const u8, n: usize, store: *mut u8, m: usize, numbers: *mut i64, nn: usize, clock: *mut f64, nc: usize) -> u32;
     fn mpeg1_decode(
         stream: *const u8,
         n: usize,

@@ -144,10 +144,7 @@ impl Reference {
     fn call(&mut self, stream: &[u8], none: u32) -> Answer {
         let (record, store, noise) = (&self.record, &self.store, self.noise);
         let (video, asking) = self.videos.get_or_insert_with(|| {
-            (
-                unchanged::video::Video::from_record(record, stream, store, noise),
-                asking::video::Video::from_record(record, stream, store, !noise),
-            )
+            (unchanged::video::Video::from_record(record, stream, store, noise), asking::video::Video::from_record(record, stream, store, !noise))
         });
         let asked = caught(|| asking.decode());
         let given = caught(|| video.decode());
