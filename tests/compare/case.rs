@@ -1,7 +1,7 @@
 // A case: what the calls begin with, and which calls are made. Both sides make them, and everything is compared after each.
 use crate::difference::{self, Difference};
-use crate::ours::{Lent, Ours};
-use crate::record::Record;
+use crate::ours::{Lent, Ours, NOT_SHOWN, NO_TIME};
+use crate::record::{Record, NUMBERS};
 use crate::reference::{Answer, Reference};
 use crate::tally::{Call, Tally};
 
@@ -23,7 +23,12 @@ pub struct Case {
     pub most: usize,
     pub conversions: Vec<Conversion>,
     pub noise: u32,
+    // how many numbers and floats the memory for the record has
+    pub lent: [usize; 2],
 }
+
+// Room for a record and no more.
+pub const ROOM: [usize; 2] = [NUMBERS, 4];
 
 // One bit of ours that is turned over before comparing, so that a test can see that the comparison finds it.
 #[derive(Clone, Copy, PartialEq, Debug)]
@@ -48,6 +53,10 @@ struct Run<'a> {
 }
 
 impl Case {
+    fn has_room(&self) -> bool {
+        self.lent[0] >= ROOM[0] && self.lent[1] >= ROOM[1]
+    }
+
     pub fn run(&self, tally: &mut Tally) -> Result<(), Difference> {
         self.run_damaged(tally, None)
     }
@@ -56,17 +65,21 @@ impl Case {
         tally.cases += 1;
         let begin = self.begin.clone();
         // the record before an opening is any: opening does not read it
-        let mut ours = Ours::from(&begin.clone().unwrap_or_else(unset), &self.store);
+        let mut ours = Ours::from(&begin.clone().unwrap_or_else(unset), &self.store, self.lent);
         let (reference, opened) = match begin {
             Some(record) => (Reference::from(record, self.store.clone(), self.noise), None),
             None => {
                 let said = ours.open(&self.stream) ^ (damage == Some(Damage::Opening)) as u32;
-                let (reference, number) = Reference::open(&self.stream, self.store.clone());
+                let (reference, number) = match self.has_room() {
+                    true => Reference::open(&self.stream, self.store.clone()),
+                    false => (Reference::from(unset(), self.store.clone(), 0), 2),
+                };
                 tally.add(Call::Opening, number);
                 difference::answers("opening", said, number)?;
                 (reference, Some(number))
             }
         };
+        let reference = if self.has_room() { reference } else { reference.without_room() };
         let mut run = Run { case: self, tally, damage, ours, reference };
         if opened.is_some() {
             run.compare("opening")?;
@@ -77,7 +90,7 @@ impl Case {
 }
 
 fn unset() -> Record {
-    Record { numbers: [-3; crate::record::NUMBERS], clock: [-3.5; 4] }
+    Record { numbers: [-3; NUMBERS], clock: [-3.5; 4] }
 }
 
 impl Run<'_> {
@@ -97,15 +110,22 @@ impl Run<'_> {
 
     fn hand_out(&mut self, call: usize) -> Result<u32, Difference> {
         let stream = &self.case.stream;
-        let said = damaged(self.ours.hand_out(stream), self.damage);
+        let said = self.ours.hand_out(stream) ^ (self.damage == Some(Damage::Answer)) as u32;
+        match self.damage {
+            Some(Damage::Shown) => self.ours.shown ^= 1,
+            Some(Damage::Time) => flip(&mut self.ours.time),
+            _ => (),
+        }
         let answer = self.reference.hand_out(stream);
         self.tally.add(Call::HandOut, answer.number());
         let what = format!("hand-out {call}");
-        difference::answers(&what, said.number(), answer.number())?;
-        if let (Answer::Picture { shown, time }, Answer::Picture { shown: store, time: shown_time }) = (said, answer) {
-            difference::values(&what, "store shown", shown as i64, store as i64)?;
-            difference::floats(&what, "time", time, shown_time)?;
-        }
+        difference::answers(&what, said, answer.number())?;
+        let (shown, time) = match answer {
+            Answer::Picture { shown, time } => (shown, time),
+            Answer::Number(_) => (NOT_SHOWN, NO_TIME),
+        };
+        difference::values(&what, "store shown", self.ours.shown as i64, shown as i64)?;
+        difference::floats(&what, "time", self.ours.time, time)?;
         self.compare(&what)?;
         Ok(answer.number())
     }
@@ -149,17 +169,4 @@ impl Run<'_> {
 
 fn flip(value: &mut f64) {
     *value = f64::from_bits(value.to_bits() ^ 1);
-}
-
-fn damaged(answer: Answer, damage: Option<Damage>) -> Answer {
-    match (answer, damage) {
-        (Answer::Number(number), Some(Damage::Answer)) => Answer::Number(number ^ 1),
-        (Answer::Picture { .. }, Some(Damage::Answer)) => Answer::Number(1),
-        (Answer::Picture { shown, time }, Some(Damage::Shown)) => Answer::Picture { shown: shown ^ 1, time },
-        (Answer::Picture { shown, mut time }, Some(Damage::Time)) => {
-            flip(&mut time);
-            Answer::Picture { shown, time }
-        }
-        (answer, _) => answer,
-    }
 }

@@ -1,5 +1,5 @@
 // Conversions of pictures with any bytes: sizes around 0, 1, odd ones, 4096 and 4097, areas around the product, and refusals.
-use crate::case::{Case, Conversion};
+use crate::case::{Case, Conversion, ROOM};
 use crate::random::Random;
 use crate::record::*;
 
@@ -81,5 +81,5 @@ pub fn case(random: &mut Random) -> Case {
     let extreme = random.below(4) == 0;
     let store = (0..length).map(|_| if extreme { random.one_of(&[0, 1, 15, 16, 17, 127, 128, 235, 236, 254, 255]) } else { random.next() as u8 }).collect();
     let conversions = (0..10).map(|_| conversion(random, &record)).collect();
-    Case { begin: Some(record), stream: Vec::new(), store, most: 0, conversions, noise: 0 }
+    Case { begin: Some(record), stream: Vec::new(), store, most: 0, conversions, noise: 0, lent: ROOM }
 }

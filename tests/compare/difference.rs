@@ -1,5 +1,5 @@
 // The first thing in which ours and the Rust differ, as a sentence.
-use crate::ours::{Lent, Ours};
+use crate::ours::{Lent, Ours, BEHIND};
 use crate::record::{name, Record};
 
 pub struct Difference(pub String);
@@ -43,14 +43,15 @@ fn guards<T: Copy + PartialEq>(what: &str, thing: &str, lent: &Lent<T>) -> Resul
 pub fn records(what: &str, ours: &mut Ours, rust: &Record) -> Result<(), Difference> {
     guards(what, "numbers", &ours.numbers)?;
     guards(what, "clock", &ours.clock)?;
-    if ours.numbers.inner() != rust.numbers {
-        for (at, (&a, &b)) in ours.numbers.inner().iter().zip(&rust.numbers).enumerate() {
+    let numbers = ours.numbers.inner();
+    if numbers != rust.numbers {
+        for (at, (&a, &b)) in numbers.iter().zip(rust.numbers.iter().chain(std::iter::repeat(&BEHIND))).enumerate() {
             values(what, &name(at), a, b)?;
         }
     }
-    let names = ["framerate", "pixel_aspect_ratio", "time of the next picture", "last_frame_time"];
-    for (at, (&a, &b)) in ours.clock.inner().iter().zip(&rust.clock).enumerate() {
-        floats(what, names[at], a, b)?;
+    let names = ["framerate", "pixel_aspect_ratio", "time of the next picture", "last_frame_time", "float behind the clock"];
+    for (at, (&a, &b)) in ours.clock.inner().iter().zip(rust.clock.iter().chain(std::iter::repeat(&(BEHIND as f64)))).enumerate() {
+        floats(what, names[at.min(4)], a, b)?;
     }
     Ok(())
 }

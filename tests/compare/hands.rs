@@ -1,5 +1,5 @@
 // Records made by hand: that of a stream after some calls, in which fields become others, up to the edges of question 2 and past them.
-use crate::case::{Case, Conversion};
+use crate::case::{Case, Conversion, ROOM};
 use crate::codes::Codes;
 use crate::damage::behind_codes;
 use crate::made;
@@ -212,7 +212,7 @@ pub fn edges(codes: &Codes, random: &mut Random) -> Vec<Case> {
             n[MB_WIDTH..=MB_SIZE].copy_from_slice(&[across, down, across * down]);
         }
         let conversions = vec![Conversion { after: 0, index: 0, width: 3, height: 2, area: 6 }];
-        Case { begin: Some(record), stream: stream.clone(), store: before.store.clone(), most: 1, conversions, noise: random.next() }
+        Case { begin: Some(record), stream: stream.clone(), store: before.store.clone(), most: 1, conversions, noise: random.next(), lent: ROOM }
     });
     cases.collect()
 }
@@ -230,5 +230,11 @@ pub fn case(codes: &Codes, random: &mut Random) -> Case {
             Conversion { after: after + random.below(2), index: random.below(4), width, height, area: width * height + random.below(3) }
         })
         .collect();
-    Case { begin: Some(record), stream, store, most: 1, conversions, noise: random.next() }
+    // memory that is too short for a record, or longer
+    let lent = match random.below(64) {
+        0 => random.one_of(&[[221, 4], [222, 3], [0, 0], [221, 9], [250, 0]]),
+        1 => [223 + random.below(9), 4 + random.below(3)],
+        _ => ROOM,
+    };
+    Case { begin: Some(record), stream, store, most: 1, conversions, noise: random.next(), lent }
 }

@@ -1,5 +1,5 @@
 // A case as a file that runs it again, line by line.
-use crate::case::{Case, Conversion};
+use crate::case::{Case, Conversion, ROOM};
 use crate::record::{Record, NUMBERS};
 use std::fmt::Write;
 
@@ -15,7 +15,8 @@ fn bytes(text: &str) -> Vec<u8> {
 }
 
 pub fn text(case: &Case, difference: &str) -> String {
-    let mut text = format!("difference {difference}\nstream {}\nstore {}\nmost {}\nnoise {}\n", hex(&case.stream), hex(&case.store), case.most, case.noise);
+    let mut text = format!("difference {difference}\nstream {}\nstore {}\nmost {}\n", hex(&case.stream), hex(&case.store), case.most);
+    writeln!(text, "noise {}\nlent {} {}", case.noise, case.lent[0], case.lent[1]).expect("a string grows");
     if let Some(record) = &case.begin {
         let clock = record.clock.map(|value| format!("{:016x}", value.to_bits())).join(" ");
         let numbers: Vec<String> = record.numbers.iter().map(i64::to_string).collect();
@@ -32,7 +33,7 @@ fn numbers<T: std::str::FromStr>(text: &str) -> Vec<T> {
 }
 
 pub fn case(text: &str) -> Case {
-    let mut case = Case { begin: None, stream: Vec::new(), store: Vec::new(), most: 0, conversions: Vec::new(), noise: 0 };
+    let mut case = Case { begin: None, stream: Vec::new(), store: Vec::new(), most: 0, conversions: Vec::new(), noise: 0, lent: ROOM };
     let mut record = Record::fresh();
     for line in text.lines() {
         match line.split_once(' ').expect("a name and a value") {
@@ -40,6 +41,7 @@ pub fn case(text: &str) -> Case {
             ("store", value) => case.store = bytes(value),
             ("most", value) => case.most = value.parse().expect("a number"),
             ("noise", value) => case.noise = value.parse().expect("a number"),
+            ("lent", value) => case.lent = numbers(value).try_into().expect("two numbers"),
             ("clock", value) => {
                 for (at, bits) in value.split(' ').enumerate() {
                     record.clock[at] = f64::from_bits(u64::from_str_radix(bits, 16).expect("hex"));

@@ -1,5 +1,5 @@
 // Streams of 16,777,216 bytes and of one more, the largest pictures, and the largest outputs.
-use crate::case::{Case, Conversion};
+use crate::case::{Case, Conversion, ROOM};
 use crate::codes::Codes;
 use crate::made;
 use crate::random::Random;
@@ -22,7 +22,7 @@ fn lengths(codes: &Codes, random: &mut Random) -> Vec<Case> {
         let made = made::stream(codes, Random::new(random.wide() | 1));
         for length in [LONGEST, LONGEST + 1] {
             let stream = filled(&made, length, byte, before);
-            cases.push(Case { begin: None, store: vec![9; store_for(&stream)], stream, most: 6, conversions: Vec::new(), noise: 0 });
+            cases.push(Case { begin: None, store: vec![9; store_for(&stream)], stream, most: 6, conversions: Vec::new(), noise: 0, lent: ROOM });
         }
     }
     cases
@@ -43,7 +43,7 @@ fn places(random: &mut Random) -> Vec<Case> {
             n[WIDTH..=MB_SIZE].copy_from_slice(&[16, 16, 1, 1, 1]);
         }
         let store = vec![3; 1152];
-        cases.push(Case { begin: Some(record), stream: vec![0; length], store, most: 2, conversions: Vec::new(), noise: random.next() });
+        cases.push(Case { begin: Some(record), stream: vec![0; length], store, most: 2, conversions: Vec::new(), noise: random.next(), lent: ROOM });
     }
     cases
 }
@@ -63,7 +63,7 @@ fn sizes(random: &mut Random) -> Vec<Case> {
                 Conversion { after: 1, index: 0, width: 4096, height: 3, area: 3 * 4096 },
                 Conversion { after: 2, index: 2, width: 3, height: 4096, area: 3 * 4096 },
             ];
-            cases.push(Case { begin: None, stream: stream.clone(), store, most: 5, conversions, noise: 0 });
+            cases.push(Case { begin: None, stream: stream.clone(), store, most: 5, conversions, noise: 0, lent: ROOM });
         }
     }
     let mut whole = made_picture();
@@ -81,7 +81,7 @@ fn made_picture() -> Case {
     let mut record = Record::fresh();
     record.numbers[HEADER..=MB_SIZE].copy_from_slice(&[1, 31, 17, 2, 2, 4]);
     let store = (0..4 * 1152u32).map(|at| (at.wrapping_mul(2_654_435_761) >> 24) as u8).collect();
-    Case { begin: Some(record), stream: Vec::new(), store, most: 0, conversions: Vec::new(), noise: 0 }
+    Case { begin: Some(record), stream: Vec::new(), store, most: 0, conversions: Vec::new(), noise: 0, lent: ROOM }
 }
 
 pub fn cases(codes: &Codes, random: &mut Random) -> Vec<Case> {

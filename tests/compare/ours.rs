@@ -1,6 +1,5 @@
 // Our calls, those of the archive, on memory with guards around it.
 use crate::record::{Record, NUMBERS};
-use crate::reference::Answer;
 
 extern "C" {
     fn mpeg1_open(stream: *const u8, n: usize, store: *mut u8, m: usize, numbers: *mut i64, nn: usize, clock: *mut f64, nc: usize) -> u32;
@@ -75,11 +74,29 @@ pub struct Ours {
     pub numbers: Lent<i64>,
     pub clock: Lent<f64>,
     pub store: Lent<u8>,
+    // what a hand-out tells of a picture; before it these are values that no picture has
+    pub shown: usize,
+    pub time: f64,
+}
+
+// What stands for no store and no time, and behind a record in memory that is longer.
+pub const NOT_SHOWN: usize = usize::MAX;
+pub const NO_TIME: f64 = -1.0;
+pub const BEHIND: i64 = 1234;
+
+// So many of the values, or with others behind them.
+fn resized<T: Copy>(values: &[T], length: usize, behind: T) -> Vec<T> {
+    let mut values = values.to_vec();
+    values.resize(length, behind);
+    values
 }
 
 impl Ours {
-    pub fn from(record: &Record, store: &[u8]) -> Self {
-        Ours { numbers: Lent::new(&record.numbers, -77), clock: Lent::new(&record.clock, -7.5), store: Lent::new(store, 0x5a) }
+    // The memory for the record has so many numbers and floats.
+    pub fn from(record: &Record, store: &[u8], lent: [usize; 2]) -> Self {
+        let numbers = Lent::new(&resized(&record.numbers, lent[0], BEHIND), -77);
+        let clock = Lent::new(&resized(&record.clock, lent[1], BEHIND as f64), -7.5);
+        Ours { numbers, clock, store: Lent::new(store, 0x5a), shown: NOT_SHOWN, time: NO_TIME }
     }
 
     pub fn open(&mut self, stream: &[u8]) -> u32 {
@@ -88,14 +105,11 @@ impl Ours {
         unsafe { mpeg1_open(stream.as_ptr(), stream.len(), store, m, numbers, nn, clock, nc) }
     }
 
-    pub fn hand_out(&mut self, stream: &[u8]) -> Answer {
+    pub fn hand_out(&mut self, stream: &[u8]) -> u32 {
         let (m, nn, nc) = (self.store.len(), self.numbers.len(), self.clock.len());
         let (store, numbers, clock) = (self.store.pointer(), self.numbers.pointer(), self.clock.pointer());
-        let (mut shown, mut time) = (usize::MAX, -1.0);
-        match unsafe { mpeg1_decode(stream.as_ptr(), stream.len(), store, m, numbers, nn, clock, nc, &mut shown, &mut time) } {
-            0 => Answer::Picture { shown, time },
-            number => Answer::Number(number),
-        }
+        (self.shown, self.time) = (NOT_SHOWN, NO_TIME);
+        unsafe { mpeg1_decode(stream.as_ptr(), stream.len(), store, m, numbers, nn, clock, nc, &mut self.shown, &mut self.time) }
     }
 
     pub fn convert(&mut self, index: usize, area: &mut Lent<u32>, width: usize, height: usize) -> u32 {

@@ -51,6 +51,8 @@ pub struct Reference {
     // Decoders in the state of record and store, once there are any: the unchanged one and the copy that asks.
     videos: Option<(unchanged::video::Video, asking::video::Video)>,
     noise: u32,
+    // whether the memory that is lent has room for a record
+    roomy: bool,
 }
 
 // The sequence header that a try at one finds: the number 3, 4 or 5, or width and height (RULES 1.9, 1.10, O.3, Q3 to Q5).
@@ -91,7 +93,13 @@ pub fn store_for(stream: &[u8]) -> usize {
 impl Reference {
     // A record that is passed in. What `noise` holds goes to the fields of the Rust that no record has.
     pub fn from(record: Record, store: Vec<u8>, noise: u32) -> Self {
-        Reference { record, store, videos: None, noise }
+        Reference { record, store, videos: None, noise, roomy: true }
+    }
+
+    // Calls on a memory that is too short for a record change nothing.
+    pub fn without_room(mut self) -> Self {
+        self.roomy = false;
+        self
     }
 
     // RULES O.2.
@@ -118,12 +126,16 @@ impl Reference {
         video.put_stores(&mut self.store);
     }
 
+    fn is_possible(&self) -> bool {
+        self.roomy && possible(&self.record, unchanged::video::premultiplier())
+    }
+
     // RULES Q, the order of a hand-out.
     pub fn hand_out(&mut self, stream: &[u8]) -> Answer {
         if stream.len() > LONGEST {
             return Answer::Number(1);
         }
-        if !possible(&self.record, unchanged::video::premultiplier()) {
+        if !self.is_possible() {
             return Answer::Number(2);
         }
         if self.record.numbers[STOP] != 0 {
@@ -167,7 +179,7 @@ impl Reference {
 
     // RULES Q, the order of a conversion.
     pub fn convert(&mut self, index: usize, area: &mut [u32], width: usize, height: usize) -> u32 {
-        if !possible(&self.record, unchanged::video::premultiplier()) {
+        if !self.is_possible() {
             return 2;
         }
         if self.store.len() < 1152 * self.record.macroblocks() {

@@ -1,5 +1,5 @@
 // The comparison must be able to fail: one bit of ours is turned over before comparing, in each thing that is compared, and must be named.
-use crate::case::{Case, Conversion, Damage};
+use crate::case::{Case, Conversion, Damage, ROOM};
 use crate::kept;
 use crate::record::{name, NUMBERS};
 use crate::tally::Tally;
@@ -37,7 +37,7 @@ fn damages(store: usize, area: usize) -> Vec<(Damage, String)> {
 // A stream of an encoder with pictures of one macroblock; the area has numbers behind the pixels.
 fn case(stream: &[u8]) -> Case {
     let conversions = vec![Conversion { after: 1, index: 0, width: 5, height: 3, area: 18 }];
-    Case { begin: None, stream: stream.to_vec(), store: vec![7; 1152 + 9], most: 3, conversions, noise: 0 }
+    Case { begin: None, stream: stream.to_vec(), store: vec![7; 1152 + 9], most: 3, conversions, noise: 0, lent: ROOM }
 }
 
 // Whether every damage is found, and found again from the file that is kept.

@@ -1,5 +1,5 @@
 // Streams, each opened and then asked for its pictures: whole, cut after each byte, made by chance, damaged.
-use crate::case::{Case, Conversion};
+use crate::case::{Case, Conversion, ROOM};
 use crate::codes::Codes;
 use crate::damage::damaged;
 use crate::made;
@@ -27,7 +27,7 @@ pub fn whole(stream: Vec<u8>, random: &mut Random) -> Case {
         let (width, height) = random.one_of(&[(352, 288), (640, 480), (33, 1000), (1, 1)]);
         conversions.push(Conversion { after, index: random.below(3), width, height, area: width * height });
     }
-    Case { begin: None, store: vec![0xa5; needed + 100], stream, most: usize::MAX, conversions, noise: 0 }
+    Case { begin: None, store: vec![0xa5; needed + 100], stream, most: usize::MAX, conversions, noise: 0, lent: ROOM }
 }
 
 // The store that a stream is given: what its header asks for, now and then less or more.
@@ -44,7 +44,9 @@ fn lent(stream: &[u8], random: &mut Random) -> Vec<u8> {
 
 pub fn opened(stream: Vec<u8>, random: &mut Random) -> Case {
     let conversions = (0..(random.below(3) == 0) as usize).map(|_| any_conversion(random, 24)).collect();
-    Case { begin: None, store: lent(&stream, random), stream, most: 40, conversions, noise: 0 }
+    let room = random.one_of(&[[221, 4], [222, 3], [300, 7], [0, 0]]);
+    let room = if random.below(200) == 0 { room } else { ROOM };
+    Case { begin: None, store: lent(&stream, random), stream, most: 40, conversions, noise: 0, lent: room }
 }
 
 // What random cases are made of: the codes, and streams of encoders.
