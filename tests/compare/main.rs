@@ -47,10 +47,12 @@ fn chance(seed: u64, number: usize) -> Random {
     random
 }
 
+// The file is put beside the program.
 fn keep(case: &Case, difference: &str) {
-    let path = format!("difference-{}.case", std::process::id());
+    let program = std::env::current_exe().expect("the program's path");
+    let path = program.with_file_name(format!("difference-{}.case", std::process::id()));
     std::fs::write(&path, kept::text(case, difference)).expect("the case is kept");
-    println!("{difference}\nkept in {path}; run it again with: again {path}");
+    println!("{difference}\nkept in {}; run it again with: again FILE", path.display());
     std::process::exit(1);
 }
 
