@@ -1,0 +1,175 @@
+//! The calls of the archive over slices: the only module with `unsafe`. Each call gets pointers and lengths of slices that live through it, and
+//! keeps none of them; no call asks more of its caller.
+#![allow(unsafe_code)]
+
+extern "C" {
+    fn mpeg1_open(
+        stream: *const u8,
+        stream_bytes: usize,
+        store: *mut u8,
+        store_bytes: usize,
+        numbers: *mut i64,
+        numbers_length: usize,
+        clock: *mut f64,
+        clock_length: usize,
+    ) -> u32;
+    fn mpeg1_decode(
+        stream: *const u8,
+        stream_bytes: usize,
+        store: *mut u8,
+        store_bytes: usize,
+        numbers: *mut i64,
+        numbers_length: usize,
+        clock: *mut f64,
+        clock_length: usize,
+        shown: *mut usize,
+        time: *mut f64,
+    ) -> u32;
+    fn mpeg1_write_rgb_scaled(
+        store: *const u8,
+        store_bytes: usize,
+        numbers: *const i64,
+        numbers_length: usize,
+        clock: *const f64,
+        clock_length: usize,
+        index: usize,
+        area: *mut u32,
+        area_length: usize,
+        width: usize,
+        height: usize,
+    ) -> u32;
+    fn mpeg1_record_numbers() -> usize;
+    fn mpeg1_record_floats() -> usize;
+    fn mpeg1_store_bytes(width: usize, height: usize) -> usize;
+    fn mpeg1_width(numbers: *const i64, numbers_length: usize) -> usize;
+    fn mpeg1_height(numbers: *const i64, numbers_length: usize) -> usize;
+    fn mpeg1_picture_type(numbers: *const i64, numbers_length: usize) -> u32;
+    fn mpeg1_frame_rate(clock: *const f64, clock_length: usize) -> f64;
+    fn mpeg1_pixel_aspect_ratio(clock: *const f64, clock_length: usize) -> f64;
+    fn mpeg1_row_bytes(numbers: *const i64, numbers_length: usize, plane: usize) -> usize;
+    fn mpeg1_plane_start(numbers: *const i64, numbers_length: usize, index: usize, plane: usize) -> usize;
+    fn mpeg1_plane_bytes(numbers: *const i64, numbers_length: usize, plane: usize) -> usize;
+}
+
+/// The decoder's state: the record, which is plain data, and the store, which holds three pictures.
+pub(crate) struct State {
+    store: Vec<u8>,
+    numbers: Vec<i64>,
+    clock: Vec<f64>,
+}
+
+/// What a hand-out gives: the number of the store, and the time in seconds.
+pub(crate) struct Shown {
+    pub index: usize,
+    pub time: f64,
+}
+
+fn answer(number: u32) -> Result<(), u32> {
+    match number {
+        0 => Ok(()),
+        _ => Err(number),
+    }
+}
+
+impl State {
+    /// A record of zeros, and a store for pictures of this size.
+    pub fn new(width: usize, height: usize) -> State {
+        let (store, numbers, clock) = unsafe { (mpeg1_store_bytes(width, height), mpeg1_record_numbers(), mpeg1_record_floats()) };
+        State { store: vec![0; store], numbers: vec![0; numbers], clock: vec![0.0; clock] }
+    }
+
+    pub fn open(&mut self, stream: &[u8]) -> Result<(), u32> {
+        let State { store, numbers, clock } = self;
+        answer(unsafe {
+            mpeg1_open(
+                stream.as_ptr(),
+                stream.len(),
+                store.as_mut_ptr(),
+                store.len(),
+                numbers.as_mut_ptr(),
+                numbers.len(),
+                clock.as_mut_ptr(),
+                clock.len(),
+            )
+        })
+    }
+
+    pub fn decode(&mut self, stream: &[u8]) -> Result<Shown, u32> {
+        let State { store, numbers, clock } = self;
+        let mut shown = Shown { index: 0, time: 0.0 };
+        answer(unsafe {
+            mpeg1_decode(
+                stream.as_ptr(),
+                stream.len(),
+                store.as_mut_ptr(),
+                store.len(),
+                numbers.as_mut_ptr(),
+                numbers.len(),
+                clock.as_mut_ptr(),
+                clock.len(),
+                &mut shown.index,
+                &mut shown.time,
+            )
+        })?;
+        Ok(shown)
+    }
+
+    pub fn write_rgb_scaled(&self, index: usize, area: &mut [u32], width: usize, height: usize) -> Result<(), u32> {
+        let State { store, numbers, clock } = self;
+        answer(unsafe {
+            mpeg1_write_rgb_scaled(
+                store.as_ptr(),
+                store.len(),
+                numbers.as_ptr(),
+                numbers.len(),
+                clock.as_ptr(),
+                clock.len(),
+                index,
+                area.as_mut_ptr(),
+                area.len(),
+                width,
+                height,
+            )
+        })
+    }
+
+    pub fn width(&self) -> usize {
+        unsafe { mpeg1_width(self.numbers.as_ptr(), self.numbers.len()) }
+    }
+
+    pub fn height(&self) -> usize {
+        unsafe { mpeg1_height(self.numbers.as_ptr(), self.numbers.len()) }
+    }
+
+    pub fn picture_type(&self) -> u32 {
+        unsafe { mpeg1_picture_type(self.numbers.as_ptr(), self.numbers.len()) }
+    }
+
+    pub fn frame_rate(&self) -> f64 {
+        unsafe { mpeg1_frame_rate(self.clock.as_ptr(), self.clock.len()) }
+    }
+
+    pub fn pixel_aspect_ratio(&self) -> f64 {
+        unsafe { mpeg1_pixel_aspect_ratio(self.clock.as_ptr(), self.clock.len()) }
+    }
+
+    /// The place in the stream, in bits: the first number of a record.
+    pub fn position(&self) -> usize {
+        self.numbers.first().map_or(0, |&position| usize::try_from(position).unwrap_or(0))
+    }
+
+    pub fn row_bytes(&self, plane: usize) -> usize {
+        unsafe { mpeg1_row_bytes(self.numbers.as_ptr(), self.numbers.len(), plane) }
+    }
+
+    /// The bytes of a plane of a store, whole macroblocks; none where there is no such plane.
+    pub fn plane(&self, index: usize, plane: usize) -> &[u8] {
+        let (start, bytes) = unsafe {
+            (
+                mpeg1_plane_start(self.numbers.as_ptr(), self.numbers.len(), index, plane),
+                mpeg1_plane_bytes(self.numbers.as_ptr(), self.numbers.len(), plane),
+            )
+        };
+        start.checked_add(bytes).and_then(|end| self.store.get(start..end)).unwrap_or(&[])
+    }
+}
