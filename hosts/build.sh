@@ -27,7 +27,9 @@ install_packages() {
     local root=()
     [ "$(id -u)" = 0 ] || root=(sudo -n)
     say "installing $packages"
-    "${root[@]}" apt-get install -y --no-install-recommends $packages >&2
+    "${root[@]}" apt-get install -qq --no-install-recommends $packages >&2 && return
+    "${root[@]}" apt-get update -qq >&2
+    "${root[@]}" apt-get install -qq --no-install-recommends $packages >&2
 }
 
 # Sets `crates` to what cargo has to be told, in the folder of the command: crates.io, or where that is not reached the system's packages.

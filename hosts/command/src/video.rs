@@ -15,10 +15,18 @@ fn cause(error: y4m::Error) -> io::Error {
     }
 }
 
+// Are both names of one file that is there?
+fn same_file(one: &Path, other: &Path) -> bool {
+    matches!((one.canonicalize(), other.canonicalize()), (Ok(one), Ok(other)) if one == other)
+}
+
 pub fn run(file: &Path, output: Option<&Path>) -> Result<(), Failure> {
     let reel = Reel::read(file)?;
     let mut decoder = reel.open()?;
     let path = output.unwrap_or(Path::new("-"));
+    if same_file(file, path) {
+        return Err(Failure::Usage("OUT is FILE itself, which is not overwritten: say another file by -o OUT".to_string()));
+    }
     let mut output = if crate::files::is_standard(path) { Output::standard()? } else { Output::create(path)? };
     if output.is_terminal() {
         return Err(Failure::Usage("standard output is a terminal, which shows no video: say where to write it by -o OUT".to_string()));

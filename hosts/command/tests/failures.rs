@@ -96,6 +96,14 @@ fn folders_that_cannot_be_made() {
 }
 
 #[test]
+fn a_reel_is_not_overwritten() {
+    let path = folder("overwrite").join("reel.m1v");
+    std::fs::copy(stream(REEL), &path).unwrap();
+    says(&run(&["y4m", text(&path), "-o", text(&path)]), 4, &["OUT is FILE itself"]);
+    assert_eq!(std::fs::read(&path).unwrap(), std::fs::read(stream(REEL)).unwrap());
+}
+
+#[test]
 fn lists_that_are_none() {
     let list = folder("no list").join("list");
     std::fs::write(&list, "#hash: MD5\nabc\n").unwrap();

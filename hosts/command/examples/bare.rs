@@ -1,0 +1,47 @@
+//! The bare loop that hosts/measure compares `mpeg1 frames` with: the archive's calls and the hash of each picture, and nothing else.
+//! It prints the hashes only. Pictures have to be whole macroblocks, so that nothing of a plane is cut.
+use md5::{Digest, Md5};
+use mpeg1 as _;
+
+extern "C" {
+    fn mpeg1_open(s: *const u8, sn: usize, m: *mut u8, mn: usize, n: *mut i64, nn: usize, c: *mut f64, cn: usize) -> u32;
+    #[allow(clippy::too_many_arguments)]
+    fn mpeg1_decode(
+        s: *const u8,
+        sn: usize,
+        m: *mut u8,
+        mn: usize,
+        n: *mut i64,
+        nn: usize,
+        c: *mut f64,
+        cn: usize,
+        shown: *mut usize,
+        time: *mut f64,
+    ) -> u32;
+    fn mpeg1_record_numbers() -> usize;
+    fn mpeg1_record_floats() -> usize;
+    fn mpeg1_store_bytes(width: usize, height: usize) -> usize;
+    fn mpeg1_plane_start(n: *const i64, nn: usize, index: usize, plane: usize) -> usize;
+    fn mpeg1_plane_bytes(n: *const i64, nn: usize, plane: usize) -> usize;
+}
+
+fn main() {
+    let path = std::env::args_os().nth(1).expect("usage: bare FILE");
+    let s = std::fs::read(path).expect("the stream");
+    let (mut shown, mut time, mut hashes) = (0, 0.0, String::new());
+    unsafe {
+        let mut m = vec![0; mpeg1_store_bytes(4095, 4095)];
+        let (mut n, mut c) = (vec![0; mpeg1_record_numbers()], vec![0.0; mpeg1_record_floats()]);
+        let (mp, mn, np, nn, cp, cn) = (m.as_mut_ptr(), m.len(), n.as_mut_ptr(), n.len(), c.as_mut_ptr(), c.len());
+        assert_eq!(mpeg1_open(s.as_ptr(), s.len(), mp, mn, np, nn, cp, cn), 0);
+        while mpeg1_decode(s.as_ptr(), s.len(), mp, mn, np, nn, cp, cn, &mut shown, &mut time) == 0 {
+            let mut hash = Md5::new();
+            for plane in [0, 2, 1] {
+                let (start, bytes) = (mpeg1_plane_start(np, nn, shown, plane), mpeg1_plane_bytes(np, nn, plane));
+                hash.update(&m[start..start + bytes]);
+            }
+            hashes += &format!("{:x}\n", hash.finalize());
+        }
+    }
+    print!("{hashes}");
+}
