@@ -1,5 +1,7 @@
-# Shared by ./mpeg1 and hosts/test: the archive of the decoder, and the crates of the command. All that is said goes to standard error.
-# MPEG1_ARCHIVE, if it is set, is an archive that was made elsewhere.
+# Shared by the scripts here, which run at the repository's top: the archive of the decoder, and the crates of the command. What a script needs and does
+# not find is said, with how to get it, and ends it with 2. MPEG1_ARCHIVE, if it is set, is the absolute path of an archive that was made
+# elsewhere.
+archive=${MPEG1_ARCHIVE:-$PWD/target/staticlib/libmpeg1.a}
 
 say() { echo "$(basename "$0"): $*" >&2; }
 
@@ -9,9 +11,12 @@ needs() { # PROGRAM, HOW TO GET IT
 
 needs_cargo() { needs cargo 'install it (Debian 13: apt install cargo; Debian 12: apt install cargo-web; elsewhere: https://rustup.rs)'; }
 
-# target/staticlib/libmpeg1.a, proved and built from what is in crates/.
+# The archive, proved and built from what is in crates/.
 make_archive() {
-    [ -z "${MPEG1_ARCHIVE:-}" ] || return 0
+    if [ -n "${MPEG1_ARCHIVE:-}" ]; then
+        [[ $MPEG1_ARCHIVE = /* && -f $MPEG1_ARCHIVE ]] || { say "MPEG1_ARCHIVE is $MPEG1_ARCHIVE and has to be the absolute path of a file" && exit 2; }
+        return
+    fi
     needs rt 'it proves and builds the decoder (README.md, What is needed); or set MPEG1_ARCHIVE to the path of a libmpeg1.a'
     say 'proving and building the decoder; the first time this takes long'
     rt staticlib mpeg1 >&2

@@ -52,6 +52,16 @@ fn compare(name: &str, stream: &[u8], rust: &Run) {
     assert_eq!(hashes(&outputs[2].stdout), expected, "{name}");
 }
 
+// RULES L.4 and L.5.
+#[test]
+fn the_listing_of_the_rules() {
+    let (header, picture) = ([0, 0, 1, 0xb3, 1, 0, 0x10, 0x13, 0, 0, 0, 0], [0, 0, 1, 0, 0, 8, 0xff, 0xff]);
+    let stream = [&header[..], &[0xff; 104], &picture, &picture, &picture].concat();
+    let output = run_on(&["list", "-"], &stream);
+    assert_eq!(ended(&output), (0, String::new()));
+    assert_eq!(output.stdout, b"handed store type answer\n1 0 1 0\n1 0 0 7\n");
+}
+
 #[test]
 fn streams() {
     for (name, stream) in reference::streams() {
