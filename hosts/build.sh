@@ -11,12 +11,13 @@ needs() { # PROGRAM, HOW TO GET IT
 
 needs_cargo() { needs cargo 'install it (Debian 13: apt install cargo; Debian 12: apt install cargo-web; elsewhere: https://rustup.rs)'; }
 
-# The archive, proved and built from what is in crates/.
+# The archive, proved and built from what is in crates/, if anything there is newer.
 make_archive() {
     if [ -n "${MPEG1_ARCHIVE:-}" ]; then
         [[ $MPEG1_ARCHIVE = /* && -f $MPEG1_ARCHIVE ]] || { say "MPEG1_ARCHIVE is $MPEG1_ARCHIVE and has to be the absolute path of a file" && exit 2; }
         return
     fi
+    [ ! -f "$archive" ] || [ -n "$(find crates.txt crates/*/{src,specs,proofs} -newer "$archive" -print -quit 2>/dev/null)" ] || return 0
     needs rt 'it proves and builds the decoder (README.md, What is needed); or set MPEG1_ARCHIVE to the path of a libmpeg1.a'
     say 'proving and building the decoder; the first time this takes long'
     rt staticlib mpeg1 >&2
