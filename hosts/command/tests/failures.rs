@@ -88,6 +88,13 @@ fn a_closed_pipe() {
 }
 
 #[test]
+fn too_little_memory() {
+    let mut command = std::process::Command::new("sh");
+    command.args(["-c", "ulimit -v 65536; exec \"$0\" frames \"$1\"", env!("CARGO_BIN_EXE_mpeg1"), &stream(REEL)]);
+    says(&command.output().unwrap(), 2, &["refused with number 6", "no memory for the store"]);
+}
+
+#[test]
 fn folders_that_cannot_be_made() {
     let file = folder("no folder").join("file");
     std::fs::write(&file, b"").unwrap();

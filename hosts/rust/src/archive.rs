@@ -2,6 +2,8 @@
 //! keeps none of them; no call asks more of its caller.
 #![allow(unsafe_code)]
 
+use std::alloc::{alloc_zeroed, Layout};
+
 extern "C" {
     fn mpeg1_open(
         stream: *const u8,
@@ -64,6 +66,17 @@ pub(crate) struct Shown {
     pub time: f64,
 }
 
+// As many bytes of 0, which `vec![0; n]` would give too, but not refuse where there is not enough memory.
+fn zeros(bytes: usize) -> Option<Vec<u8>> {
+    let layout = Layout::array::<u8>(bytes).ok()?;
+    if bytes == 0 {
+        return Some(Vec::new());
+    }
+    // the layout is not empty, and it is that of a vector with this capacity, whose bytes are all set
+    let start = unsafe { alloc_zeroed(layout) };
+    (!start.is_null()).then(|| unsafe { Vec::from_raw_parts(start, bytes, bytes) })
+}
+
 fn answer(number: u32) -> Result<(), u32> {
     match number {
         0 => Ok(()),
@@ -72,10 +85,10 @@ fn answer(number: u32) -> Result<(), u32> {
 }
 
 impl State {
-    /// A record of zeros, and a store for pictures of this size.
-    pub fn new(width: usize, height: usize) -> State {
+    /// A record of zeros, and a store for pictures of this size; none where there is not enough memory.
+    pub fn new(width: usize, height: usize) -> Option<State> {
         let (store, numbers, clock) = unsafe { (mpeg1_store_bytes(width, height), mpeg1_record_numbers(), mpeg1_record_floats()) };
-        State { store: vec![0; store], numbers: vec![0; numbers], clock: vec![0.0; clock] }
+        Some(State { store: zeros(store)?, numbers: vec![0; numbers], clock: vec![0.0; clock] })
     }
 
     pub fn open(&mut self, stream: &[u8]) -> Result<(), u32> {

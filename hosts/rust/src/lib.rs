@@ -61,7 +61,7 @@ pub struct Decoder<'s> {
 impl<'s> Decoder<'s> {
     /// Reads the sequence header of a stream.
     pub fn open(stream: &'s [u8]) -> Result<Decoder<'s>, Refusal> {
-        let mut state = State::new(LARGEST, LARGEST);
+        let mut state = State::new(LARGEST, LARGEST).ok_or(Refusal::StoreTooShort)?;
         state.open(stream).map_err(Refusal::of)?;
         Ok(Decoder { stream, state })
     }

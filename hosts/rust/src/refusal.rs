@@ -14,7 +14,7 @@ pub enum Refusal {
     HeaderCutOff,
     /// Number 5.
     NoSize,
-    /// Number 6. A [`Decoder`](crate::Decoder) cannot come to it: its store holds the largest pictures there are.
+    /// Number 6. The store of a [`Decoder`](crate::Decoder) holds the largest pictures there are, so it means that there is no memory for one.
     StoreTooShort,
     /// Number 7, which ends every reel: [`next_picture`](crate::Decoder::next_picture) gives `None` for it.
     NoPicture,
@@ -83,7 +83,9 @@ impl Refusal {
                 "the stream ends less than 136 bytes behind its sequence start code: it is cut off, so copy it again from its source"
             }
             Refusal::NoSize => "the sequence header says a width or a height of 0: it is damaged, so copy the stream again from its source",
-            Refusal::StoreTooShort => "the store is too short for pictures of this size: lend as many bytes as mpeg1_store_bytes says",
+            Refusal::StoreTooShort => {
+                "there is no memory for the store, 75,497,472 bytes of addresses: raise the limit (ulimit -v) or run fewer decoders at once"
+            }
             Refusal::NoPicture => "there is no further picture",
             Refusal::DcOutOfRange => "the stream is damaged here, a DC value lies outside -256..255: copy it again from its source, or cut it here",
             Refusal::PredictionOutside => {
