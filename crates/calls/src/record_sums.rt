@@ -1,0 +1,143 @@
+// The checksum of a record: its numbers, in the order of the file, and its matrices.
+use crate::floats::bits;
+use crate::sums::sum_bytes;
+use crate::sums::sum_numbers;
+use decoder::record::Clock;
+use decoder::record::Decoder;
+use decoder::record::Sequence;
+use lists::numbers::held;
+use picture::state::Motion;
+use picture::state::Picture;
+use picture::state::Slice;
+ghost use Prim.Native.Nat.{_<_};
+
+// The low 32 bits of a number.
+fn low(n: u64) -> u32 {
+    (n % 4294967296) as u32
+}
+
+fn size(n: usize) -> u32 {
+    low(n as u64)
+}
+
+fn flag(b: bool) -> u32 {
+    if b { 1 } else { 0 }
+}
+
+fn sum_sequence(before: u64, q: Sequence) -> u64
+    requires { ⌜ before < 4294967311 ⌝ }
+    ensures { λ r. ⌜ r < 4294967311 ⌝ }
+{
+    let sizes = q.sizes;
+    let numbers = [
+        flag(q.has_sequence_header),
+        size(q.width),
+        size(q.height),
+        size(sizes.mb_width),
+        size(sizes.mb_height),
+        size(sizes.mb_size),
+    ];
+    sum_numbers(before, &numbers)
+}
+
+fn sum_motion(before: u64, m: Motion) -> u64
+    requires { ⌜ before < 4294967311 ⌝ }
+    ensures { λ r. ⌜ r < 4294967311 ⌝ }
+{
+    let numbers = [
+        flag(m.full_px),
+        flag(m.is_set),
+        m.r_size,
+        held(m.h),
+        held(m.v),
+    ];
+    sum_numbers(before, &numbers)
+}
+
+fn sum_slice(before: u64, s: Slice) -> u64
+    requires { ⌜ before < 4294967311 ⌝ }
+    ensures { λ r. ⌜ r < 4294967311 ⌝ }
+{
+    let head = [s.quantizer_scale, held(s.macroblock_address)];
+    let forward = s.motion_forward;
+    let backward = s.motion_backward;
+    let motions = sum_motion(sum_motion(sum_numbers(before, &head), forward), backward);
+    let dc = s.dc_predictor;
+    let predictors = [held(dc[0]), held(dc[1]), held(dc[2])];
+    sum_numbers(motions, &predictors)
+}
+
+fn sum_picture(before: u64, p: Picture) -> u64
+    requires { ⌜ before < 4294967311 ⌝ }
+    ensures { λ r. ⌜ r < 4294967311 ⌝ }
+{
+    let stores = p.stores;
+    let numbers = [
+        p.picture_type,
+        held(p.start_code),
+        size(stores.cur),
+        size(stores.fwd),
+        size(stores.bwd),
+    ];
+    let slice = p.slice;
+    sum_slice(sum_numbers(before, &numbers), slice)
+}
+
+fn sum_float(before: u64, x: f64) -> u64
+    requires { ⌜ before < 4294967311 ⌝ }
+    ensures { λ r. ⌜ r < 4294967311 ⌝ }
+{
+    let b = bits(x);
+    let numbers = [low(b / 4294967296), low(b)];
+    sum_numbers(before, &numbers)
+}
+
+fn sum_clock(before: u64, c: Clock) -> u64
+    requires { ⌜ before < 4294967311 ⌝ }
+    ensures { λ r. ⌜ r < 4294967311 ⌝ }
+{
+    let rates = sum_float(sum_float(before, c.framerate), c.pixel_aspect_ratio);
+    sum_float(sum_float(rates, c.time), c.last_frame_time)
+}
+
+// The left-over coefficients.
+fn sum_left(before: u64, left: &[i32; 64]) -> u64
+    requires { ⌜ before < 4294967311 ⌝ }
+    ensures { λ r. ⌜ r < 4294967311 ⌝ }
+{
+    let mut numbers = [0u32; 64];
+    let mut i: usize = 0;
+    while i < 64 {
+        let z = left[i];
+        numbers[i] = held(z);
+        i += 1;
+    }
+    sum_numbers(before, &numbers)
+}
+
+fn sum_matrix(before: u64, matrix: &[u8; 64]) -> u64
+    requires { ⌜ before < 4294967311 ⌝ }
+    ensures { λ r. ⌜ r < 4294967311 ⌝ }
+{
+    sum_bytes(before, matrix)
+}
+
+pub fn sum_record(d: Decoder) -> u64
+    ensures { λ r. ⌜ r < 4294967311 ⌝ }
+{
+    let reader = d.reader;
+    let at = reader.at;
+    let place = [size(at.0)];
+    let sequence = d.sequence;
+    let picture = d.picture;
+    let clock = d.clock;
+    let scalars = sum_picture(sum_sequence(sum_numbers(1, &place), sequence), picture);
+    let ends = [flag(d.has_reference_frame), d.frames_decoded, d.stop];
+    let slice = picture.slice;
+    let left = slice.block_data;
+    let numbers = sum_left(sum_numbers(sum_clock(scalars, clock), &ends), &left);
+    let matrices = sequence.matrices;
+    let intra = matrices.intra_quant_matrix;
+    let other = matrices.non_intra_quant_matrix;
+    sum_matrix(sum_matrix(numbers, &intra), &other)
+}

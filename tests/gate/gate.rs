@@ -1,0 +1,48 @@
+// The material of crates/calls, by the Rust: records made by hand, and what each call is to print.
+// usage: gate records STREAMS CHANGES OUT      writes the records
+//        gate answers STREAMS RECORDS          prints the answers
+mod calls;
+mod lines;
+mod records;
+
+// The Rust's reader as it stands in docs/src, with its place at hand.
+#[allow(dead_code)]
+mod buffer {
+    include!("../../docs/src/crates/native32emu-core/src/mpeg/buffer.rs");
+
+    impl Buffer {
+        pub fn place(&self) -> usize {
+            self.bit_index
+        }
+
+        pub fn set_place(&mut self, place: usize) {
+            self.bit_index = place;
+        }
+    }
+}
+
+// The number at a place of a file, and the bytes behind it, as many as it says.
+pub fn number(bytes: &[u8], at: usize) -> u32 {
+    u32::from_be_bytes(bytes[at..at + 4].try_into().unwrap())
+}
+
+pub fn text<'a>(bytes: &'a [u8], at: &mut usize) -> &'a [u8] {
+    let length = number(bytes, *at) as usize;
+    *at += 4 + length;
+    &bytes[*at - length..*at]
+}
+
+// The streams of a file, with their names.
+pub fn streams(bytes: &[u8]) -> Vec<(String, Vec<u8>)> {
+    let mut at = 4;
+    (0..number(bytes, 0)).map(|_| (String::from_utf8_lossy(text(bytes, &mut at)).into_owned(), text(bytes, &mut at).to_vec())).collect()
+}
+
+fn main() {
+    let given: Vec<String> = std::env::args().skip(1).collect();
+    let read = |at: usize| std::fs::read(&given[at]).expect("the file is read");
+    match given[0].as_str() {
+        "records" => std::fs::write(&given[3], records::make(&read(1), &String::from_utf8(read(2)).unwrap())).expect("the records are written"),
+        _ => print!("{}", lines::answers(&read(1), &read(2))),
+    }
+}
