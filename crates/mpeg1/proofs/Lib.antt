@@ -5,3 +5,4 @@ pub mod Crossing
 pub mod Elements
 pub mod Lengths
 pub mod RoundTrip
+pub mod Seen

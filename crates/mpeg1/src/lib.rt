@@ -2,4 +2,5 @@
 mod calls;
 mod fields;
 mod reading;
+mod views;
 mod writing;

@@ -1,0 +1,40 @@
+use mathlib.Core.Path.{ap₂, _∙_}
+use mathlib.Core.Bool.{Bool, _&&_}
+use native.Mathlib.Omega.{arith}
+use borrow.Author.Needs.{needs}
+use borrow.Author.Tests.{leb-true, not-true, not-false}
+use lib.Dec.{leb}
+use Rattle.laws.proofs.Tests.{both}
+use Rattle.prediction.specs.Planes.{planeStart}
+use Rattle.decoder.proofs.Converting.{size-few}
+use Rattle.mpeg1.proofs.views.mpeg1_plane_start.Statement.{statement}
+use Rattle.mpeg1.proofs.views.mpeg1_plane_start.Tie as tie
+
+-- both numbers are asked for
+abbrev inside : tie.Start → Bool
+inside s = leb (s .args .index) 2 && leb (s .args .plane) 2
+
+returns : tie.Need-returns
+returns c = rw (not-true (inside (c .before)) (c .if1 .taken))
+
+seen-requires : tie.Need-seen-requires
+seen-requires c κs = search needs
+
+plane-number-requires : tie.Need-plane-number-requires
+plane-number-requires c κs = search needs
+
+plane-start-requires : tie.Need-plane-start-requires
+plane-start-requires c κs =
+    let e = c .before .before in let s = e .before in
+    let k = leb-true (s .args .index) 2 (both (leb (s .args .index) 2) (leb (s .args .plane) 2) (not-false (inside s) (e .if1 .left)) .0) in
+    (omega arith, size-few (c .before .seen .ensures .1))
+
+returns-2 : tie.Need-returns-2
+returns-2 c =
+    let s = c .before .before .before .before in
+    rw (not-false (inside s) (c .before .before .before .if1 .left))
+    (c .plane-start .ensures
+    ∙ ap₂ (λ p d. planeStart (s .args .index) p (d .sequence .sizes .«mb_size»)) (c .before .plane-number .ensures) (c .before .before .seen .ensures .0))
+
+pub mpeg1-plane-start-spec : {M : Type 1} → statement M
+mpeg1-plane-start-spec = tie.close (tie.spec returns seen-requires plane-number-requires plane-start-requires returns-2)
