@@ -107,6 +107,19 @@ def _(c):
     for kind, flags in ((1, 1), (2, 2), (2, 2)):
         c.fill(kind, flags, 12, 31, lambda k: head(flags, c.rnd.randint(0, 255)) + [
             (pick((0, 0, 1, 2)), pick((1, -1)) * pick((255, 200, 120, 60, 25, 12, 7, 4, 3, 2, 1))) for _ in range(6)])
+# every level by an escape, at every scale, in blocks of one or two coefficients
+for name, kind, flags in (('intra', 1, 17), ('other', 2, 18)):
+    @case('3.6-3.8_levels_%s' % name, 128, 96, key=False, intra=DISTINCT[1], other=DISTINCT[0])
+    def _(c, kind=kind, flags=flags):
+        levels = [x for x in range(-255, 256)]
+        c.rnd.shuffle(levels)
+        c.fill(1, 1, 48, 8, lambda k: [128])
+        for turn in (0, 1):
+            c.picture(kind)
+            c.slice(1)
+            for i in range(48):
+                c.macroblock(flags, q=(i + 16 * turn) % 31 + 1, pattern=63, block=lambda k: head(flags, 128) + [
+                    (c.rnd.randint(0, 20), levels[(12 * i + 2 * k + 7 * turn + n) % 511], 1) for n in range(1 + k % 2)])
 @case('3.8-X.2_odd_before_clip', 64, 48, key=False, intra=[8] + [16] * 63, other=[16] * 64)
 def _(c):
     for kind, flags in ((1, 1), (2, 2)):

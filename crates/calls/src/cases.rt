@@ -28,7 +28,7 @@ fn hand_outs(stream: &[u8], before: Decoder, store: &mut [u8], calls: u32) {
 // A conversion to an area of so many numbers.
 fn convert(case: &[u8], decoder: Decoder, store: &[u8], length: usize) {
     let mut area = load::area();
-    if length <= 8192 {
+    if length <= 16384 {
         let k = number_at(case, 4) as usize;
         let w = number_at(case, 8) as usize;
         let h = number_at(case, 12) as usize;

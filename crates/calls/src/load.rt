@@ -18,10 +18,10 @@ pub fn store() -> [u8; 55296]
 }
 
 // An area for the conversions, of numbers that are no pixels.
-pub fn area() -> [u32; 8192]
-    ensures { λ r. ⌜ 8192 ≡ length r ⌝ }
+pub fn area() -> [u32; 16384]
+    ensures { λ r. ⌜ 16384 ≡ length r ⌝ }
 {
-    [7; 8192]
+    [7; 16384]
 }
 
 // Reads a file, and answers how many bytes it has; none where it is not there.
