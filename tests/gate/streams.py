@@ -271,7 +271,32 @@ def _(c):
         for value in ((0, -256, -128, 60), (255, 255, 0, 70))[low]:
             c.macroblock(1, block=lambda k: [value])
 
+# bytes between pictures that are no start code, and would be one with a byte less looked at
+@case('1.9_no_start_code')
+def _(c):
+    for some in (b'\x00\x7f\x01\x00', b'\x7f\x00\x01\x00', b'\x00\x00\x03\x00'):
+        c.chance_picture(2)
+        c.data(some + b'\x2a\x15\x55\x7f')
+# a DC value outside in a block whose pairs lead past the last place
+@case('3.3-Q8_eight_dropped', 48, 16)
+def _(c):
+    c.picture(1)
+    c.slice(1)
+    c.macroblock(1, block=lambda k: [255])
+    c.macroblock(1, block=lambda k: [256, (60, 1, 1), (60, 1, 1), ''] if k == 3 else [255])
+    c.macroblock(1, block=lambda k: [200])
+
 # -- part 7
+# the address keeps what the first increment of a slice says
+@case('7.7-7.8_first_increments')
+def _(c):
+    for codes in ((35, 34), (34, 35, 35, 34), (35, 35, 3)):
+        c.picture(1)
+        c.slice(1)
+        c.raw(''.join(GOOD[INC][x] for x in codes))
+        c.first = False
+        c.macroblock(1)
+        c.macroblock(1)
 @case('7.11-7.20_skip_p', 128, 32)
 def _(c):
     c.picture(2, (0, 2))
@@ -418,6 +443,10 @@ for name, fwd, bwd in (('forward', (1, 0), (0, 1)), ('backward', (1, 3), (1, 0))
             c.picture(kind, fwd, bwd)
             c.data(b'\x11\x22\x33\x44')
             c.chance_picture(3)
+@case('8.3_last_picture', tail=False)
+def _(c):
+    for kind in (2, 2, 3, 1):
+        c.chance_picture(kind)
 @case('8.5-7.2_roles', 32, 32, key=False)
 def _(c):
     for kind in (3, 1, 3, 2, 3, 3, 2, 1, 2, 3):
