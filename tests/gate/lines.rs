@@ -17,7 +17,7 @@ fn sum_record(record: &Record) -> u64 {
     sum(sum(1, record.numbers), record.matrices.iter().map(|&b| b as u32))
 }
 
-// What a store is filled with before a case: crates/block_lists has the same rule.
+// What a store is filled with before a case: crates/lists has the same rule.
 fn filled(length: usize) -> Vec<u8> {
     (0..length).map(|place| { let x = (place % 65536 + 7) as u64; (x * x * 40503 / 4096 % 256) as u8 }).collect()
 }

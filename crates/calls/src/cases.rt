@@ -7,7 +7,7 @@ use crate::show::show_conversion;
 use crate::show::show_name;
 use crate::streams::behind_text;
 use crate::streams::text_at;
-use block_lists::planes::fill;
+use lists::noise::fill;
 use decoder::record::Decoder;
 use lists::bytes::part;
 use lists::numbers::number_at;

@@ -4,7 +4,7 @@ use crate::show::number_of;
 use crate::show::show;
 use crate::show::show_name;
 use crate::show::show_opening;
-use block_lists::planes::fill;
+use lists::noise::fill;
 use decoder::answers::Opening;
 use decoder::record::Decoder;
 use lists::bytes::part;

@@ -1,4 +1,5 @@
 pub mod Blocks
 pub mod Bytes
+pub mod Noise
 pub mod Numbers
 pub mod Tallies

@@ -1,9 +1,8 @@
 // Blocks of 64 numbers, each below 0 or not.
-use crate::numbers::held;
 use crate::numbers::number_at;
 use crate::numbers::signed;
 ghost use mathlib.Core.Path.{_≡_};
-ghost use Rattle.lists.specs.Blocks.{blank, blockOf, holdsBlock};
+ghost use Rattle.lists.specs.Blocks.{blank, blockOf};
 
 pub fn blank() -> [i32; 64]
     ensures { λ r. ⌜ r ≡ blank ⌝ }
@@ -23,20 +22,4 @@ pub fn block_of(list: &[u8]) -> [i32; 64]
         i += 1;
     }
     block
-}
-
-// Whether a list holds this block, from its first byte on.
-pub fn holds_block(list: &[u8], block: &[i32; 64]) -> bool
-    ensures { λ r. ⌜ r ≡ holdsBlock (now (list .entry)) (now (block .entry)) ⌝ }
-{
-    let mut i: usize = 0;
-    while i < 64 {
-        let n = number_at(list, 4 * i);
-        let z = block[i];
-        if held(z) != n {
-            return false;
-        }
-        i += 1;
-    }
-    true
 }

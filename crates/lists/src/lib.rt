@@ -1,5 +1,6 @@
-// Lists of the Rust's answers: the bytes, numbers and blocks that a list holds, and how many of its cases agree.
+// Lists of the Rust's answers: the bytes, numbers and blocks that a list holds, how many of its cases agree, and the noise that memory has before.
 pub mod block;
 pub mod bytes;
+pub mod noise;
 pub mod numbers;
 pub mod tally;

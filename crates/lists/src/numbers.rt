@@ -3,7 +3,7 @@ use crate::bytes::byte_at;
 ghost use mathlib.Core.Path.{_≡_};
 ghost use mir.Syntax.{w32};
 ghost use mir.Val.{ofZ, toZ};
-ghost use Rattle.lists.specs.Numbers.{numberAt, holds};
+ghost use Rattle.lists.specs.Numbers.{numberAt};
 
 // The number at a byte of a list.
 pub fn number_at(list: &[u8], at: usize) -> u32
@@ -36,19 +36,4 @@ pub fn held(z: i32) -> u32
         return 4294967295 - ((-1 - z) as u32);
     }
     z as u32
-}
-
-// Whether a list holds these numbers, from its first byte on.
-pub fn holds(list: &[u8], numbers: &[u32]) -> bool
-    ensures { λ r. ⌜ r ≡ holds (now (list .entry)) (now (numbers .entry)) ⌝ }
-{
-    let mut i: usize = 0;
-    while i < numbers.len() {
-        let n = number_at(list, 4 * i);
-        if numbers[i] != n {
-            return false;
-        }
-        i += 1;
-    }
-    true
 }

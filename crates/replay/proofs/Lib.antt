@@ -1,11 +1,6 @@
 pub mod AllAgree
-pub mod CaseScores
-pub mod CasesAgree
-pub mod Components
 pub mod Defaults
 pub mod Inside
-pub mod Pictures
-pub mod Readings
 pub mod Replays
 pub mod Scores
 pub mod Steps

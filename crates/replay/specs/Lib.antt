@@ -1,9 +1,3 @@
-pub mod Cases
-pub mod CodeList
 pub mod Operations
-pub mod PixelList
 pub mod ReaderList
-pub mod Readings
 pub mod Replayed
-pub mod ScaledList
-pub mod VectorList

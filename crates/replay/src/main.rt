@@ -1,17 +1,10 @@
-// Runs ours on the lists of the Rust's answers (tests/oracle writes them), and says of each list how many cases agree.
-mod cases;
-mod code_list;
+// Runs the worked cases, and the reader on the list of the Rust's answers (tests/oracle writes it); says of the list how many cases agree.
 mod lent;
 mod load;
-mod pixel_list;
 mod reader_list;
 mod reader_operations;
-mod reading;
-mod scaled_list;
-mod vector_list;
 mod worked;
 
-use cases::Kind;
 use libc::STDOUT_FILENO;
 use lists::numbers::held;
 use lists::tally::Tally;
@@ -121,26 +114,4 @@ fn main() {
     print_pixels(worked::whites());
     print_values(worked::reader());
     print(b"reader", reader_list::replay());
-    print(b"codes", cases::replay(Kind::Codes, b"codes.bin"));
-    print(b"vectors", cases::replay(Kind::Vectors, b"vectors.bin"));
-    print(b"pixels", cases::replay(Kind::Pixels, b"pixels.bin"));
-    print(b"scaled", cases::replay(Kind::Scaled, b"scaled.bin"));
-    print(
-        b"dequantised",
-        cases::replay(Kind::Dequantised, b"dequantised.bin"),
-    );
-    print(
-        b"transforms",
-        cases::replay(Kind::Transforms, b"transforms.bin"),
-    );
-    print(b"blocks", cases::replay(Kind::Blocks, b"blocks.bin"));
-    print(
-        b"random_blocks",
-        cases::replay(Kind::Blocks, b"random_blocks.bin"),
-    );
-    print(
-        b"macroblocks",
-        cases::replay(Kind::Macroblocks, b"macroblocks.bin"),
-    );
-    print(b"writers", cases::replay(Kind::Writers, b"writers.bin"));
 }
