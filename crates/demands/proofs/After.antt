@@ -28,7 +28,7 @@ use Rattle.demands.specs.Questions.{withHeader, headed}
 use Rattle.demands.specs.Stores.{SameFrom}
 use Rattle.demands.specs.After as A
 use Rattle.demands.specs.After.{AfterHeader, AfterOpening, AfterHandOut}
-use Rattle.demands.specs.Handing.{HandsOut}
+use Rattle.demands.specs.Handing.{Opened, HandsOut}
 use Rattle.demands.proofs.AfterHeader.{AskAfter, IsHeaded, header-after, header-passed}
 use Rattle.demands.proofs.Reached.{same-from, then-same, Fit, CallEnd, hands, seven, stops, pictures-end}
 use Rattle.demands.proofs.RunTurns.{sized}
@@ -36,7 +36,7 @@ use Rattle.demands.proofs.RunTurns.{sized}
 -- ---- opening
 
 abbrev OpeningRow : List ℕ → List ℕ → Opening → Decoder → List ℕ → Type 0
-OpeningRow s l o x m = elim o [ O.Ready ↦ Unit {0} | O.Refused n ↦ AfterOpening s l n x × (m ≡ l) ]
+OpeningRow s l o x m = elim o [ O.Ready ↦ Opened s l x m | O.Refused n ↦ AfterOpening s l n x × (m ≡ l) ]
 
 abbrev OpenedRow : List ℕ → List ℕ → Left Opening → Type 0
 OpenedRow s l r = OpeningRow s l (r .answer) (r .decoder) (r .store)
@@ -45,7 +45,8 @@ opened-row : (s l : List ℕ) (a : Asked) → AskAfter s fresh a → IsHeaded s 
 unfolding opened askStore
 opened-row s l (refused n x) h e = (A.after-header h, refl)
 opened-row s l (passed x) h e =
-    by-case (λ a. OpenedRow s l (opened l a)) (leb (storeBytes x) (length l)) (λ t. tt)
+    by-case (λ a. OpenedRow s l (opened l a)) (leb (storeBytes x) (length l))
+    (λ t. record { decoder = e; long = leb-true (storeBytes x) (length l) t; store = refl })
     (λ t. (A.after-6 (omega (arith, leb-false (storeBytes x) (length l) t, ap storeBytes e)), refl))
 
 opening-row : (s l : List ℕ) → OpenedRow s l (opening s l)
@@ -57,6 +58,9 @@ opening-row s l =
 
 pub opening-after : (s l : List ℕ) (n : ℕ) → opening s l .answer ≡ O.Refused n → AfterOpening s l n (opening s l .decoder) × (opening s l .store ≡ l)
 opening-after s l n e = subst (λ (o : Opening). OpeningRow s l o (opening s l .decoder) (opening s l .store)) e (opening-row s l)
+
+pub opening-ready : (s l : List ℕ) → opening s l .answer ≡ O.Ready → Opened s l (opening s l .decoder) (opening s l .store)
+opening-ready s l e = subst (λ (o : Opening). OpeningRow s l o (opening s l .decoder) (opening s l .store)) e (opening-row s l)
 
 -- ---- a possible record
 

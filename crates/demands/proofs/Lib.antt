@@ -19,3 +19,4 @@ pub mod Converts
 pub mod After
 pub mod Numbers
 pub mod Rows
+pub mod Demand1

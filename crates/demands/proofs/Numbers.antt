@@ -77,3 +77,8 @@ pub opening-positive : (n : ℕ) → among n openingNumbers ≡ true → 1 ≤ n
 unfolding among
 opening-positive zero h = absurd (false≢true h)
 opening-positive (suc n) h = omega arith
+
+pub conversion-positive : (n : ℕ) → among n conversionNumbers ≡ true → 1 ≤ n
+unfolding among
+conversion-positive zero h = absurd (false≢true h)
+conversion-positive (suc n) h = omega arith

@@ -1,19 +1,26 @@
--- RULES 8.3 to 8.11: what a hand-out gives out, and what it then leaves.
+-- RULES O.3, O.4, 8.3 to 8.11: what an opening that is ready leaves; what a hand-out gives out, and what it then leaves.
 use mathlib.Core.Path.{_≡_}
 use mathlib.Core.Bool.{Bool, true, false}
 use mathlib.Core.List.{List}
-use Prim.Native.Nat.{ℕ}
+use Prim.Native.Nat.{ℕ, _≤_}
 use lib.Dec.{eqb}
+use lib.ListN.{length}
 use Rattle.bits.specs.Programs.{Out, run}
 use Rattle.picture.specs.Ways.{Way, on}
 use Rattle.picture.specs.Pictures.{Frame, picture}
 use Rattle.decoder.specs.declared.record.Decoder.{Decoder}
 use Rattle.decoder.specs.declared.answers.Shown.{Shown}
-use Rattle.decoder.specs.Record.{place, placeAs, pictureAs, heldAs}
+use Rattle.decoder.specs.Record.{fresh, place, placeAs, pictureAs, heldAs, storeBytes, cleared}
 use Rattle.decoder.specs.Turns.{Going, nextPicture, counted}
 use Rattle.decoder.specs.HandOut.{begun}
-use Rattle.demands.specs.Questions.{headed, isThere, isFlush}
+use Rattle.demands.specs.Questions.{withHeader, headed, isThere, isFlush}
 use Rattle.demands.specs.After.{InTurn}
+
+-- RULES O.3, O.4: the fresh record with the header accepted, and the store's first 1,152 × macroblocks bytes 0
+pub record Opened (s l : List ℕ) (x : Decoder) (m : List ℕ) : Type 0 where
+  pub decoder : x ≡ withHeader s fresh
+  pub long : storeBytes x ≤ length l
+  pub store : m ≡ cleared (storeBytes x) l
 
 -- the run of the picture at the record's place, decoded in the store l
 abbrev pub pictureRun : List ℕ → Decoder → List ℕ → Out (Way Frame)

@@ -1,0 +1,163 @@
+-- RULES D1.3 to D1.5: demand 1, of what the calls gave. Each theorem is of any call: by its contract it gave r (Calls.antt), and nothing else is assumed.
+-- D1.1 and D1.2 are that the calls' code is proved, with no `requires`.
+use mathlib.Core.Path.{_≡_, refl, sym, ap, subst, _∙_}
+use mathlib.Core.Bool.{true, false}
+use mathlib.Core.List.{List}
+use mathlib.Core.Logic.{_⊎_}
+use Prim.Native.Nat.{ℕ, _<_, _≤_}
+use native.Mathlib.Omega.{arith}
+use lib.ListN.{length}
+use Rattle.decoder.specs.declared.record.Decoder.{Decoder}
+use Rattle.decoder.specs.declared.answers.Opening.{Opening}
+use Rattle.decoder.specs.declared.answers.Opening.the-variants as O
+use Rattle.decoder.specs.declared.answers.Opened.{Opened}
+use Rattle.decoder.specs.declared.answers.Outcome.{Outcome}
+use Rattle.decoder.specs.declared.answers.Outcome.the-variants as H
+use Rattle.decoder.specs.declared.answers.Handed.{Handed}
+use Rattle.decoder.specs.declared.answers.Converted.{Converted}
+use Rattle.decoder.specs.declared.answers.Converted.the-variants as C
+use Rattle.decoder.specs.Record.{Left, left, fresh, storeBytes}
+use Rattle.decoder.specs.Possible.{possible}
+use Rattle.decoder.specs.Opening.{opening}
+use Rattle.decoder.specs.HandOut.{handOut}
+use Rattle.decoder.specs.Conversion.{Area, area, converted}
+use Rattle.demands.specs.Calls.{Opens, Decodes, Converts, openingNumber, handOutNumber, conversionNumber}
+use Rattle.demands.specs.Questions.{firstNo, IsFirstNo, withHeader, headed, openingAsks, handOutAsks, conversionAsks}
+use Rattle.demands.specs.Numbers.{among, openingNumbers, handOutNumbers, conversionNumbers}
+use Rattle.demands.specs.After.{AfterHeader, AfterOpening, AfterHandOut}
+use Rattle.demands.specs.Rows.{Row3, Row4, Row5, Row7, Row89}
+use Rattle.demands.proofs.Questions.{first-is, is-first, opening-asks, hand-asks, conversion-asks}
+use Rattle.demands.proofs.After.{opening-after, hand-after}
+use Rattle.demands.proofs.Numbers.{opening-named, opening-positive, hand-named, positive, conversion-after, conversion-positive}
+use Rattle.demands.proofs.Rows as Rows
+
+-- ---- open
+
+module _ (s l : List ℕ) (r : Opened) (m : List ℕ) (gave : Opens s l r m) where
+  -- D1.4: the number of the first "no", and 0 where there is none
+  pub open-number : openingNumber (r .answer) ≡ firstNo (openingAsks s l)
+  open-number = ap (λ (x : Left Opening). openingNumber (x .answer)) gave ∙ opening-asks s l
+
+  -- D1.5: what is left behind each number
+  pub open-left : (n : ℕ) → r .answer ≡ O.Refused n → AfterOpening s l n (r .decoder) × (m ≡ l)
+  open-left n e =
+      subst (λ (x : Left Opening). x .answer ≡ O.Refused n → AfterOpening s l n (x .decoder) × (x .store ≡ l)) (sym gave) (opening-after s l n) e
+
+  -- D1.3
+  pub open-named : (n : ℕ) → r .answer ≡ O.Refused n → among n openingNumbers ≡ true
+  open-named n e = opening-named (open-left n e .0)
+
+  -- D1.4, both ways
+  pub open-says : (n : ℕ) → 0 < n → IsFirstNo n (openingAsks s l) → r .answer ≡ O.Refused n
+  open-says n h k = go (r .answer) (open-number ∙ first-is (openingAsks s l) k)
+    where
+      go : (o : Opening) → openingNumber o ≡ n → o ≡ O.Refused n
+      go O.Ready e = let no : ⊥ = omega arith in absurd no
+      go (O.Refused i) e = ap O.Refused e
+
+  pub open-means : (n : ℕ) → r .answer ≡ O.Refused n → IsFirstNo n (openingAsks s l)
+  open-means n e = is-first (openingAsks s l) n (opening-positive n (open-named n e)) (sym open-number ∙ ap openingNumber e)
+
+  -- the rows of the table
+  pub open-1 : r .answer ≡ O.Refused 1 → (16777216 < length s) × (r .decoder ≡ fresh)
+  open-1 e = Rows.opening-1 (open-left 1 e .0) refl
+
+  pub open-3 : r .answer ≡ O.Refused 3 → Row3 s fresh (r .decoder)
+  open-3 e = Rows.header-3 (Rows.opening-header (open-left 3 e .0) (omega arith) (omega arith)) refl
+
+  pub open-4 : r .answer ≡ O.Refused 4 → Row4 s fresh (r .decoder)
+  open-4 e = Rows.header-4 (Rows.opening-header (open-left 4 e .0) (omega arith) (omega arith)) refl
+
+  pub open-5 : r .answer ≡ O.Refused 5 → Row5 s fresh (r .decoder)
+  open-5 e = Rows.header-5 (Rows.opening-header (open-left 5 e .0) (omega arith) (omega arith)) refl
+
+  pub open-6 : r .answer ≡ O.Refused 6 → (length l < storeBytes (withHeader s fresh)) × (r .decoder ≡ fresh)
+  open-6 e = Rows.opening-6 (open-left 6 e .0) refl
+
+  -- QC: whatever the number, the store is as it was
+  pub open-store : (n : ℕ) → r .answer ≡ O.Refused n → m ≡ l
+  open-store n e = open-left n e .1
+
+-- ---- decode
+
+module _ (d : Decoder) (s l : List ℕ) (r : Handed) (m : List ℕ) (gave : Decodes d s l r m) where
+  -- D1.4
+  pub decode-number : handOutNumber (r .outcome) ≡ firstNo (handOutAsks d s l)
+  decode-number = ap (λ (x : Left Outcome). handOutNumber (x .answer)) gave ∙ hand-asks d s l
+
+  -- D1.5
+  pub decode-left : (n : ℕ) → r .outcome ≡ H.Refused n → AfterHandOut d s l n (r .decoder) m
+  decode-left n e =
+      subst (λ (x : Left Outcome). x .answer ≡ H.Refused n → AfterHandOut d s l n (x .decoder) (x .store)) (sym gave) (hand-after d s l n) e
+
+  -- D1.3
+  pub decode-named : (n : ℕ) → r .outcome ≡ H.Refused n → among n handOutNumbers ≡ true
+  decode-named n e = hand-named (decode-left n e)
+
+  -- D1.4, both ways
+  pub decode-says : (n : ℕ) → 0 < n → IsFirstNo n (handOutAsks d s l) → r .outcome ≡ H.Refused n
+  decode-says n h k = go (r .outcome) (decode-number ∙ first-is (handOutAsks d s l) k)
+    where
+      go : (o : Outcome) → handOutNumber o ≡ n → o ≡ H.Refused n
+      go (H.Picture i) e = let no : ⊥ = omega arith in absurd no
+      go (H.Refused i) e = ap H.Refused e
+
+  pub decode-means : (n : ℕ) → r .outcome ≡ H.Refused n → IsFirstNo n (handOutAsks d s l)
+  decode-means n e = is-first (handOutAsks d s l) n (positive n (decode-named n e)) (sym decode-number ∙ ap handOutNumber e)
+
+  -- the rows of the table
+  pub decode-1 : r .outcome ≡ H.Refused 1 → (16777216 < length s) × (r .decoder ≡ d) × (m ≡ l)
+  decode-1 e = Rows.hand-1 (decode-left 1 e) refl
+
+  pub decode-2 : r .outcome ≡ H.Refused 2 → (possible d ≡ false) × (r .decoder ≡ d) × (m ≡ l)
+  decode-2 e = Rows.hand-2 (decode-left 2 e) refl
+
+  header-left : (n : ℕ) → r .outcome ≡ H.Refused n → 2 < n → n < 6
+      → (d .sequence .«has_sequence_header» ≡ false) × AfterHeader s d n (r .decoder) × (m ≡ l)
+  header-left n e p q = Rows.hand-header (decode-left n e) p q
+
+  pub decode-3 : r .outcome ≡ H.Refused 3 → (d .sequence .«has_sequence_header» ≡ false) × Row3 s d (r .decoder) × (m ≡ l)
+  decode-3 e = let h = header-left 3 e (omega arith) (omega arith) in (h .0, Rows.header-3 (h .1) refl, h .2)
+
+  pub decode-4 : r .outcome ≡ H.Refused 4 → (d .sequence .«has_sequence_header» ≡ false) × Row4 s d (r .decoder) × (m ≡ l)
+  decode-4 e = let h = header-left 4 e (omega arith) (omega arith) in (h .0, Rows.header-4 (h .1) refl, h .2)
+
+  pub decode-5 : r .outcome ≡ H.Refused 5 → (d .sequence .«has_sequence_header» ≡ false) × Row5 s d (r .decoder) × (m ≡ l)
+  decode-5 e = let h = header-left 5 e (omega arith) (omega arith) in (h .0, Rows.header-5 (h .1) refl, h .2)
+
+  pub decode-6 : r .outcome ≡ H.Refused 6 → (length l < storeBytes (headed s d)) × (r .decoder ≡ d) × (m ≡ l)
+  decode-6 e = Rows.hand-6 (decode-left 6 e) refl
+
+  pub decode-7 : r .outcome ≡ H.Refused 7 → Row7 d s l (r .decoder) m
+  decode-7 e = Rows.hand-7 (decode-left 7 e) refl
+
+  -- QA: for the stop mark nothing is changed
+  pub decode-8 : r .outcome ≡ H.Refused 8 → ((d .stop ≡ 8) × (r .decoder ≡ d) × (m ≡ l)) ⊎ Row89 d s l 8 (r .decoder) m
+  decode-8 e = Rows.hand-8-9 (decode-left 8 e) (omega arith)
+
+  pub decode-9 : r .outcome ≡ H.Refused 9 → ((d .stop ≡ 9) × (r .decoder ≡ d) × (m ≡ l)) ⊎ Row89 d s l 9 (r .decoder) m
+  decode-9 e = Rows.hand-8-9 (decode-left 9 e) (omega arith)
+
+-- ---- write_rgb_scaled
+
+module _ (d : Decoder) (l : List ℕ) (k : ℕ) (a : List ℕ) (w h : ℕ) (r : Converted) (b : List ℕ) (gave : Converts d l k a w h r b) where
+  -- D1.4
+  pub convert-number : conversionNumber r ≡ firstNo (conversionAsks d l k a w h)
+  convert-number = ap (λ (x : Area). conversionNumber (x .answer)) gave ∙ conversion-asks d l k a w h
+
+  -- D1.3, D1.5: whatever the number, the area is as it was
+  pub convert-left : (n : ℕ) → r ≡ C.Refused n → (among n conversionNumbers ≡ true) × (b ≡ a)
+  convert-left n e =
+      subst (λ (x : Area). x .answer ≡ C.Refused n → (among n conversionNumbers ≡ true) × (x .area ≡ a)) (sym gave) (conversion-after d l k a w h n) e
+
+  -- D1.4, both ways: the questions 2, 6, 10 and 11
+  pub convert-says : (n : ℕ) → 0 < n → IsFirstNo n (conversionAsks d l k a w h) → r ≡ C.Refused n
+  convert-says n p q = go r (convert-number ∙ first-is (conversionAsks d l k a w h) q)
+    where
+      go : (o : Converted) → conversionNumber o ≡ n → o ≡ C.Refused n
+      go C.Written e = let no : ⊥ = omega arith in absurd no
+      go (C.Refused i) e = ap C.Refused e
+
+  pub convert-means : (n : ℕ) → r ≡ C.Refused n → IsFirstNo n (conversionAsks d l k a w h)
+  convert-means n e =
+      is-first (conversionAsks d l k a w h) n (conversion-positive n (convert-left n e .0)) (sym convert-number ∙ ap conversionNumber e)
