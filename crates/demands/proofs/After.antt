@@ -99,7 +99,7 @@ module _ (d : Decoder) (s l : List ℕ) where
   unfolding begun
   begun-decoder x = by-case (λ (z : Going). z .decoder ≡ x) (d .sequence .«has_sequence_header») (λ e. refl) (λ e. refl)
 
-  cleared-same : (n : ℕ) → n ≤ length l → SameFrom n l (cleared n l)
+  pub cleared-same : (n : ℕ) → n ≤ length l → SameFrom n l (cleared n l)
   cleared-same n h = record {
     long = cleared-length n l h;
     same = λ i w. subst (λ (j : ℕ). getD (cleared n l) j 0 ≡ getD l j 0) (omega arith) (cleared-later n l (i - n));

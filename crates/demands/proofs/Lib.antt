@@ -20,3 +20,4 @@ pub mod After
 pub mod Numbers
 pub mod Rows
 pub mod Demand1
+pub mod Demand2

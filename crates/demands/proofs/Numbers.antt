@@ -14,7 +14,8 @@ use Rattle.decoder.specs.declared.answers.Converted.{Converted}
 use Rattle.decoder.specs.declared.answers.Converted.the-variants as C
 use Rattle.decoder.specs.Record.{storeBytes}
 use Rattle.decoder.specs.Possible.{possible}
-use Rattle.decoder.specs.Conversion.{Area, fits, converted}
+use Rattle.argb.specs.Scaled.{scaled}
+use Rattle.decoder.specs.Conversion.{Area, pictureIn, fits, converted}
 use Rattle.demands.specs.Causes.{Cause, dc, prediction}
 use Rattle.demands.specs.After as A
 use Rattle.demands.specs.After.{AfterHeader, AfterOpening, AfterHandOut}
@@ -56,22 +57,30 @@ unfolding among
 positive zero h = absurd (false≢true h)
 positive (suc n) h = omega arith
 
--- what the conversion leaves behind a number: the area as it was
-abbrev Row : List ℕ → Converted → List ℕ → Type 0
-Row a o b = elim o [ C.Written ↦ Unit {0} | C.Refused n ↦ (among n conversionNumbers ≡ true) × (b ≡ a) ]
+-- what the conversion leaves: the area as it was, or the pixels
+abbrev Row : List ℕ → List ℕ → Converted → List ℕ → Type 0
+Row a p o b = elim o [ C.Written ↦ b ≡ p | C.Refused n ↦ (among n conversionNumbers ≡ true) × (b ≡ a) ]
 
-area-row : (d : Decoder) (l : List ℕ) (k : ℕ) (a : List ℕ) (w h : ℕ) → Row a (converted d l k a w h .answer) (converted d l k a w h .area)
+area-row : (d : Decoder) (l : List ℕ) (k : ℕ) (a : List ℕ) (w h : ℕ)
+    → Row a (scaled (pictureIn d l k) w h a) (converted d l k a w h .answer) (converted d l k a w h .area)
 unfolding converted among
 area-row d l k a w h =
-    let P : Area → Type 0 = λ r. Row a (r .answer) (r .area) in
+    let P : Area → Type 0 = λ r. Row a (scaled (pictureIn d l k) w h a) (r .answer) (r .area) in
     by-case P (not (possible d)) (λ e. (refl, refl)) (λ e.
     by-case P (not (leb (storeBytes d) (length l))) (λ e. (refl, refl)) (λ e.
     by-case P (not (d .sequence .«has_sequence_header» && leb k 2)) (λ e. (refl, refl)) (λ e.
-    by-case P (not (fits w h a)) (λ e. (refl, refl)) (λ e. tt))))
+    by-case P (not (fits w h a)) (λ e. (refl, refl)) (λ e. refl))))
 
 pub conversion-after : (d : Decoder) (l : List ℕ) (k : ℕ) (a : List ℕ) (w h n : ℕ) → converted d l k a w h .answer ≡ C.Refused n
     → (among n conversionNumbers ≡ true) × (converted d l k a w h .area ≡ a)
-conversion-after d l k a w h n e = subst (λ (o : Converted). Row a o (converted d l k a w h .area)) e (area-row d l k a w h)
+conversion-after d l k a w h n e =
+    subst (λ (o : Converted). Row a (scaled (pictureIn d l k) w h a) o (converted d l k a w h .area)) e (area-row d l k a w h)
+
+-- RULES D2.2
+pub conversion-written : (d : Decoder) (l : List ℕ) (k : ℕ) (a : List ℕ) (w h : ℕ) → converted d l k a w h .answer ≡ C.Written
+    → converted d l k a w h .area ≡ scaled (pictureIn d l k) w h a
+conversion-written d l k a w h e =
+    subst (λ (o : Converted). Row a (scaled (pictureIn d l k) w h a) o (converted d l k a w h .area)) e (area-row d l k a w h)
 
 pub opening-positive : (n : ℕ) → among n openingNumbers ≡ true → 1 ≤ n
 unfolding among
