@@ -21,3 +21,4 @@ pub mod Numbers
 pub mod Rows
 pub mod Demand1
 pub mod Demand2
+pub mod DemandRun

@@ -70,11 +70,11 @@ module _ (s : List ℕ) (short : length s ≤ 16777216) (bytes : (k : ℕ) → g
 -- ---- a stream that is too long: every call answers 1 and changes nothing
 
 module _ (s l : List ℕ) (long : leb (length s) 16777216 ≡ false) where
-  long-call : (x : Going) → call s x ≡ left (H.Refused 1) (x .decoder) (x .store)
+  pub long-call : (x : Going) → call s x ≡ left (H.Refused 1) (x .decoder) (x .store)
   unfolding handOut
   long-call x = rw long refl
 
-  long-begin : begin s l ≡ going fresh l
+  pub long-begin : begin s l ≡ going fresh l
   unfolding opening
   long-begin = rw long refl
 

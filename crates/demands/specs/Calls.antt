@@ -1,7 +1,7 @@
 -- What the three calls give, by their contracts: the theorems on the calls are stated of these.
 use mathlib.Core.Path.{_≡_}
 use mathlib.Core.List.{List, [], _∷_}
-use Prim.Native.Nat.{ℕ}
+use Prim.Native.Nat.{ℕ, _+_}
 use Rattle.decoder.specs.declared.record.Decoder.{Decoder}
 use Rattle.decoder.specs.declared.answers.Opening.{Opening}
 use Rattle.decoder.specs.declared.answers.Opening.the-variants as O
@@ -15,6 +15,7 @@ use Rattle.decoder.specs.Record.{left}
 use Rattle.decoder.specs.Opening.{opening}
 use Rattle.decoder.specs.Turns.{Going, going}
 use Rattle.decoder.specs.HandOut.{handOut}
+use Rattle.decoder.specs.Run.{pictureIn}
 use Rattle.decoder.specs.Conversion.{area, converted}
 
 -- contract of `open`: given the stream s and the store l it gave r, and left the store m
@@ -44,3 +45,17 @@ pub data Calls (s : List ℕ) : Going → List Handed → Going → Type 0 where
   none : {x : Going} → Calls s x [] x
   and-then : {x : Going} {r : Handed} {m : List ℕ} {rs : List Handed} {y : Going} → Decodes (x .decoder) s (x .store) r m
       → Calls s (going (r .decoder) m) rs y → Calls s x (r ∷ rs) y
+
+-- RULES R.1: how many pictures they gave
+unfoldable pub picturesIn : List Handed → ℕ
+picturesIn [] = 0
+picturesIn (r ∷ rs) = pictureIn (r .outcome) + picturesIn rs
+
+-- RULES R.2: all of them answered 7; and: behind a 7 all did
+abbrev pub AllSeven : List Handed → Type 0
+AllSeven [] = Unit {0}
+AllSeven (r ∷ rs) = (r .outcome ≡ H.Refused 7) × AllSeven rs
+
+abbrev pub StaySeven : List Handed → Type 0
+StaySeven [] = Unit {0}
+StaySeven (r ∷ rs) = (r .outcome ≡ H.Refused 7 → AllSeven rs) × StaySeven rs
