@@ -22,3 +22,4 @@ pub mod Rows
 pub mod Demand1
 pub mod Demand2
 pub mod DemandRun
+pub mod Display

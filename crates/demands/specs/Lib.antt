@@ -8,3 +8,4 @@ pub mod Rows
 pub mod Handing
 pub mod Numbers
 pub mod Lines
+pub mod Display

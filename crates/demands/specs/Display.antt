@@ -1,0 +1,94 @@
+-- Order of display (11172-2, 2.4.4; RULES 8.3 to 8.8): of the pictures that calls read, and of those that they hand out.
+use mathlib.Core.Path.{_≡_}
+use mathlib.Core.Bool.{Bool, true, _&&_}
+use mathlib.Core.List.{List, [], _∷_, _++_}
+use Prim.Native.Nat.{ℕ, _*_}
+use borrow.Rule.Slice.PartMut.{midOf}
+use lib.Dec.{eqb, leb}
+use lib.ListN.{length}
+use Rattle.laws.specs.Turns.{again, stop}
+use Rattle.bits.specs.Programs.{run, if_then_else_}
+use Rattle.picture.specs.Ways.{Way, on, out}
+use Rattle.picture.specs.Pictures.{Frame, pictureHeader}
+use Rattle.decoder.specs.declared.record.Decoder.{Decoder}
+use Rattle.decoder.specs.declared.answers.Outcome.{Outcome}
+use Rattle.decoder.specs.declared.answers.Outcome.the-variants as H
+use Rattle.decoder.specs.declared.answers.Handed.{Handed}
+use Rattle.decoder.specs.Record.{place}
+use Rattle.decoder.specs.Possible.{possibleWith}
+use Rattle.decoder.specs.Headers.{Asked, refused, passed}
+use Rattle.decoder.specs.Turns.{Going, going, nextPicture, pictureTurn}
+use Rattle.decoder.specs.HandOut.{askFirst, begun}
+use Rattle.demands.specs.Calls.{Decodes}
+use Rattle.demands.specs.Questions.{isThere}
+use Rattle.demands.specs.Handing.{pictureRun, isB}
+
+-- ---- the rule
+
+-- a picture as it is coded: is it a B picture, is it decoded (RULES 8.4), and its samples
+pub record Coded : Type 0 where
+  pub isB : Bool
+  pub decoded : Bool
+  pub samples : List ℕ
+
+-- 11172-2, 2.4.4: a B picture is shown at once; an I or P picture waits, and is shown when the next one is decoded. h is the one that waits, if any
+unfoldable pub displayed : List (List ℕ) → List Coded → List (List ℕ)
+displayed h [] = []
+displayed h (c ∷ cs) = if c .isB then c .samples ∷ displayed h cs else h ++ displayed (c .samples ∷ []) cs
+
+-- the one that waits behind these pictures
+unfoldable pub waiting : List (List ℕ) → List Coded → List (List ℕ)
+waiting h [] = h
+waiting h (c ∷ cs) = if c .isB then waiting h cs else waiting (c .samples ∷ []) cs
+
+-- 11172-2, 2.4.4: the order of display: at the end the one that waits is shown, too
+abbrev pub displayOrder : List Coded → List (List ℕ)
+displayOrder cs = displayed [] cs ++ waiting [] cs
+
+abbrev pub AllDecoded : List Coded → Type 0
+AllDecoded [] = Unit {0}
+AllDecoded (c ∷ cs) = (c .decoded ≡ true) × AllDecoded cs
+
+-- ---- what the calls read and show
+
+-- RULES 6.11: the samples of the picture number k, of n macroblocks
+abbrev pub samplesOf : ℕ → ℕ → List ℕ → List ℕ
+samplesOf n k l = midOf (k * (384 * n)) (384 * n) l
+
+-- a picture that is read to its end is in the store that was the current one before; one that leaves early is none
+abbrev pub codedBy : List ℕ → Decoder → Way Frame → List Coded
+codedBy s d (on f) = record {
+  isB = isB f;
+  decoded = run (pictureHeader (d .picture)) s (place d) .value .decoded;
+  samples = samplesOf (d .sequence .sizes .«mb_size») (d .picture .stores .cur) (f .store);
+} ∷ []
+codedBy s d (out n m) = []
+
+-- RULES 8.2, 8.3: the picture that a turn reads, with the record d behind its search
+unfoldable pub turnReads : List ℕ → Decoder → List ℕ → List Coded
+turnReads s d l = if isThere s d then codedBy s d (pictureRun s d l .value) else []
+
+-- RULES 8.7: in one turn, or two
+unfoldable pub picturesRead : List ℕ → Going → List Coded
+picturesRead s x =
+    turnReads s (nextPicture s (x .decoder)) (x .store) ++
+    (elim (pictureTurn s x) [ again y ↦ turnReads s (nextPicture s (y .decoder)) (y .store) | stop e ↦ [] ])
+
+abbrev pub askedReads : List ℕ → Decoder → List ℕ → Asked → List Coded
+askedReads s d l (refused n x) = []
+askedReads s d l (passed x) = picturesRead s (begun d x l)
+
+-- the pictures that a hand-out reads: none where a question before them is answered "no"
+unfoldable pub handOutReads : Decoder → List ℕ → List ℕ → List Coded
+handOutReads d s l = if leb (length s) 16777216 && possibleWith s d && eqb (d .stop) 0 then askedReads s d l (askFirst s d l) else []
+
+-- the picture that it hands out: the samples of the store that it names
+abbrev pub shownBy : Outcome → Decoder → List ℕ → List (List ℕ)
+shownBy o x m = elim o [ H.Picture i ↦ samplesOf (x .sequence .sizes .«mb_size») (i .store) m ∷ [] | H.Refused n ↦ [] ]
+
+-- calls with one stream, each given what the one before it left: what they show, and what they read
+pub data Shows (s : List ℕ) : Going → List (List ℕ) → List Coded → Going → Type 0 where
+  none : {x : Going} → Shows s x [] [] x
+  and-then : {x : Going} {r : Handed} {m : List ℕ} {ps : List (List ℕ)} {cs : List Coded} {y : Going} → Decodes (x .decoder) s (x .store) r m
+      → Shows s (going (r .decoder) m) ps cs y
+      → Shows s x (shownBy (r .outcome) (r .decoder) m ++ ps) (handOutReads (x .decoder) s (x .store) ++ cs) y
