@@ -23,3 +23,5 @@ pub mod Demand1
 pub mod Demand2
 pub mod DemandRun
 pub mod Display
+pub mod DisplayTurn
+pub mod DisplayTurns
