@@ -56,7 +56,7 @@ samples-same n k j l m d s =
     let size = 384 * n in
     let a = j * (384 * n) in
     let long : length (midOf a size m) ≡ length (midOf a size l) =
-        omega (arith, length-take size (drop a m), length-drop a m, length-take size (drop a l), length-drop a l, s .long) in
+    omega (arith, length-take size (drop a m), length-drop a m, length-take size (drop a l), length-drop a l, s .long) in
     ext-getD 0 (midOf a size m) (midOf a size l) long (λ i h.
     let i-in : i < size = omega (arith, length-take size (drop a m)) in
     mid-at a size m i i-in ∙ s .same (a + i) (apart (decLt j k) i i-in) ∙ sym (mid-at a size l i i-in))

@@ -69,7 +69,7 @@ module _ (s : List ℕ) (d : Decoder) (l : List ℕ) where
   unfolding turnReads
   reads-out t r = rw t (ap (λ (o : Out (Way P.Frame)). codedBy s d (o .value)) r)
 
-  reads-none : isThere s d ≡ false → turnReads s d l ≡ []
+  pub reads-none : isThere s d ≡ false → turnReads s d l ≡ []
   unfolding turnReads
   reads-none t = rw t refl
 

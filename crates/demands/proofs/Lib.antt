@@ -25,3 +25,5 @@ pub mod DemandRun
 pub mod Display
 pub mod DisplayTurn
 pub mod DisplayTurns
+pub mod DisplayCall
+pub mod DisplayRun

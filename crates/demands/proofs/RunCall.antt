@@ -41,7 +41,7 @@ module _ (s : List ℕ) (short : length s ≤ 16777216) where
       all-true (le-leb (place d) 134217728 (omega arith)) (k .sequence) (k .picture) (le-leb (d .«frames_decoded») 134217728 (omega arith))
       (rw (k .mark) refl)
 
-  keeps-marked : {d : Decoder} {l : List ℕ} (n : ℕ) → Keeps s d l → (n ≡ 8) ⊎ (n ≡ 9) → possibleWith s (stopAs n d) ≡ true
+  pub keeps-marked : {d : Decoder} {l : List ℕ} (n : ℕ) → Keeps s d l → (n ≡ 8) ⊎ (n ≡ 9) → possibleWith s (stopAs n d) ≡ true
   unfolding possible
   keeps-marked {d} {l} n k m =
       all-true (le-leb (place d) 134217728 (omega arith)) (k .sequence) (k .picture) (le-leb (d .«frames_decoded») 134217728 (omega arith))
@@ -57,7 +57,7 @@ module _ (s : List ℕ) (short : length s ≤ 16777216) where
   unfolding ended pictures
   stuck-call d l k t = keeps-call d l k ∙ ap (ended d) (turns-stop (pictureTurn s) 1 _ (going d l) (gave (H.Refused 7) d l) t)
 
-  marked-call : (d : Decoder) (l : List ℕ) → possibleWith s d ≡ true → (d .stop ≡ 8) ⊎ (d .stop ≡ 9)
+  pub marked-call : (d : Decoder) (l : List ℕ) → possibleWith s d ≡ true → (d .stop ≡ 8) ⊎ (d .stop ≡ 9)
       → handOut d s l ≡ left (H.Refused (d .stop)) d l
   unfolding handOut
   marked-call d l p m =
@@ -72,7 +72,7 @@ module _ (s : List ℕ) (short : length s ≤ 16777216) where
       all-true (le-leb (place d) 134217728 (omega (arith, k .inside))) (waits-sequence k) (k .picture)
       (le-leb (d .«frames_decoded») 134217728 (omega (arith, k .count))) (rw (k .mark) refl)
 
-  waits-marked : {d : Decoder} (n : ℕ) → Waits s d → (n ≡ 8) ⊎ (n ≡ 9) → possibleWith s (stopAs n d) ≡ true
+  pub waits-marked : {d : Decoder} (n : ℕ) → Waits s d → (n ≡ 8) ⊎ (n ≡ 9) → possibleWith s (stopAs n d) ≡ true
   unfolding possible
   waits-marked {d} n k m =
       all-true (le-leb (place d) 134217728 (omega (arith, k .inside))) (waits-sequence k) (k .picture)

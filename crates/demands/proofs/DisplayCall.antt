@@ -1,0 +1,166 @@
+-- Order of display: what a call of a run shows, and which picture waits behind it.
+use mathlib.Core.Path.{_≡_, refl, sym, ap, subst, _∙_}
+use mathlib.Core.Bool.{Bool, true, false, true≢false}
+use mathlib.Core.List.{List, [], _++_}
+use mathlib.Core.Logic.{_⊎_, inl, inr, ⊎-elim}
+use Prim.Native.Nat.{ℕ, _+_, _≤_, _<_}
+use native.Mathlib.Omega.{arith}
+use lib.Dec.{eqb, leb}
+use lib.ListN.{length, getD}
+use borrow.Author.Tests.{le-leb, eq-eqb}
+use Rattle.laws.specs.Turns.{Turn, again, stop}
+use Rattle.laws.proofs.Tests.{by-case}
+use Rattle.picture.proofs.Possible.{picture-of}
+use Rattle.decoder.specs.declared.record.Decoder.{Decoder}
+use Rattle.decoder.specs.declared.answers.Outcome.{Outcome}
+use Rattle.decoder.specs.declared.answers.Outcome.the-variants as H
+use Rattle.decoder.specs.Record.{Left, stopAs, storeBytes, cleared}
+use Rattle.decoder.specs.Possible.{possibleWith}
+use Rattle.decoder.specs.Headers.{Asked, refused, passed, askHeader, askStore}
+use Rattle.decoder.specs.Turns.{Going, going, Ended, gave, stopped, nextPicture, pictureTurn}
+use Rattle.decoder.specs.HandOut.{pictures, ended, askFirst, begun, goOn}
+use Rattle.decoder.specs.Run.{call, behind}
+use Rattle.decoder.proofs.Cleared.{begun-clears}
+use Rattle.demands.specs.Questions.{isThere}
+use Rattle.demands.specs.Display.{Coded, displayed, waiting, AllDecoded, turnReads, picturesRead, askedReads, handOutReads, shownBy}
+use Rattle.demands.proofs.RunTurns.{Keeps, Stuck, Ends, hands, flushes, seven, stops, pictures-row, sized}
+use Rattle.demands.proofs.Waiting.{Waits, Accepts, header-accepts}
+use Rattle.demands.proofs.RunCall.{Resting, keeps-possible, keeps-marked, keeps-call, stuck-call, marked-call, waits-possible, waits-marked, waits-call}
+use Rattle.demands.proofs.RunCall.{accepted-keeps}
+use Rattle.demands.proofs.TurnCases.{TurnIs, gives, holds, leaves, is-seven, turn-is}
+use Rattle.demands.proofs.Reached.{Fit}
+use Rattle.demands.proofs.DisplayTurn.{Showing, none-held, EndShows, reads-none}
+use Rattle.demands.proofs.DisplayTurns.{pictures-show}
+
+-- every call from here on answers a number and reads nothing
+abbrev pub Over : List ℕ → Going → Type 0
+Over s x = Resting s x ⊎ ((possibleWith s (x .decoder) ≡ true) × ((x .decoder .stop ≡ 8) ⊎ (x .decoder .stop ≡ 9)))
+
+-- between two calls, while h waits for display
+pub data Phase (s : List ℕ) (x : Going) (h : List (List ℕ)) : Type 0 where
+  no-header : Waits s (x .decoder) → h ≡ [] → Phase s x h
+  under-way : Keeps s (x .decoder) (x .store) → Showing (x .decoder) (x .store) h → Phase s x h
+  over : Over s x → Phase s x h
+
+-- the pictures c were read while h waited: what is shown, and how it goes on; the second case is a flush
+abbrev pub CallShows : List ℕ → List (List ℕ) → List Coded → Left Outcome → Type 0
+CallShows s h c r =
+    ((shownBy (r .answer) (r .decoder) (r .store) ≡ displayed h c) × Phase s (behind r) (waiting h c)) ⊎
+    ((shownBy (r .answer) (r .decoder) (r .store) ≡ displayed h c ++ waiting h c) × Over s (behind r))
+
+keeps-fit : {s : List ℕ} {d : Decoder} {l : List ℕ} → Keeps s d l → Fit d l
+keeps-fit {s} {d} k =
+    record { area = sized (d .sequence) (k .header) (k .sequence) .area; stores = picture-of (d .picture) (k .picture) .stores; long = k .long }
+
+-- ---- what a call reads
+
+module _ (s : List ℕ) (short : length s ≤ 16777216) where
+  keeps-reads : (d : Decoder) (l : List ℕ) → Keeps s d l → handOutReads d s l ≡ picturesRead s (going d l)
+  unfolding handOutReads askFirst askStore begun
+  keeps-reads d l k =
+      rw (le-leb (length s) 16777216 short, keeps-possible s short k, eq-eqb (d .stop) 0 (k .mark), k .header, le-leb (storeBytes d) (length l) (k .long)) refl
+
+  waits-reads : (d : Decoder) (l : List ℕ) → Waits s d → handOutReads d s l ≡ askedReads s d l (askStore d l (askHeader s d))
+  unfolding handOutReads askFirst
+  waits-reads d l k = rw (le-leb (length s) 16777216 short, waits-possible s short k, eq-eqb (d .stop) 0 (k .mark), k .header) refl
+
+  marked-reads : (d : Decoder) (l : List ℕ) → possibleWith s d ≡ true → (d .stop ≡ 8) ⊎ (d .stop ≡ 9) → handOutReads d s l ≡ []
+  unfolding handOutReads
+  marked-reads d l p m =
+      let z : eqb (d .stop) 0 ≡ false = ⊎-elim (λ (e : d .stop ≡ 8). rw e refl) (λ (e : d .stop ≡ 9). rw e refl) m in
+      rw (le-leb (length s) 16777216 short, p, z)
+
+  -- a turn that answers 7 reads nothing
+  abbrev isSeven : Turn Going Ended → Bool
+  isSeven (again y) = false
+  isSeven (stop (gave (H.Picture i) d l)) = false
+  isSeven (stop (gave (H.Refused n) d l)) = true
+  isSeven (stop (stopped n l)) = false
+
+  seven-reads : (d : Decoder) (l : List ℕ) {t : Turn Going Ended} → TurnIs s d l t → isSeven t ≡ true → isThere s d ≡ false
+  seven-reads d l (gives h) e = absurd (true≢false (sym e))
+  seven-reads d l (holds i r b h) e = absurd (true≢false (sym e))
+  seven-reads d l (leaves i r) e = absurd (true≢false (sym e))
+  seven-reads d l (is-seven i u) e = i
+
+  stuck-reads : (d : Decoder) (l : List ℕ) → Stuck s d l → picturesRead s (going d l) ≡ []
+  unfolding picturesRead
+  stuck-reads d l t =
+      let none = seven-reads (nextPicture s d) l (turn-is s (going d l)) (ap isSeven t) in
+      rw (reads-none s (nextPicture s d) l none, t) refl
+
+-- ---- what a call shows
+
+module _ (s : List ℕ) (short : length s ≤ 16777216) (bytes : (k : ℕ) → getD s k 0 < 256) where
+  pub over-call : (x : Going) → Over s x
+      → (shownBy (call s x .answer) (call s x .decoder) (call s x .store) ≡ []) × (handOutReads (x .decoder) s (x .store) ≡ []) × Over s (behind (call s x))
+  over-call x (inl k) =
+      let d = x .decoder in
+      let l = x .store in
+      let e = stuck-call s short d l (k .0) (k .1) in (
+        ap (λ (r : Left Outcome). shownBy (r .answer) (r .decoder) (r .store)) e,
+        keeps-reads s short d l (k .0) ∙ stuck-reads s short d l (k .1),
+        subst (λ (r : Left Outcome). Over s (behind r)) (sym e) (inl k),
+      )
+  over-call x (inr k) =
+      let d = x .decoder in
+      let l = x .store in
+      let e = marked-call s short d l (k .0) (k .1) in (
+        ap (λ (r : Left Outcome). shownBy (r .answer) (r .decoder) (r .store)) e,
+        marked-reads s short d l (k .0) (k .1),
+        subst (λ (r : Left Outcome). Over s (behind r)) (sym e) (inr k),
+      )
+
+  ended-shows : (d : Decoder) (n : ℕ) (h : List (List ℕ)) (c : List Coded) (e : Ended)
+      → ((i : ℕ) → (i ≡ 8) ⊎ (i ≡ 9) → possibleWith s (stopAs i d) ≡ true) → Ends s n e → EndShows n h c e → CallShows s h c (ended d e)
+  unfolding ended
+  ended-shows d n h c (gave (H.Picture i) x m) p (hands j q) (inl k) = inl (k .0, under-way j (k .1))
+  ended-shows d n h c (gave (H.Picture i) x m) p (hands j q) (inr k) = let f = k .1 in let no : ⊥ = omega arith in absurd no
+  ended-shows d n h c (gave (H.Picture i) x m) p (flushes j q u) (inl k) = inl (k .0, under-way j (k .1))
+  ended-shows d n h c (gave (H.Picture i) x m) p (flushes j q u) (inr k) = inr (k .0, inl (j, u))
+  ended-shows d n h c (gave (H.Refused i) x m) p (seven j q u) k = inl (sym k, over (inl (j, u)))
+  ended-shows d n h c (stopped i m) p (stops q) k = inl (sym k, over (inr (p i q, q)))
+
+  -- the turns from x, m on, in a call that was given d
+  turns-show : (d x : Decoder) (m : List ℕ) (h : List (List ℕ)) → ((i : ℕ) → (i ≡ 8) ⊎ (i ≡ 9) → possibleWith s (stopAs i d) ≡ true) → Keeps s x m
+      → Showing x m h → AllDecoded (picturesRead s (going x m)) → CallShows s h (picturesRead s (going x m)) (ended d (pictures s (going x m)))
+  turns-show d x m h p k w q =
+      ended-shows d (x .«frames_decoded») h (picturesRead s (going x m)) (pictures s (going x m)) p (pictures-row s short bytes x m k)
+      (pictures-show s (going x m) (keeps-fit k) w q)
+
+  asked-shows : (d : Decoder) (l : List ℕ) → Waits s d → (a : Asked) → Accepts s a → AllDecoded (askedReads s d l (askStore d l a))
+      → CallShows s [] (askedReads s d l (askStore d l a)) (goOn s d l (askStore d l a))
+  unfolding askStore goOn displayed waiting
+  asked-shows d l k (refused n x) h = λ q. inl (refl, no-header h refl)
+  asked-shows d l k (passed x) h =
+      by-case (λ a. AllDecoded (askedReads s d l a) → CallShows s [] (askedReads s d l a) (goOn s d l a)) (leb (storeBytes x) (length l))
+      (λ e. subst (λ (z : Going). AllDecoded (picturesRead s z) → CallShows s [] (picturesRead s z) (ended d (pictures s z)))
+      (sym (begun-clears d x l (k .header)))
+      (turns-show d x (cleared (storeBytes x) l) [] (λ i m. waits-marked s short i k m) (accepted-keeps s short l h e) (none-held (h .held))))
+      (λ e q. inl (refl, no-header k refl))
+
+  -- a call with what it reads and gives replaced by what they are
+  call-is : (x : Going) (h : List (List ℕ)) {c : List Coded} {r : Left Outcome} → handOutReads (x .decoder) s (x .store) ≡ c → call s x ≡ r
+      → (AllDecoded c → CallShows s h c r) → AllDecoded (handOutReads (x .decoder) s (x .store))
+      → CallShows s h (handOutReads (x .decoder) s (x .store)) (call s x)
+  call-is x h {c} e f k =
+      subst (λ (b : List Coded). AllDecoded b → CallShows s h b (call s x)) (sym e)
+      (subst (λ (q : Left Outcome). AllDecoded c → CallShows s h c q) (sym f) k)
+
+  pub call-shows : (x : Going) (h : List (List ℕ)) → Phase s x h → AllDecoded (handOutReads (x .decoder) s (x .store))
+      → CallShows s h (handOutReads (x .decoder) s (x .store)) (call s x)
+  unfolding displayed
+  call-shows x h (no-header k e) =
+      let d = x .decoder in
+      let l = x .store in
+      call-is x h (waits-reads s short d l k) (waits-call s short d l k)
+      (subst (λ (g : List (List ℕ)). AllDecoded (askedReads s d l (askStore d l (askHeader s d)))
+      → CallShows s g (askedReads s d l (askStore d l (askHeader s d))) (goOn s d l (askStore d l (askHeader s d)))) (sym e)
+      (asked-shows d l k (askHeader s d) (header-accepts k short)))
+  call-shows x h (under-way k w) =
+      let d = x .decoder in
+      let l = x .store in
+      call-is x h (keeps-reads s short d l k) (keeps-call s short d l k) (turns-show d d l h (λ i m. keeps-marked s short i k m) k w)
+  call-shows x h (over k) =
+      let o = over-call x k in
+      call-is x h (o .1) refl (λ q. inl (o .0, over (o .2)))
