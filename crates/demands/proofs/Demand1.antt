@@ -1,12 +1,14 @@
 -- RULES D1.3 to D1.5: demand 1, of what the calls gave. Each theorem is of any call: by its contract it gave r (Calls.antt), and nothing else is assumed.
 -- D1.1 and D1.2 are that the calls' code is proved, with no `requires`.
 use mathlib.Core.Path.{_≡_, refl, sym, ap, subst, _∙_}
-use mathlib.Core.Bool.{true, false}
+use mathlib.Core.Bool.{true, false, _&&_}
 use mathlib.Core.List.{List}
 use mathlib.Core.Logic.{_⊎_}
 use Prim.Native.Nat.{ℕ, _<_, _≤_}
 use native.Mathlib.Omega.{arith}
+use lib.Dec.{leb}
 use lib.ListN.{length}
+use borrow.Author.Tests.{leb-true, leb-false}
 use Rattle.decoder.specs.declared.record.Decoder.{Decoder}
 use Rattle.decoder.specs.declared.answers.Opening.{Opening}
 use Rattle.decoder.specs.declared.answers.Opening.the-variants as O
@@ -16,11 +18,9 @@ use Rattle.decoder.specs.declared.answers.Outcome.the-variants as H
 use Rattle.decoder.specs.declared.answers.Handed.{Handed}
 use Rattle.decoder.specs.declared.answers.Converted.{Converted}
 use Rattle.decoder.specs.declared.answers.Converted.the-variants as C
-use Rattle.decoder.specs.Record.{Left, left, fresh, storeBytes}
+use Rattle.decoder.specs.Record.{Left, fresh, storeBytes}
 use Rattle.decoder.specs.Possible.{possible}
-use Rattle.decoder.specs.Opening.{opening}
-use Rattle.decoder.specs.HandOut.{handOut}
-use Rattle.decoder.specs.Conversion.{Area, area, converted}
+use Rattle.decoder.specs.Conversion.{Area, fits}
 use Rattle.demands.specs.Calls.{Opens, Decodes, Converts, openingNumber, handOutNumber, conversionNumber}
 use Rattle.demands.specs.Questions.{firstNo, IsFirstNo, withHeader, headed, openingAsks, handOutAsks, conversionAsks}
 use Rattle.demands.specs.Numbers.{among, openingNumbers, handOutNumbers, conversionNumbers}
@@ -161,3 +161,17 @@ module _ (d : Decoder) (l : List ℕ) (k : ℕ) (a : List ℕ) (w h : ℕ) (r : 
   pub convert-means : (n : ℕ) → r ≡ C.Refused n → IsFirstNo n (conversionAsks d l k a w h)
   convert-means n e =
       is-first (conversionAsks d l k a w h) n (conversion-positive n (convert-left n e .0)) (sym convert-number ∙ ap conversionNumber e)
+
+  -- the rows of the table
+  pub convert-2 : r ≡ C.Refused 2 → possible d ≡ false
+  convert-2 e = Rows.convert-2 (convert-means 2 e)
+
+  pub convert-6 : r ≡ C.Refused 6 → (possible d ≡ true) × (length l < storeBytes d)
+  convert-6 e = let x = Rows.convert-6 (convert-means 6 e) in (x .0, leb-false (storeBytes d) (length l) (x .1))
+
+  pub convert-10 : r ≡ C.Refused 10 → (possible d ≡ true) × (storeBytes d ≤ length l) × ((d .sequence .«has_sequence_header» && leb k 2) ≡ false)
+  convert-10 e = let x = Rows.convert-10 (convert-means 10 e) in (x .0, leb-true (storeBytes d) (length l) (x .1), x .2)
+
+  pub convert-11 : r ≡ C.Refused 11
+      → (possible d ≡ true) × (storeBytes d ≤ length l) × ((d .sequence .«has_sequence_header» && leb k 2) ≡ true) × (fits w h a ≡ false)
+  convert-11 e = let x = Rows.convert-11 (convert-means 11 e) in (x .0, leb-true (storeBytes d) (length l) (x .1), x .2, x .3)

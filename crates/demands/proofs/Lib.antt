@@ -27,3 +27,4 @@ pub mod DisplayTurn
 pub mod DisplayTurns
 pub mod DisplayCall
 pub mod DisplayRun
+pub mod Order

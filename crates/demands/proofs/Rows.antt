@@ -1,7 +1,7 @@
 -- RULES "The numbers": its rows, read off what a call has left.
 use mathlib.Core.Path.{_≡_, refl}
-use mathlib.Core.Bool.{false}
-use mathlib.Core.List.{List}
+use mathlib.Core.Bool.{Bool, true, false}
+use mathlib.Core.List.{List, [], _∷_}
 use mathlib.Core.Logic.{_⊎_, inl, inr, ⊎-elim}
 use Prim.Native.Nat.{ℕ, _<_}
 use native.Mathlib.Omega.{arith}
@@ -11,7 +11,7 @@ use Rattle.decoder.specs.declared.record.Decoder.{Decoder}
 use Rattle.decoder.specs.Record.{fresh, storeBytes}
 use Rattle.decoder.specs.Possible.{possible}
 use Rattle.demands.specs.Causes.{Cause, dc, prediction}
-use Rattle.demands.specs.Questions.{headed, withHeader}
+use Rattle.demands.specs.Questions.{ask, IsFirstNo, this-one, a-later, headed, withHeader}
 use Rattle.demands.specs.After as A
 use Rattle.demands.specs.After.{AfterHeader, AfterOpening, AfterHandOut}
 use Rattle.demands.specs.Rows.{Row3, Row4, Row5, Row7, Row89}
@@ -118,3 +118,30 @@ module _ {d : Decoder} {s l : List ℕ} where
   hand-8-9 (A.after-6 h) p = let no : ⊥ = omega arith in absurd no
   hand-8-9 (A.after-7 i t u) p = let no : ⊥ = omega arith in absurd no
   hand-8-9 (A.after-8-9 i e c) p = inr (record { given = _; turn = i; left = e; cause = c; decoder = refl })
+
+-- ---- the conversion
+
+module _ {p q t f : Bool} where
+  pub convert-2 : IsFirstNo 2 (ask 2 p ∷ ask 6 q ∷ ask 10 t ∷ ask 11 f ∷ []) → p ≡ false
+  convert-2 (this-one e z) = z
+  convert-2 (a-later u (this-one e z)) = let no : ⊥ = omega arith in absurd no
+  convert-2 (a-later u (a-later v (this-one e z))) = let no : ⊥ = omega arith in absurd no
+  convert-2 (a-later u (a-later v (a-later w (this-one e z)))) = let no : ⊥ = omega arith in absurd no
+
+  pub convert-6 : IsFirstNo 6 (ask 2 p ∷ ask 6 q ∷ ask 10 t ∷ ask 11 f ∷ []) → (p ≡ true) × (q ≡ false)
+  convert-6 (this-one e z) = let no : ⊥ = omega arith in absurd no
+  convert-6 (a-later u (this-one e z)) = (u, z)
+  convert-6 (a-later u (a-later v (this-one e z))) = let no : ⊥ = omega arith in absurd no
+  convert-6 (a-later u (a-later v (a-later w (this-one e z)))) = let no : ⊥ = omega arith in absurd no
+
+  pub convert-10 : IsFirstNo 10 (ask 2 p ∷ ask 6 q ∷ ask 10 t ∷ ask 11 f ∷ []) → (p ≡ true) × (q ≡ true) × (t ≡ false)
+  convert-10 (this-one e z) = let no : ⊥ = omega arith in absurd no
+  convert-10 (a-later u (this-one e z)) = let no : ⊥ = omega arith in absurd no
+  convert-10 (a-later u (a-later v (this-one e z))) = (u, v, z)
+  convert-10 (a-later u (a-later v (a-later w (this-one e z)))) = let no : ⊥ = omega arith in absurd no
+
+  pub convert-11 : IsFirstNo 11 (ask 2 p ∷ ask 6 q ∷ ask 10 t ∷ ask 11 f ∷ []) → (p ≡ true) × (q ≡ true) × (t ≡ true) × (f ≡ false)
+  convert-11 (this-one e z) = let no : ⊥ = omega arith in absurd no
+  convert-11 (a-later u (this-one e z)) = let no : ⊥ = omega arith in absurd no
+  convert-11 (a-later u (a-later v (this-one e z))) = let no : ⊥ = omega arith in absurd no
+  convert-11 (a-later u (a-later v (a-later w (this-one e z)))) = (u, v, w, z)

@@ -1,0 +1,110 @@
+-- RULES "Order": the questions of a hand-out with a header that was accepted earlier, and with none; and the number that a "no" gives, question by question.
+-- By its contract `decode` gave r (Calls.antt). A "no" in the second turn: `decode-says` in Demand1.antt.
+use mathlib.Core.Path.{_≡_, refl, sym, ap, _∙_}
+use mathlib.Core.Bool.{Bool, true, false, not, _&&_, _||_}
+use mathlib.Core.List.{List, [], _∷_, _++_}
+use Prim.Native.Nat.{ℕ, _≤_, _<_}
+use native.Mathlib.Omega.{arith}
+use lib.Dec.{eqb, leb}
+use lib.ListN.{length}
+use borrow.Author.Tests.{le-leb, lt-leb, eq-eqb, ne-eqb}
+use Rattle.picture.specs.Ways.{Way, out}
+use Rattle.picture.specs.Pictures.{Frame}
+use Rattle.decoder.specs.declared.record.Decoder.{Decoder}
+use Rattle.decoder.specs.declared.answers.Outcome.the-variants as H
+use Rattle.decoder.specs.declared.answers.Handed.{Handed}
+use Rattle.decoder.specs.Record.{storeBytes, cleared}
+use Rattle.decoder.specs.Possible.{possible}
+use Rattle.decoder.specs.Turns.{going, nextPicture}
+use Rattle.decoder.specs.HandOut.{begun}
+use Rattle.demands.specs.Calls.{Decodes, handOutNumber}
+use Rattle.demands.specs.Questions as Q
+use Rattle.demands.specs.Questions.{Question, ask, firstNo, withHeader, isThere, isFlush, pictureEnd, turnAsks, picturesAsk, handOutAsks}
+use Rattle.demands.proofs.Questions.{is-first}
+use Rattle.demands.proofs.Demand1.{decode-says}
+
+module _ (d : Decoder) (s l : List ℕ) where
+  -- with a header: 1, 2, the stop mark, 6, and the pictures' 7, 8, 9
+  pub asks-headed : d .sequence .«has_sequence_header» ≡ true
+      → handOutAsks d s l
+      ≡ Q.isShort s ∷ ask 2 (possible d) ∷ ask (d .stop) (eqb (d .stop) 0) ∷ Q.hasStore d l ∷ picturesAsk s (going d l)
+  unfolding handOutAsks begun
+  asks-headed h = rw h refl
+
+  -- with none: 3, 4, 5 before 6, and the store is cleared before the pictures
+  pub asks-unheaded : d .sequence .«has_sequence_header» ≡ false
+      → handOutAsks d s l
+      ≡ Q.isShort s ∷ ask 2 (possible d) ∷ ask (d .stop) (eqb (d .stop) 0) ∷ Q.hasCode s d ∷ Q.hasBits s d ∷ Q.hasSize s d ∷
+      Q.hasStore (withHeader s d) l ∷ picturesAsk s (going (withHeader s d) (cleared (storeBytes (withHeader s d)) l))
+  unfolding handOutAsks begun
+  asks-unheaded h = rw h refl
+
+-- the questions 1 and 2 and the stop mark are passed
+pub record Begins (d : Decoder) (s : List ℕ) : Type 0 where
+  pub short : length s ≤ 16777216
+  pub possible : possible d ≡ true
+  pub mark : d .stop ≡ 0
+
+module _ (d : Decoder) (s l : List ℕ) (r : Handed) (m : List ℕ) (gave : Decodes d s l r m) where
+  says : (n : ℕ) → 0 < n → firstNo (handOutAsks d s l) ≡ n → r .outcome ≡ H.Refused n
+  says n h e = decode-says d s l r m gave n h (is-first (handOutAsks d s l) n h e)
+
+  pub says-1 : 16777216 < length s → r .outcome ≡ H.Refused 1
+  unfolding handOutAsks firstNo
+  says-1 h = says 1 (omega arith) (rw (lt-leb (length s) 16777216 h) refl)
+
+  pub says-2 : length s ≤ 16777216 → possible d ≡ false → r .outcome ≡ H.Refused 2
+  unfolding handOutAsks firstNo
+  says-2 h p = says 2 (omega arith) (rw (le-leb (length s) 16777216 h, p))
+
+  -- QA
+  pub says-mark : length s ≤ 16777216 → possible d ≡ true → 0 < d .stop → r .outcome ≡ H.Refused (d .stop)
+  unfolding handOutAsks firstNo
+  says-mark h p z = says (d .stop) z (rw (le-leb (length s) 16777216 h, p, ne-eqb (d .stop) 0 (λ e. omega arith)))
+
+  -- the questions behind these
+  from : (qs : List Question) → Begins d s
+      → handOutAsks d s l ≡ Q.isShort s ∷ ask 2 (possible d) ∷ ask (d .stop) (eqb (d .stop) 0) ∷ qs → firstNo (handOutAsks d s l) ≡ firstNo qs
+  unfolding firstNo
+  from qs b e = ap firstNo e ∙ rw (le-leb (length s) 16777216 (b .short), b .possible, eq-eqb (d .stop) 0 (b .mark)) refl
+
+  module _ (b : Begins d s) (none : d .sequence .«has_sequence_header» ≡ false) where
+    pub says-3 : Q.hasCode s d .yes ≡ false → r .outcome ≡ H.Refused 3
+    unfolding firstNo
+    says-3 c = says 3 (omega arith) (from _ b (asks-unheaded d s l none) ∙ rw c refl)
+
+    pub says-4 : Q.hasCode s d .yes ≡ true → Q.hasBits s d .yes ≡ false → r .outcome ≡ H.Refused 4
+    unfolding firstNo
+    says-4 c h = says 4 (omega arith) (from _ b (asks-unheaded d s l none) ∙ rw (c, h))
+
+    pub says-5 : Q.hasCode s d .yes ≡ true → Q.hasBits s d .yes ≡ true → Q.hasSize s d .yes ≡ false → r .outcome ≡ H.Refused 5
+    unfolding firstNo
+    says-5 c h z = says 5 (omega arith) (from _ b (asks-unheaded d s l none) ∙ rw (c, h, z))
+
+    -- the store is too short for the header that this call reads
+    pub says-6-new : Q.hasCode s d .yes ≡ true → Q.hasBits s d .yes ≡ true → Q.hasSize s d .yes ≡ true → length l < storeBytes (withHeader s d)
+        → r .outcome ≡ H.Refused 6
+    unfolding firstNo
+    says-6-new c h z k = says 6 (omega arith) (from _ b (asks-unheaded d s l none) ∙ rw (c, h, z, lt-leb (storeBytes (withHeader s d)) (length l) k))
+
+  module _ (b : Begins d s) (header : d .sequence .«has_sequence_header» ≡ true) where
+    -- the store is too short for the header that an earlier call read
+    pub says-6 : length l < storeBytes d → r .outcome ≡ H.Refused 6
+    unfolding firstNo
+    says-6 k = says 6 (omega arith) (from _ b (asks-headed d s l header) ∙ rw (lt-leb (storeBytes d) (length l) k) refl)
+
+    -- no picture to decode, and none to flush
+    pub says-7 : storeBytes d ≤ length l → isThere s (nextPicture s d) ≡ false → isFlush s (nextPicture s d) ≡ false → r .outcome ≡ H.Refused 7
+    unfolding firstNo picturesAsk turnAsks
+    says-7 k t u = says 7 (omega arith) (from _ b (asks-headed d s l header) ∙ rw (le-leb (storeBytes d) (length l) k, t, u))
+
+    -- the picture leaves early with 8
+    pub says-8 : storeBytes d ≤ length l → isThere s (nextPicture s d) ≡ true → {x : List ℕ} → pictureEnd s (nextPicture s d) l ≡ out 8 x
+        → r .outcome ≡ H.Refused 8
+    unfolding firstNo picturesAsk turnAsks
+    says-8 k t e = says 8 (omega arith) (from _ b (asks-headed d s l header) ∙ rw (le-leb (storeBytes d) (length l) k, t, e))
+
+    pub says-9 : storeBytes d ≤ length l → isThere s (nextPicture s d) ≡ true → {x : List ℕ} → pictureEnd s (nextPicture s d) l ≡ out 9 x
+        → r .outcome ≡ H.Refused 9
+    unfolding firstNo picturesAsk turnAsks
+    says-9 k t e = says 9 (omega arith) (from _ b (asks-headed d s l header) ∙ rw (le-leb (storeBytes d) (length l) k, t, e))
