@@ -28,3 +28,4 @@ pub mod DisplayTurns
 pub mod DisplayCall
 pub mod DisplayRun
 pub mod Order
+pub mod EdgeCalls

@@ -1,0 +1,132 @@
+-- RULES H: the header edge, of what `open` and `decode` gave: with 136 bytes behind the code neither 3 nor 4, with fewer 4.
+use mathlib.Core.Path.{_≡_, refl, sym, subst, _∙_}
+use mathlib.Core.Bool.{Bool, true, false, true≢false}
+use mathlib.Core.List.{List, [], _∷_, _++_}
+use mathlib.Core.Logic.{_⊎_, inl, inr, ⊎-elim}
+use Prim.Native.Nat.{ℕ, _+_, _≤_, _<_}
+use native.Mathlib.Omega.{arith}
+use lib.Dec.{eqb, leb}
+use lib.IntN.{pos}
+use lib.ListN.{length}
+use borrow.Author.Tests.{le-leb, lt-leb}
+use Rattle.laws.specs.Turns.{Turn, again, stop}
+use Rattle.laws.proofs.Tests.{by-case}
+use Rattle.bits.specs.Programs.{eqZ}
+use Rattle.decoder.specs.declared.record.Decoder.{Decoder}
+use Rattle.decoder.specs.declared.answers.Opening.the-variants as O
+use Rattle.decoder.specs.declared.answers.Opened.{Opened}
+use Rattle.decoder.specs.declared.answers.Outcome.the-variants as H
+use Rattle.decoder.specs.declared.answers.Handed.{Handed}
+use Rattle.decoder.specs.Record.{fresh, place, startCode, storeBytes, cleared}
+use Rattle.decoder.specs.Possible.{possible}
+use Rattle.decoder.specs.Turns.{Going, going, Ended, nextPicture, pictureTurn}
+use Rattle.demands.specs.Calls.{Opens, Decodes}
+use Rattle.demands.specs.Codes.{SequenceAt}
+use Rattle.demands.specs.Questions as Q
+use Rattle.demands.specs.Questions.{Question, ask, IsFirstNo, this-one, a-later, withHeader, isThere, pictureEnd, turnAsks, picturesAsk}
+use Rattle.demands.specs.Questions.{openingAsks}
+use Rattle.demands.proofs.Demand1.{open-says, open-means, decode-means}
+use Rattle.demands.proofs.Order.{Begins, asks-unheaded, says-4}
+use Rattle.demands.proofs.HeaderEdge.{edge-code, edge-bits}
+
+-- ---- the questions of pictures are 7, 8 and 9
+
+either : {n : ℕ} (a : List Question) {b : List Question} → IsFirstNo n (a ++ b) → IsFirstNo n a ⊎ IsFirstNo n b
+either [] k = inr k
+either (q ∷ a) (this-one e z) = inl (this-one e z)
+either (q ∷ a) (a-later y k) = go (either a k)
+  where
+    go : {m : ℕ} {b : List Question} → IsFirstNo m a ⊎ IsFirstNo m b → IsFirstNo m (q ∷ a) ⊎ IsFirstNo m b
+    go (inl i) = inl (a-later y i)
+    go (inr i) = inr i
+
+-- those of a turn
+turn-number : {n : ℕ} (s : List ℕ) (d : Decoder) (l : List ℕ) → IsFirstNo n (turnAsks s d l) → 6 < n
+unfolding turnAsks
+turn-number {n} s d l = by-case (λ (qs : List Question). IsFirstNo n (Q.hasPicture s d ∷ qs) → 6 < n) (isThere s d) (λ t k. three k) (λ t k. one k)
+  where
+    three : IsFirstNo n (Q.hasPicture s d ∷ Q.isInside 8 (pictureEnd s d l) ∷ Q.isInside 9 (pictureEnd s d l) ∷ []) → 6 < n
+    three (this-one e z) = omega arith
+    three (a-later y (this-one e z)) = omega arith
+    three (a-later y (a-later u (this-one e z))) = omega arith
+
+    one : IsFirstNo n (Q.hasPicture s d ∷ []) → 6 < n
+    one (this-one e z) = omega arith
+
+pictures-number : {n : ℕ} (s : List ℕ) (x : Going) → IsFirstNo n (picturesAsk s x) → 6 < n
+unfolding picturesAsk
+pictures-number {n} s x k = go (pictureTurn s x) (either (turnAsks s (nextPicture s (x .decoder)) (x .store)) k)
+  where
+    go : (t : Turn Going Ended)
+        → IsFirstNo n (turnAsks s (nextPicture s (x .decoder)) (x .store)) ⊎
+        IsFirstNo n (elim t [ again y ↦ turnAsks s (nextPicture s (y .decoder)) (y .store) | stop e ↦ [] ])
+        → 6 < n
+    go t (inl i) = turn-number s _ _ i
+    go (again y) (inr i) = turn-number s _ _ i
+
+-- ---- open
+
+module _ (s l : List ℕ) (r : Opened) (m : List ℕ) (gave : Opens s l r m) (b : ℕ) (k : SequenceAt s (place fresh) b) where
+  unread : eqZ (startCode fresh) (pos 0xb3) ≡ false
+  unfolding fresh
+  unread = refl
+
+  pub open-edge-fails : length s ≤ 16777216 → length s < b + 4 + 136 → r .answer ≡ O.Refused 4
+  open-edge-fails h f =
+      open-says s l r m gave 4 (omega arith)
+      (a-later (le-leb (length s) 16777216 h) (a-later (edge-code s fresh b unread k)
+      (this-one refl (edge-bits s fresh b unread k ∙ lt-leb (b + 4 + 136) (length s) f))))
+
+  pub open-edge-passes : b + 4 + 136 ≤ length s → (n : ℕ) → r .answer ≡ O.Refused n → (n ≡ 3) ⊎ (n ≡ 4) → ⊥
+  open-edge-passes f n e w = go (open-means s l r m gave n e)
+    where
+      code : Q.hasCode s fresh .yes ≡ true
+      code = edge-code s fresh b unread k
+
+      bits : Q.hasBits s fresh .yes ≡ true
+      bits = edge-bits s fresh b unread k ∙ le-leb (b + 4 + 136) (length s) f
+
+      clash : {j : ℕ} → j ≡ n → (j ≡ 3 → ⊥) → (j ≡ 4 → ⊥) → ⊥
+      clash e p q = ⊎-elim (λ (g : n ≡ 3). p (e ∙ g)) (λ (g : n ≡ 4). q (e ∙ g)) w
+
+      go : IsFirstNo n (openingAsks s l) → ⊥
+      go (this-one e z) = clash e (λ g. omega arith) (λ g. omega arith)
+      go (a-later y (this-one e z)) = true≢false (sym code ∙ z)
+      go (a-later y (a-later u (this-one e z))) = true≢false (sym bits ∙ z)
+      go (a-later y (a-later u (a-later v (this-one e z)))) = clash e (λ g. omega arith) (λ g. omega arith)
+      go (a-later y (a-later u (a-later v (a-later t (this-one e z))))) = clash e (λ g. omega arith) (λ g. omega arith)
+
+-- ---- decode, with no header and no start code of one in the record
+
+module _ (d : Decoder) (s l : List ℕ) (r : Handed) (m : List ℕ) (gave : Decodes d s l r m) (begins : Begins d s)
+    (none : d .sequence .«has_sequence_header» ≡ false) (no-code : eqZ (startCode d) (pos 0xb3) ≡ false) (b : ℕ) (k : SequenceAt s (place d) b) where
+  pub decode-edge-fails : length s < b + 4 + 136 → r .outcome ≡ H.Refused 4
+  decode-edge-fails f =
+      says-4 d s l r m gave begins none (edge-code s d b no-code k) (edge-bits s d b no-code k ∙ lt-leb (b + 4 + 136) (length s) f)
+
+  pub decode-edge-passes : b + 4 + 136 ≤ length s → (n : ℕ) → r .outcome ≡ H.Refused n → (n ≡ 3) ⊎ (n ≡ 4) → ⊥
+  decode-edge-passes f n e w =
+      go (going (withHeader s d) (cleared (storeBytes (withHeader s d)) l)) (subst (IsFirstNo n) (asks-unheaded d s l none) (decode-means d s l r m gave n e))
+    where
+      code : Q.hasCode s d .yes ≡ true
+      code = edge-code s d b no-code k
+
+      bits : Q.hasBits s d .yes ≡ true
+      bits = edge-bits s d b no-code k ∙ le-leb (b + 4 + 136) (length s) f
+
+      clash : {j : ℕ} → j ≡ n → (j ≡ 3 → ⊥) → (j ≡ 4 → ⊥) → ⊥
+      clash e p q = ⊎-elim (λ (g : n ≡ 3). p (e ∙ g)) (λ (g : n ≡ 4). q (e ∙ g)) w
+
+      go : (x : Going)
+          → IsFirstNo n (Q.isShort s ∷ ask 2 (possible d) ∷ ask (d .stop) (eqb (d .stop) 0) ∷ Q.hasCode s d ∷ Q.hasBits s d ∷ Q.hasSize s d ∷
+          Q.hasStore (withHeader s d) l ∷ picturesAsk s x)
+          → ⊥
+      go x (this-one e z) = clash e (λ g. omega arith) (λ g. omega arith)
+      go x (a-later y (this-one e z)) = clash e (λ g. omega arith) (λ g. omega arith)
+      go x (a-later y (a-later u (this-one e z))) = let i = begins .mark in clash e (λ g. omega arith) (λ g. omega arith)
+      go x (a-later y (a-later u (a-later v (this-one e z)))) = true≢false (sym code ∙ z)
+      go x (a-later y (a-later u (a-later v (a-later t (this-one e z))))) = true≢false (sym bits ∙ z)
+      go x (a-later y (a-later u (a-later v (a-later t (a-later q (this-one e z)))))) = clash e (λ g. omega arith) (λ g. omega arith)
+      go x (a-later y (a-later u (a-later v (a-later t (a-later q (a-later o (this-one e z))))))) = clash e (λ g. omega arith) (λ g. omega arith)
+      go x (a-later y (a-later u (a-later v (a-later t (a-later q (a-later o (a-later p i))))))) =
+          let h = pictures-number s x i in ⊎-elim (λ (g : n ≡ 3). omega arith) (λ (g : n ≡ 4). omega arith) w
