@@ -29,3 +29,4 @@ pub mod DisplayCall
 pub mod DisplayRun
 pub mod Order
 pub mod EdgeCalls
+pub mod DisplayExample
