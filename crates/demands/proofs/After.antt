@@ -1,6 +1,6 @@
 -- RULES D1.5, D2.3, QC, QG: what each call leaves behind its numbers, whole.
 use mathlib.Core.Path.{_≡_, refl, sym, ap, subst, _∙_}
-use mathlib.Core.Bool.{Bool, true, false, cond, not, _&&_, _||_, true≢false, false≢true}
+use mathlib.Core.Bool.{Bool, true, false, cond, not, _||_}
 use mathlib.Core.List.{List, [], _∷_}
 use mathlib.Core.Logic.{_⊎_, inl, inr}
 use Prim.Native.Nat.{ℕ, _-_, _≤_}
@@ -21,17 +21,17 @@ use Rattle.decoder.specs.Record.{Left, fresh, firstStores, place, storeBytes, c
 use Rattle.decoder.specs.Possible.{possibleSequence, possible, possibleWith}
 use Rattle.decoder.specs.Headers.{Asked, refused, passed, accepted, askHeader, askStore}
 use Rattle.decoder.specs.Opening.{opened, openingFrom, opening}
-use Rattle.decoder.specs.Turns.{Going, going, Ended, gave, stopped}
-use Rattle.decoder.specs.HandOut.{pictures, ended, askFirst, begun, goOn, handOut}
+use Rattle.decoder.specs.Turns.{Going, going, Ended}
+use Rattle.decoder.specs.HandOut.{ended, askFirst, begun, goOn, handOut}
 use Rattle.decoder.proofs.Cleared.{cleared-later, cleared-length}
 use Rattle.demands.specs.Questions.{withHeader, headed}
 use Rattle.demands.specs.Stores.{SameFrom}
 use Rattle.demands.specs.After as A
-use Rattle.demands.specs.After.{AfterHeader, AfterOpening, AfterHandOut}
+use Rattle.demands.specs.After.{AfterOpening, AfterHandOut}
 use Rattle.demands.specs.Handing.{Opened, HandsOut}
 use Rattle.demands.proofs.AfterHeader.{AskAfter, IsHeaded, header-after, header-passed}
 use Rattle.demands.proofs.Reached.{same-from, then-same, Fit, CallEnd, hands, seven, stops, pictures-end}
-use Rattle.demands.proofs.RunTurns.{sized}
+use Rattle.demands.proofs.Keeps.{sized}
 
 -- ---- opening
 

@@ -1,26 +1,26 @@
 -- RULES Q3, Q4, Q5, QG: what the questions on the sequence header leave, whole.
-use mathlib.Core.Path.{_≡_, refl, sym, ap, _∙_}
-use mathlib.Core.Bool.{Bool, true, false, cond, not, _||_, true≢false, false≢true}
+use mathlib.Core.Path.{_≡_, refl, ap}
+use mathlib.Core.Bool.{Bool, true, false, cond, not, _||_}
 use mathlib.Core.List.{List}
 use mathlib.Core.Logic.{_⊎_, inl, inr}
-use Prim.Native.Nat.{ℕ, _+_, _-_, _*_, _≤_, _<_}
+use Prim.Native.Nat.{ℕ, _+_, _-_, _*_, _≤_}
 use native.Mathlib.Omega.{arith}
-use lib.Dec.{eqb, leb}
+use lib.Dec.{eqb}
 use lib.IntN.{ℤ, pos, negsuc}
 use lib.ListN.{length}
 use borrow.Author.Tests.{eqb-true, leb-true, leb-false}
-use Rattle.bits.specs.Bits.{has, got, next, bitsAt}
+use Rattle.bits.specs.Bits.{has, bitsAt}
 use Rattle.bits.specs.Programs.{Out, run, bind, eqZ, findStartCode}
 use Rattle.bits.proofs.Programs.{served-got, served-next}
 use Rattle.laws.proofs.Tests.{by-case}
 use Rattle.decoder.specs.declared.record.Decoder.{Decoder}
 use Rattle.decoder.specs.Record.{place, startCode, searchedAs}
-use Rattle.decoder.specs.Sequences.{Size, size}
-use Rattle.decoder.specs.Headers.{Asked, refused, passed, findSequence, sized, askSize, askHeader}
+use Rattle.decoder.specs.Sequences.{size}
+use Rattle.decoder.specs.Headers.{Asked, refused, passed, findSequence, askSize, askHeader}
 use Rattle.decoder.proofs.Searches.{eqZ-is}
 use Rattle.demands.specs.Codes.{NoneFound}
 use Rattle.demands.specs.Questions.{withSize, withHeader}
-use Rattle.demands.specs.After.{AtCode, had-it, found-it, sizeRead, AfterHeader, after-3, after-4, after-5}
+use Rattle.demands.specs.After.{AtCode, had-it, found-it, AfterHeader, after-3, after-4, after-5}
 use Rattle.demands.proofs.Codes.{SearchEnd, with-code, with-none, search-end}
 
 -- ---- the search

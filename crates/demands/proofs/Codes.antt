@@ -1,6 +1,6 @@
 -- RULES 1.9 to 1.11: a search that finds a code ends right behind its four bytes; one that finds none ends where fewer than five are left.
 use mathlib.Core.Path.{_≡_, refl, sym, ap, _∙_}
-use mathlib.Core.Bool.{Bool, true, false, cond, _||_, _&&_, or-true, true≢false}
+use mathlib.Core.Bool.{Bool, true, false, cond, _||_, _&&_, true≢false}
 use mathlib.Core.List.{List}
 use Prim.Native.Nat.{ℕ, zero, suc, max, _+_, _-_, _*_, _≤_}
 use native.Mathlib.Omega.{arith}

@@ -27,7 +27,7 @@ use Rattle.decoder.specs.declared.answers.Converted.{Converted}
 use Rattle.decoder.specs.declared.answers.Converted.the-variants as C
 use Rattle.decoder.specs.Record.{Left, fresh, storeBytes}
 use Rattle.decoder.specs.Possible.{possible}
-use Rattle.decoder.specs.Conversion.{Area, pictureIn, fits, converted}
+use Rattle.decoder.specs.Conversion.{Area, pictureIn, fits}
 use Rattle.demands.specs.Calls.{Opens, Decodes, Converts, openingNumber, handOutNumber, conversionNumber}
 use Rattle.demands.specs.Questions.{ask, firstNo, this-one, withHeader, headed, openingAsks, handOutAsks, conversionAsks}
 use Rattle.demands.specs.Stores.{SameFrom}

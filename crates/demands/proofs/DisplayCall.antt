@@ -3,7 +3,7 @@ use mathlib.Core.Path.{_≡_, refl, sym, ap, subst, _∙_}
 use mathlib.Core.Bool.{Bool, true, false, true≢false}
 use mathlib.Core.List.{List, [], _++_}
 use mathlib.Core.Logic.{_⊎_, inl, inr, ⊎-elim}
-use Prim.Native.Nat.{ℕ, _+_, _≤_, _<_}
+use Prim.Native.Nat.{ℕ, _≤_, _<_}
 use native.Mathlib.Omega.{arith}
 use lib.Dec.{eqb, leb}
 use lib.ListN.{length, getD}
@@ -17,13 +17,14 @@ use Rattle.decoder.specs.declared.answers.Outcome.the-variants as H
 use Rattle.decoder.specs.Record.{Left, stopAs, storeBytes, cleared}
 use Rattle.decoder.specs.Possible.{possibleWith}
 use Rattle.decoder.specs.Headers.{Asked, refused, passed, askHeader, askStore}
-use Rattle.decoder.specs.Turns.{Going, going, Ended, gave, stopped, nextPicture, pictureTurn}
+use Rattle.decoder.specs.Turns.{Going, going, Ended, gave, stopped, nextPicture}
 use Rattle.decoder.specs.HandOut.{pictures, ended, askFirst, begun, goOn}
 use Rattle.decoder.specs.Run.{call, behind}
 use Rattle.decoder.proofs.Cleared.{begun-clears}
 use Rattle.demands.specs.Questions.{isThere}
-use Rattle.demands.specs.Display.{Coded, displayed, waiting, AllDecoded, turnReads, picturesRead, askedReads, handOutReads, shownBy}
-use Rattle.demands.proofs.RunTurns.{Keeps, Stuck, Ends, hands, flushes, seven, stops, pictures-row, sized}
+use Rattle.demands.specs.Display.{Coded, displayed, waiting, AllDecoded, picturesRead, askedReads, handOutReads, shownBy}
+use Rattle.demands.proofs.Keeps.{Keeps, sized}
+use Rattle.demands.proofs.RunTurns.{Stuck, Ends, hands, flushes, seven, stops, pictures-row}
 use Rattle.demands.proofs.Waiting.{Waits, Accepts, header-accepts}
 use Rattle.demands.proofs.RunCall.{Resting, keeps-possible, keeps-marked, keeps-call, stuck-call, marked-call, waits-possible, waits-marked, waits-call}
 use Rattle.demands.proofs.RunCall.{accepted-keeps}

@@ -2,8 +2,7 @@
 -- third is never read.
 use mathlib.Core.Path.{_≡_, refl}
 use mathlib.Core.Bool.{true, false}
-use mathlib.Core.List.{List, [], _∷_}
-use Prim.Native.Nat.{ℕ}
+use mathlib.Core.List.{[], _∷_}
 use lib.Ieee.{ofInt}
 use lib.ListN.{replicate}
 use Rattle.laws.specs.Turns.{turns}

@@ -3,7 +3,7 @@
 -- (RULES 8.4).
 use mathlib.Core.Path.{_≡_, refl, sym, ap, ap₂, subst, _∙_}
 use mathlib.Core.Bool.{Bool, true, false}
-use mathlib.Core.List.{List, [], _∷_, _++_, append-assoc, append-nil}
+use mathlib.Core.List.{List, [], _++_, append-assoc, append-nil}
 use mathlib.Core.Logic.{_⊎_, inl, inr}
 use Prim.Native.Nat.{ℕ, _≤_, _<_}
 use lib.Dec.{leb}
@@ -17,7 +17,7 @@ use Rattle.decoder.specs.Record.{Left, left, fresh, storeBytes}
 use Rattle.decoder.specs.Headers.{Asked, refused, passed, askHeader, askStore}
 use Rattle.decoder.specs.Opening.{opened, openingFrom, opening}
 use Rattle.decoder.specs.Turns.{Going, going}
-use Rattle.decoder.specs.Run.{call, behind}
+use Rattle.decoder.specs.Run.{behind}
 use Rattle.demands.specs.Calls.{Opens}
 use Rattle.demands.specs.Display.{Coded, displayed, waiting, displayOrder, AllDecoded, handOutReads, shownBy, Shows, none, and-then}
 use Rattle.demands.proofs.Waiting.{fresh-waits, Accepts, header-accepts}

@@ -1,16 +1,16 @@
 -- RULES H: the header edge, wherever the sequence start code is and whatever the bytes around it.
 use mathlib.Core.Path.{_≡_, refl, sym, ap, _∙_}
-use mathlib.Core.Bool.{Bool, true, false, true≢false}
+use mathlib.Core.Bool.{true, false, true≢false}
 use mathlib.Core.List.{List}
-use Prim.Native.Nat.{ℕ, _+_, _-_, _*_, _≤_, _<_}
+use Prim.Native.Nat.{ℕ, _+_, _*_, _<_}
 use native.Mathlib.Decide.{decLt}
 use native.Mathlib.Omega.{arith}
-use lib.Dec.{eqb, leb}
-use lib.IntN.{ℤ, pos, negsuc}
+use lib.Dec.{leb}
+use lib.IntN.{ℤ, pos}
 use lib.ListN.{length, getD}
 use borrow.Author.Tests.{le-leb, lt-leb}
 use Rattle.bits.specs.Bits.{Found, boundary, codePrefix, found, has}
-use Rattle.bits.specs.Programs.{Out, run, eqZ, findTurn, findStartCode}
+use Rattle.bits.specs.Programs.{Out, eqZ, findTurn, findStartCode}
 use Rattle.bits.specs.Runs.{Runs}
 use Rattle.bits.proofs.Start.{Searched, first, none, found-is-first}
 use Rattle.bits.proofs.Programs.{served-has, refused-has}

@@ -8,6 +8,7 @@ pub mod Reached
 pub mod Codes
 pub mod AfterHeader
 pub mod HeaderEdge
+pub mod Keeps
 pub mod RunTurns
 pub mod Waiting
 pub mod RunCall

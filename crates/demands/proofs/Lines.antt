@@ -1,6 +1,5 @@
 -- RULES L.3: a listing goes on to the first number, and ends with it: by R.1 the calls do not come to the end of its fuel.
-use mathlib.Core.Path.{_≡_, refl, ap, subst}
-use mathlib.Core.Bool.{Bool, true, false}
+use mathlib.Core.Path.{_≡_, refl}
 use mathlib.Core.List.{List, [], _∷_}
 use Prim.Native.Nat.{ℕ, zero, suc, _+_, _*_, _/_, _≤_, _<_}
 use native.Mathlib.Omega.{arith}
@@ -14,10 +13,8 @@ use Rattle.decoder.specs.declared.answers.Opening.{Opening}
 use Rattle.decoder.specs.declared.answers.Opening.the-variants as O
 use Rattle.decoder.specs.declared.answers.Outcome.{Outcome}
 use Rattle.decoder.specs.declared.answers.Outcome.the-variants as H
-use Rattle.decoder.specs.Record.{Left}
 use Rattle.decoder.specs.Opening.{opening}
 use Rattle.decoder.specs.Turns.{Going, going}
-use Rattle.decoder.specs.HandOut.{handOut}
 use Rattle.decoder.specs.Run.{call, pictureIn}
 use Rattle.decoder.specs.Listing.{Line, line, linesFrom, linesOf, listing}
 use Rattle.demands.specs.Lines.{Lines, a-picture, the-number}

@@ -18,7 +18,7 @@ use Rattle.argb.specs.Scaled.{scaled}
 use Rattle.decoder.specs.Conversion.{Area, pictureIn, fits, converted}
 use Rattle.demands.specs.Causes.{Cause, dc, prediction}
 use Rattle.demands.specs.After as A
-use Rattle.demands.specs.After.{AfterHeader, AfterOpening, AfterHandOut}
+use Rattle.demands.specs.After.{AfterOpening, AfterHandOut}
 use Rattle.demands.specs.Numbers.{among, openingNumbers, handOutNumbers, conversionNumbers}
 
 pub opening-named : {s l : List ℕ} {n : ℕ} {x : Decoder} → AfterOpening s l n x → among n openingNumbers ≡ true

@@ -1,15 +1,14 @@
 -- RULES "Order": the questions of a hand-out with a header that was accepted earlier, and with none; and the number that a "no" gives, question by question.
 -- By its contract `decode` gave r (Calls.antt). A "no" in the second turn: `decode-says` in Demand1.antt.
-use mathlib.Core.Path.{_≡_, refl, sym, ap, _∙_}
-use mathlib.Core.Bool.{Bool, true, false, not, _&&_, _||_}
-use mathlib.Core.List.{List, [], _∷_, _++_}
+use mathlib.Core.Path.{_≡_, refl, ap, _∙_}
+use mathlib.Core.Bool.{true, false}
+use mathlib.Core.List.{List, _∷_}
 use Prim.Native.Nat.{ℕ, _≤_, _<_}
 use native.Mathlib.Omega.{arith}
-use lib.Dec.{eqb, leb}
+use lib.Dec.{eqb}
 use lib.ListN.{length}
 use borrow.Author.Tests.{le-leb, lt-leb, eq-eqb, ne-eqb}
-use Rattle.picture.specs.Ways.{Way, out}
-use Rattle.picture.specs.Pictures.{Frame}
+use Rattle.picture.specs.Ways.{out}
 use Rattle.decoder.specs.declared.record.Decoder.{Decoder}
 use Rattle.decoder.specs.declared.answers.Outcome.the-variants as H
 use Rattle.decoder.specs.declared.answers.Handed.{Handed}
@@ -17,7 +16,7 @@ use Rattle.decoder.specs.Record.{storeBytes, cleared}
 use Rattle.decoder.specs.Possible.{possible}
 use Rattle.decoder.specs.Turns.{going, nextPicture}
 use Rattle.decoder.specs.HandOut.{begun}
-use Rattle.demands.specs.Calls.{Decodes, handOutNumber}
+use Rattle.demands.specs.Calls.{Decodes}
 use Rattle.demands.specs.Questions as Q
 use Rattle.demands.specs.Questions.{Question, ask, firstNo, withHeader, isThere, isFlush, pictureEnd, turnAsks, picturesAsk, handOutAsks}
 use Rattle.demands.proofs.Questions.{is-first}

@@ -1,20 +1,18 @@
 -- RULES D2.3, Q8, Q9: decoding a picture changes no byte outside its own store, and leaves early with a cause.
-use mathlib.Core.Path.{_≡_, refl, sym, ap, subst, _∙_}
-use mathlib.Core.Bool.{Bool, true, _&&_}
+use mathlib.Core.Path.{_≡_, refl, sym, _∙_}
+use mathlib.Core.Bool.{Bool}
 use mathlib.Core.List.{List}
-use mathlib.Core.Logic.{_⊎_, inl, inr, ⊎-elim}
+use mathlib.Core.Logic.{_⊎_, ⊎-elim}
 use Prim.Native.Nat.{ℕ, _+_, _*_, _≤_, _<_}
 use native.Mathlib.Nat.{mul-le-mul-right}
 use native.Mathlib.Omega.{arith}
 use borrow.Rule.Slice.PartMut.{midOf, putMid, same-len-mid}
-use lib.Dec.{eqb}
 use lib.IntN.{ℤ}
-use lib.ListN.{length, getD}
+use lib.ListN.{length}
 use Rattle.laws.proofs.Lists.{length-mid, put-before, put-after, length-rows}
 use Rattle.laws.proofs.Tests.{by-case}
 use Rattle.coefficients.specs.declared.quantiser.Quantiser.{Quantiser}
 use Rattle.coefficients.specs.Blocks.{Filled, Read, firstOnly}
-use Rattle.prediction.specs.declared.place.Macroblock.{Macroblock}
 use Rattle.prediction.specs.declared.place.Place.{Place}
 use Rattle.prediction.specs.declared.place.Fetch.{Fetch}
 use Rattle.prediction.specs.declared.place.Fetch.the-variants.{Alone, Past, Copied}
@@ -23,7 +21,7 @@ use Rattle.prediction.specs.declared.planes.Plane.the-variants.{Y, Cr, Cb}
 use Rattle.prediction.specs.declared.predict.Predicted.{Predicted}
 use Rattle.prediction.specs.declared.predict.Predicted.the-variants.{Done, Refused}
 use Rattle.prediction.specs.Predict.{macroblockAt, blockOf, bytes, fetch, predicted, address, width, chroma}
-use Rattle.prediction.specs.Planes.{After, macroblocks, blockSize, planeOf, planeLength, planeStart, offset, follow, ofStores, next, predictedPlanes}
+use Rattle.prediction.specs.Planes.{After, blockSize, planeOf, planeLength, planeStart, offset, follow, next, predictedPlanes}
 use Rattle.prediction.specs.Writers.{setConst, overwrite, addConst, addBlock, blockWidth, blockPlace}
 use Rattle.picture.specs.State.{Given}
 use Rattle.picture.specs.Blocks.{results, written}

@@ -5,14 +5,13 @@ use mathlib.Core.List.{List}
 use Prim.Native.Nat.{ℕ, zero, suc, _+_, _-_, _^_}
 use lib.Dec.{eqb, ltb}
 use lib.IntN.{ℤ, pos, natAbs, _+ℤ_}
-use lib.ListN.{getD}
 use lib.Signed.{leZ}
-use Rattle.bits.specs.Programs.{Prog, nonZero, many, run, nextStartCode, bits}
+use Rattle.bits.specs.Programs.{Prog, nonZero, many, nextStartCode, bits}
 use Rattle.bits.proofs.Gives.{Gives, Turned, g-done, g-any, g-bind, g-if, g-loop}
 use Rattle.laws.proofs.Tests.{by-case}
 use Rattle.coefficients.specs.declared.quantiser.Quantiser.{Quantiser}
 use Rattle.coefficients.specs.Dequantise.{quantiser}
-use Rattle.coefficients.specs.Blocks.{Read, block}
+use Rattle.coefficients.specs.Blocks.{Read}
 use Rattle.coefficients.specs.declared.block.BlockEnd.{BlockEnd}
 use Rattle.coefficients.specs.declared.block.BlockEnd.the-variants.{Whole, Dropped, Outside}
 use Rattle.prediction.specs.Predict.{macroblockAt}

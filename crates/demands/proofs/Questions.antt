@@ -1,5 +1,5 @@
 -- RULES D1.4: each call answers the number of its first question whose answer is "no", and a result where there is none. Assumes nothing.
-use mathlib.Core.Path.{_≡_, refl, sym, ap, subst, _∙_}
+use mathlib.Core.Path.{_≡_, refl, sym, ap, _∙_}
 use mathlib.Core.Bool.{Bool, true, false, cond, not, _&&_, _||_, false≢true}
 use mathlib.Core.List.{List, [], _∷_, _++_, append-nil}
 use mathlib.Core.Logic.{_⊎_, inl, inr}
@@ -24,7 +24,7 @@ use Rattle.decoder.specs.Possible.{possible, possibleWith}
 use Rattle.decoder.specs.Headers.{Asked, refused, passed, findSequence, askSize, askHeader, askStore}
 use Rattle.decoder.specs.Opening.{opened, openingFrom, opening}
 use Rattle.decoder.specs.Turns.{Going, Ended, gave, stopped, nextPicture, hasEnded, isFollowed, isReference}
-use Rattle.decoder.specs.Turns.{pictureAt, handed, shown, flushed, pastPicture, decoded, searched, pictureTurn}
+use Rattle.decoder.specs.Turns.{handed, shown, flushed, pastPicture, decoded, searched, pictureTurn}
 use Rattle.decoder.specs.HandOut.{pictures, ended, askFirst, begun, goOn, handOut}
 use Rattle.decoder.specs.Conversion.{Area, fits, converted}
 use Rattle.decoder.proofs.TwoTurns.{Holds, isStop, goes-held, held-stops}

@@ -1,9 +1,9 @@
 -- RULES D2.3, Q7, Q8, Q9: how the turns of a hand-out end, and what of record and store they leave alone.
 use mathlib.Core.Path.{_≡_, refl, sym, ap, subst, _∙_}
-use mathlib.Core.Bool.{Bool, true, false, cond, false≢true}
+use mathlib.Core.Bool.{Bool, true, false, false≢true}
 use mathlib.Core.List.{List}
 use mathlib.Core.Logic.{inr}
-use Prim.Native.Nat.{ℕ, _*_, _+_, _≤_}
+use Prim.Native.Nat.{ℕ, _*_, _≤_}
 use native.Mathlib.Nat.{mul-le-mul-right}
 use native.Mathlib.Omega.{arith}
 use lib.Dec.{eqb}
@@ -13,7 +13,7 @@ use Rattle.laws.specs.Turns.{Turn, again, stop, turns}
 use Rattle.bits.specs.Programs.{Out, run, eqZ}
 use Rattle.laws.proofs.Tests.{by-case}
 use Rattle.picture.specs.declared.state.Stores.{Stores}
-use Rattle.picture.specs.Ways.{Way, on, out}
+use Rattle.picture.specs.Ways.{Way, out}
 use Rattle.picture.specs.Possible.{PossibleStores}
 use Rattle.picture.specs.Pictures as P
 use Rattle.decoder.specs.declared.record.Decoder.{Decoder}
@@ -29,7 +29,7 @@ use Rattle.demands.specs.Questions.{isThere, isFlush, pictureEnd}
 use Rattle.demands.specs.After.{InTurn, in-the-first, in-the-second}
 use Rattle.demands.specs.Handing.{pictureRun, Reads, past, Handing, b-picture, held-picture, flushed-picture}
 use Rattle.demands.proofs.PictureStores.{Ways}
-use Rattle.demands.proofs.PictureLeft.{turned, Left, Stopped, picture-left}
+use Rattle.demands.proofs.PictureLeft.{Left, Stopped, picture-left}
 use Rattle.demands.proofs.TurnCases.{TurnIs, gives, holds, leaves, is-seven, turn-is}
 
 -- ---- what of the store stays

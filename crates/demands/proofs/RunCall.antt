@@ -1,6 +1,6 @@
 -- For RULES R: one call of a run from an opened record, and what it leaves to the next.
 use mathlib.Core.Path.{_≡_, refl, sym, ap, subst, _∙_}
-use mathlib.Core.Bool.{Bool, true, false, cond, _&&_}
+use mathlib.Core.Bool.{Bool, true, false, _&&_}
 use mathlib.Core.List.{List}
 use mathlib.Core.Logic.{_⊎_, inl, inr, ⊎-elim}
 use Prim.Native.Nat.{ℕ, _+_, _*_, _/_, _≤_, _<_}
@@ -24,7 +24,8 @@ use Rattle.decoder.proofs.Cleared.{begun-clears, cleared-length}
 use Rattle.demands.specs.After.{AfterHeader, after-3, after-4, after-5}
 use Rattle.demands.specs.Calls.{handOutNumber}
 use Rattle.demands.proofs.AfterHeader.{AskAfter, header-after}
-use Rattle.demands.proofs.RunTurns.{Keeps, Stuck, Ends, hands, flushes, seven, stops, pictures-row}
+use Rattle.demands.proofs.Keeps.{Keeps}
+use Rattle.demands.proofs.RunTurns.{Stuck, Ends, hands, flushes, seven, stops, pictures-row}
 use Rattle.demands.proofs.Waiting.{Waits, waits-sequence, Accepted, Accepts, header-accepts}
 
 -- ---- question 2

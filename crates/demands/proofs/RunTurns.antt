@@ -1,51 +1,34 @@
 -- For RULES R: what the turns of a hand-out keep.
-use mathlib.Core.Path.{_≡_, refl, sym, ap, ap₂, subst, _∙_}
+use mathlib.Core.Path.{_≡_, refl, sym, ap, subst, _∙_}
 use mathlib.Core.Bool.{Bool, true, false, cond, not, _&&_, _||_, true≢false, false≢true}
-use mathlib.Core.List.{List, [], _∷_}
+use mathlib.Core.List.{List}
 use mathlib.Core.Logic.{_⊎_}
 use Prim.Native.Nat.{ℕ, _+_, _*_, _≤_, _<_}
 use native.Mathlib.Omega.{arith}
-use lib.Dec.{eqb, leb}
-use lib.IntN.{ℤ, pos, negsuc, negℤ}
+use lib.Dec.{eqb}
+use lib.IntN.{ℤ, pos, negsuc}
 use lib.ListN.{length, getD}
-use borrow.Author.Tests.{eqb-true, leb-true}
+use borrow.Author.Tests.{leb-true}
 use Rattle.laws.specs.Turns.{Turn, again, stop, turns}
 use Rattle.bits.specs.Programs.{Out, run, eqZ, findStartCode}
 use Rattle.bits.proofs.Start.{isCode}
 use Rattle.bits.proofs.Programs.{run-on, run-most}
-use Rattle.laws.proofs.Tests.{by-case, both, each}
+use Rattle.laws.proofs.Tests.{by-case}
 use Rattle.picture.specs.Ways.{Way, on, out}
-use Rattle.picture.specs.declared.state.Sizes.{Sizes}
 use Rattle.picture.specs.declared.state.Picture.{Picture}
-use Rattle.picture.specs.State.{startCodeAs}
-use Rattle.picture.specs.Possible.{between, possiblePicture}
 use Rattle.picture.specs.Pictures.{Frame, picture}
-use Rattle.picture.proofs.Possible.{picture-of, picture-by}
 use Rattle.picture.proofs.Kept as Kept
 use Rattle.picture.proofs.Places.{Ahead, picture-past, picture-ahead}
-use Rattle.decoder.specs.declared.record.Sequence.{Sequence}
 use Rattle.decoder.specs.declared.record.Decoder.{Decoder}
 use Rattle.decoder.specs.declared.answers.Shown.{Shown}
 use Rattle.decoder.specs.declared.answers.Outcome.the-variants as H
-use Rattle.decoder.specs.Record.{place, startCode, placeAs, pictureAs, heldAs, searchedAs, storeBytes}
-use Rattle.decoder.specs.Possible.{across, sizesOf, sameSizes, possibleSequence}
+use Rattle.decoder.specs.Record.{place, startCode, placeAs, pictureAs, heldAs, searchedAs}
 use Rattle.decoder.specs.Turns.{Going, going, Ended, gave, stopped, nextPicture, hasEnded, isFollowed, isReference}
 use Rattle.decoder.specs.Turns.{counted, handed, shown, flushed, pastPicture, decoded, searched, pictureTurn}
 use Rattle.decoder.specs.HandOut.{pictures}
 use Rattle.decoder.proofs.Searches.{Barren, Sought, hit, miss, sought, still-barren, eqZ-is}
+use Rattle.demands.proofs.Keeps.{Keeps, keeps-held, keeps-counted, keeps-searched, sized}
 use Rattle.decoder.proofs.TwoTurns.{Holds, isStop, goes-held, held-stops}
-
--- what a record keeps from an accepted header on, with no stop mark. 29 bits are read for each picture handed out; before a picture start code that
--- is in the record bits are left
-pub record Keeps (s : List ℕ) (d : Decoder) (l : List ℕ) : Type 0 where
-  pub header : d .sequence .«has_sequence_header» ≡ true
-  pub sequence : possibleSequence (d .sequence) ≡ true
-  pub picture : possiblePicture (d .picture) ≡ true
-  pub mark : d .stop ≡ 0
-  pub long : storeBytes d ≤ length l
-  pub inside : place d ≤ length s * 8
-  pub ahead : startCode d ≡ pos 0 → place d < length s * 8
-  pub count : 29 * d .«frames_decoded» ≤ place d
 
 -- a turn answers 7 and changes nothing
 abbrev pub Stuck : List ℕ → Decoder → List ℕ → Type 0
@@ -110,55 +93,6 @@ data Turns (s : List ℕ) (n : ℕ) : Turn Going Ended → Type 0 where
   goes : {y : Going} → Keeps s (y .decoder) (y .store) → y .decoder .«frames_decoded» ≡ n → Turns s n (again y)
   ends : {e : Ended} → Ends s n e → Turns s n (stop e)
 
--- ---- changes of a record that keep it
-
--- another start code, within -1..255
-pub code-possible : (c : ℤ) (p : Picture) → between (negℤ (pos 1)) (pos 255) c ≡ true → possiblePicture p ≡ true
-    → possiblePicture (startCodeAs c p) ≡ true
-code-possible c p h k =
-    let x = picture-of p k in
-    picture-by {p = startCodeAs c p} (record { type = x .type; code = h; stores = x .stores; slice = x .slice })
-
-module _ {s : List ℕ} {d : Decoder} {l : List ℕ} (k : Keeps s d l) where
-  keeps-held : (b : Bool) → Keeps s (heldAs b d) l
-  keeps-held b = record {
-    header = k .header;
-    sequence = k .sequence;
-    picture = k .picture;
-    mark = k .mark;
-    long = k .long;
-    inside = k .inside;
-    ahead = k .ahead;
-    count = k .count;
-  }
-
-  keeps-counted : 29 * d .«frames_decoded» + 29 ≤ place d → Keeps s (counted d) l
-  unfolding counted
-  keeps-counted h = record {
-    header = k .header;
-    sequence = k .sequence;
-    picture = k .picture;
-    mark = k .mark;
-    long = k .long;
-    inside = k .inside;
-    ahead = k .ahead;
-    count = omega arith;
-  }
-
-  keeps-searched : (c : ℤ) (e : ℕ) → between (negℤ (pos 1)) (pos 255) c ≡ true → place d ≤ e → e ≤ length s * 8
-      → (c ≡ pos 0 → e < length s * 8)
-      → Keeps s (searchedAs c e d) l
-  keeps-searched c e h f m a = record {
-    header = k .header;
-    sequence = k .sequence;
-    picture = code-possible c (d .picture) h (k .picture);
-    mark = k .mark;
-    long = k .long;
-    inside = m;
-    ahead = a;
-    count = omega (arith, k .count);
-  }
-
 -- RULES 8.5: behind a picture, which has taken 29 bits
 shown-row : (s : List ℕ) (d : Decoder) (l : List ℕ) → Keeps s d l → 29 * d .«frames_decoded» + 29 ≤ place d
     → Turns s (d .«frames_decoded») (shown d l)
@@ -167,25 +101,6 @@ shown-row s d l k h =
     by-case (Turns s (d .«frames_decoded»)) (eqb (d .picture .«picture_type») 3) (λ e. ends (hands (keeps-counted k h) refl))
     (λ e. by-case (Turns s (d .«frames_decoded»)) (d .«has_reference_frame»)
     (λ e. ends (hands (keeps-counted k h) refl)) (λ e. goes (keeps-held k true) refl))
-
--- ---- the sizes of an accepted header
-
-pub record Sized (z : Sizes) : Type 0 where
-  pub wide : z .«mb_width» ≤ 256
-  pub high : z .«mb_height» ≤ 256
-  pub area : z .«mb_size» ≡ z .«mb_width» * z .«mb_height»
-
-pub sized : (q : Sequence) → q .«has_sequence_header» ≡ true → possibleSequence q ≡ true → Sized (q .sizes)
-sized q h p =
-    let least = leb 1 (q .width) && leb 1 (q .height) in
-    let same = sameSizes (q .sizes) (sizesOf (q .width) (q .height)) in
-    let x = each (leb (q .width) 4095) (leb (q .height) 4095 ∷ (least && same) ∷ []) (rw h at p) in
-    let w = each _ (_ ∷ _ ∷ []) (both least same (x 2) .1) in
-    let width : q .width ≤ 4095 = leb-true _ _ (x 0) in
-    let height : q .height ≤ 4095 = leb-true _ _ (x 1) in
-    let wide : q .sizes .«mb_width» ≡ across (q .width) = eqb-true _ _ (w 0) in
-    let high : q .sizes .«mb_height» ≡ across (q .height) = eqb-true _ _ (w 1) in
-    record { wide = omega arith; high = omega arith; area = eqb-true _ _ (w 2) ∙ sym (ap₂ _*_ wide high) }
 
 -- ---- a picture
 

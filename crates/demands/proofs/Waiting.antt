@@ -2,7 +2,7 @@
 use mathlib.Core.Path.{_≡_, refl, sym, ap, _∙_}
 use mathlib.Core.Bool.{Bool, true, false, cond, not, _&&_, _||_, true≢false}
 use mathlib.Core.List.{List}
-use Prim.Native.Nat.{ℕ, zero, suc, _+_, _*_, _≤_}
+use Prim.Native.Nat.{ℕ, zero, suc, _*_, _≤_}
 use native.Mathlib.Omega.{arith}
 use lib.Dec.{eqb, leb}
 use lib.IntN.{ℤ, pos, negsuc, natAbs}
@@ -26,7 +26,7 @@ use Rattle.decoder.specs.Headers.{Asked, refused, passed, findSequence, accepte
 use Rattle.decoder.proofs.Starts.{fresh-starts}
 use Rattle.demands.specs.After.{had-it, found-it}
 use Rattle.demands.proofs.AfterHeader.{Finds, a-code, no-code, find-sequence, at-code}
-use Rattle.demands.proofs.RunTurns.{Keeps, code-possible}
+use Rattle.demands.proofs.Keeps.{Keeps, code-possible}
 
 abbrev noSizes : Sizes
 noSizes = record { «mb_width» = 0; «mb_height» = 0; «mb_size» = 0 }

@@ -1,0 +1,103 @@
+-- For RULES R: what a record keeps from an accepted header on, and the changes that leave it so.
+use mathlib.Core.Path.{_≡_, sym, ap₂, _∙_}
+use mathlib.Core.Bool.{Bool, true, _&&_}
+use mathlib.Core.List.{List, [], _∷_}
+use Prim.Native.Nat.{ℕ, _+_, _*_, _≤_, _<_}
+use native.Mathlib.Omega.{arith}
+use lib.Dec.{leb}
+use lib.IntN.{ℤ, pos, negℤ}
+use lib.ListN.{length}
+use borrow.Author.Tests.{eqb-true, leb-true}
+use Rattle.laws.specs.Turns.{stop}
+use Rattle.laws.proofs.Tests.{both, each}
+use Rattle.picture.specs.declared.state.Sizes.{Sizes}
+use Rattle.picture.specs.declared.state.Picture.{Picture}
+use Rattle.picture.specs.State.{startCodeAs}
+use Rattle.picture.specs.Possible.{between, possiblePicture}
+use Rattle.picture.specs.Pictures.{picture}
+use Rattle.picture.proofs.Possible.{picture-of, picture-by}
+use Rattle.decoder.specs.declared.record.Sequence.{Sequence}
+use Rattle.decoder.specs.declared.record.Decoder.{Decoder}
+use Rattle.decoder.specs.Record.{place, startCode, heldAs, searchedAs, storeBytes}
+use Rattle.decoder.specs.Possible.{across, sizesOf, sameSizes, possibleSequence}
+use Rattle.decoder.specs.Turns.{counted}
+
+-- what a record keeps from an accepted header on, with no stop mark. 29 bits are read for each picture handed out; before a picture start code that
+-- is in the record bits are left
+pub record Keeps (s : List ℕ) (d : Decoder) (l : List ℕ) : Type 0 where
+  pub header : d .sequence .«has_sequence_header» ≡ true
+  pub sequence : possibleSequence (d .sequence) ≡ true
+  pub picture : possiblePicture (d .picture) ≡ true
+  pub mark : d .stop ≡ 0
+  pub long : storeBytes d ≤ length l
+  pub inside : place d ≤ length s * 8
+  pub ahead : startCode d ≡ pos 0 → place d < length s * 8
+  pub count : 29 * d .«frames_decoded» ≤ place d
+
+-- ---- changes of a record that keep it
+
+-- another start code, within -1..255
+pub code-possible : (c : ℤ) (p : Picture) → between (negℤ (pos 1)) (pos 255) c ≡ true → possiblePicture p ≡ true
+    → possiblePicture (startCodeAs c p) ≡ true
+code-possible c p h k =
+    let x = picture-of p k in
+    picture-by {p = startCodeAs c p} (record { type = x .type; code = h; stores = x .stores; slice = x .slice })
+
+module _ {s : List ℕ} {d : Decoder} {l : List ℕ} (k : Keeps s d l) where
+  pub keeps-held : (b : Bool) → Keeps s (heldAs b d) l
+  keeps-held b = record {
+    header = k .header;
+    sequence = k .sequence;
+    picture = k .picture;
+    mark = k .mark;
+    long = k .long;
+    inside = k .inside;
+    ahead = k .ahead;
+    count = k .count;
+  }
+
+  pub keeps-counted : 29 * d .«frames_decoded» + 29 ≤ place d → Keeps s (counted d) l
+  unfolding counted
+  keeps-counted h = record {
+    header = k .header;
+    sequence = k .sequence;
+    picture = k .picture;
+    mark = k .mark;
+    long = k .long;
+    inside = k .inside;
+    ahead = k .ahead;
+    count = omega arith;
+  }
+
+  pub keeps-searched : (c : ℤ) (e : ℕ) → between (negℤ (pos 1)) (pos 255) c ≡ true → place d ≤ e → e ≤ length s * 8
+      → (c ≡ pos 0 → e < length s * 8)
+      → Keeps s (searchedAs c e d) l
+  keeps-searched c e h f m a = record {
+    header = k .header;
+    sequence = k .sequence;
+    picture = code-possible c (d .picture) h (k .picture);
+    mark = k .mark;
+    long = k .long;
+    inside = m;
+    ahead = a;
+    count = omega (arith, k .count);
+  }
+
+-- ---- the sizes of an accepted header
+
+pub record Sized (z : Sizes) : Type 0 where
+  pub wide : z .«mb_width» ≤ 256
+  pub high : z .«mb_height» ≤ 256
+  pub area : z .«mb_size» ≡ z .«mb_width» * z .«mb_height»
+
+pub sized : (q : Sequence) → q .«has_sequence_header» ≡ true → possibleSequence q ≡ true → Sized (q .sizes)
+sized q h p =
+    let least = leb 1 (q .width) && leb 1 (q .height) in
+    let same = sameSizes (q .sizes) (sizesOf (q .width) (q .height)) in
+    let x = each (leb (q .width) 4095) (leb (q .height) 4095 ∷ (least && same) ∷ []) (rw h at p) in
+    let w = each _ (_ ∷ _ ∷ []) (both least same (x 2) .1) in
+    let width : q .width ≤ 4095 = leb-true _ _ (x 0) in
+    let height : q .height ≤ 4095 = leb-true _ _ (x 1) in
+    let wide : q .sizes .«mb_width» ≡ across (q .width) = eqb-true _ _ (w 0) in
+    let high : q .sizes .«mb_height» ≡ across (q .height) = eqb-true _ _ (w 1) in
+    record { wide = omega arith; high = omega arith; area = eqb-true _ _ (w 2) ∙ sym (ap₂ _*_ wide high) }
