@@ -1,7 +1,7 @@
 -- What it means that the standard's run and ours agree, with a rule for each form of a program. Where the standard's run ends with `forbidden`, nothing is
 -- said of ours. Assumes nothing.
 use mathlib.Core.Path.{_≡_, refl, sym, ap, _∙_, subst}
-use mathlib.Core.Bool.{Bool, true, false, cond, true≢false, false≢true}
+use mathlib.Core.Bool.{Bool, true, false, true≢false, false≢true}
 use mathlib.Core.List.{List}
 use Prim.Native.Nat.{ℕ, zero, suc}
 use Rattle.laws.specs.Turns.{Turn, again, stop}
@@ -15,6 +15,11 @@ abbrev pub WayMeets : {A B : Type 0} → (A → B → Type 0) → Way A → Way 
 WayMeets R (on x) (on y) = R x y
 WayMeets R (on x) (out n l) = ⊥
 WayMeets R (out n l) y = Unit {0}
+
+-- of what the standard's alone give
+abbrev pub WayIs : {A : Type 0} → (A → Type 0) → Way A → Type 0
+WayIs P (on x) = P x
+WayIs P (out n l) = Unit {0}
 
 -- of what two runs give, and the places where they end
 abbrev pub Meets : {A B : Type 0} → (A → B → Type 0) → Way A → ℕ → Way B → ℕ → Type 0

@@ -6,7 +6,7 @@ use Prim.Native.Nat.{ℕ, zero, suc, _+_, _-_, _*_, _^_, _≤_, _<_}
 use native.Mathlib.Omega.{arith}
 use borrow.Author.Tests.{eqb-true, eqb-false}
 use lib.Dec.{eqb, ltb}
-use lib.IntN.{ℤ, pos, negℤ, natAbs, _+ℤ_, _*ℤ_, +ℤ-idr, zero-*ℤ, *ℤ-zero}
+use lib.IntN.{ℤ, pos, negℤ, natAbs, _+ℤ_, _*ℤ_, zero-*ℤ, *ℤ-zero}
 use lib.ListN.{getD, set, replicate, getD-replicate}
 use lib.Seq.{getD-set-other}
 use lib.Signed.{leZ}
@@ -39,7 +39,7 @@ use Rattle.picture.specs.Ways.{Way, on, out, leave, onward, plain, step, give}
 use Rattle.picture.specs.Heads.{flag}
 use Rattle.picture.specs.Blocks as O
 use Rattle.standard.specs.Standard as S
-use Rattle.standard.proofs.Agreement.{Agree, a-same, a-give, a-plain, a-onward, a-shall, plain-bind, plain-bind-on}
+use Rattle.standard.proofs.Agreement.{WayIs, Agree, a-same, a-give, a-plain, a-onward, a-shall, plain-bind, plain-bind-on}
 use Rattle.standard.proofs.Related.{motionOf, Own, own, sliceOf, eights, Rule, coding}
 use Rattle.standard.specs.Rules.{times, premultiplied}
 
@@ -93,11 +93,6 @@ lone-next x r z l =
           getD-set-other (x .recon) (getD zigZag (x .n + r) 0) k z (pos 0) (λ e. omega (arith, zig-zag-first (x .n + r) (omega arith)))
           ∙ l .zeros (omega arith) k p;
     }
-
--- what the standard's way gives
-abbrev WayIs : {A : Type 0} → (A → Type 0) → Way A → Type 0
-WayIs P (on x) = P x
-WayIs P (out n l) = Unit {0}
 
 is-also : {A : Type 0} {P Q : A → Type 0} (w : Way A) → ((x : A) → P x → Q x) → WayIs P w → WayIs Q w
 is-also (on x) k p = k x p

@@ -1,18 +1,16 @@
 -- 2.4.2.7: the address increment. Assumes RULES Q1.
 use mathlib.Core.Path.{_≡_, refl, sym, ap, _∙_}
-use mathlib.Core.Bool.{Bool, true, false, cond, _&&_, false≢true}
+use mathlib.Core.Bool.{Bool, true, false, cond, _&&_}
 use mathlib.Core.List.{List, [], _∷_, List·Memᴰ, List·Memᴰ·head, List·Memᴰ·tail}
 use Prim.Native.Nat.{ℕ, zero, suc, _+_, _-_, _*_, _≤_, _<_}
 use native.Mathlib.Omega.{arith}
 use borrow.Author.Tests.{leb-true, eqb-true, ne-eqb}
 use lib.Dec.{eqb, leb}
-use lib.IntN.{ℤ, pos, negsuc, natAbs}
 use lib.ListN.{length, getD}
-use lib.Signed.{leZ}
 use Rattle.laws.specs.Turns.{Turn, again, stop}
 use Rattle.laws.proofs.Tests.{both}
 use Rattle.bits.specs.Bits.{has, got}
-use Rattle.bits.specs.Programs.{Prog, Out, done, skip, run, bind, eqZ, loop, turn, many}
+use Rattle.bits.specs.Programs.{Prog, Out, done, skip, run, bind, loop, turn, many}
 use Rattle.bits.proofs.Programs.{run-bind, next-has}
 use Rattle.bits.proofs.Rules.{loop-suc}
 use Rattle.codes.specs.Codes.{macroblockAddressIncrement}

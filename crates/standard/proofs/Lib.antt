@@ -12,3 +12,4 @@ pub mod Slices
 pub mod Header
 pub mod Picture
 pub mod Example
+pub mod Spared

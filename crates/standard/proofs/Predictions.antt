@@ -3,15 +3,13 @@ use mathlib.Core.Path.{_≡_, refl, sym, ap, _∙_, subst}
 use mathlib.Core.Bool.{Bool, true, false, cond, _&&_}
 use mathlib.Core.List.{List, [], _∷_}
 use mathlib.Core.Logic.{_⊎_, inl, inr}
-use Prim.Native.Nat.{ℕ, _+_, _*_, _<_, _≤_}
-use native.Mathlib.Omega.{arith}
+use Prim.Native.Nat.{ℕ, _+_, _*_, _≤_}
 use borrow.Author.Tests.{ltb-true, leb-true}
 use borrow.Rule.Slice.PartMut.{midOf, putMid}
 use lib.Dec.{ltb, leb}
 use lib.IntN.{ℤ, pos, _+ℤ_}
 use lib.ListN.{getD}
 use lib.Signed.{leZ, _≤ℤ_}
-use Rattle.laws.specs.Signed.{odd}
 use Rattle.laws.proofs.Tests.{both, each}
 use Rattle.laws.proofs.Ints.{v, le-yes, le-by}
 use Rattle.laws.proofs.Lists.{rows-alike}
@@ -24,7 +22,7 @@ use Rattle.prediction.specs.declared.predict.Predicted.the-variants.{Done, Refu
 use Rattle.prediction.specs.Predict.{Placed, blockOf, macroblockAt, width, height, bytes, address, fetch, predicted, chroma, inHalves}
 use Rattle.prediction.specs.Planes.{After, blockSize, macroblocks, planeStart, follow, next, ofStores, predictedPlanes}
 use Rattle.prediction.specs.Samples.{sample, laid}
-use Rattle.prediction.specs.Standard.{whole, half, chrominance, pel, bothWays, InPicture}
+use Rattle.prediction.specs.Standard.{whole, chrominance, pel, bothWays, InPicture}
 use Rattle.prediction.proofs.Standard as L
 use Rattle.picture.specs.Ways.{Way, on, out, also}
 use Rattle.picture.specs.Predictions as P

@@ -59,7 +59,8 @@ eights o = pasts (pos 8 *ℤ o .y) (pos 8 *ℤ o .cb) (pos 8 *ℤ o .cr)
 abbrev pub pastStart : ℤ → Variables → Pasts
 pastStart address v = cond (far address v) (pasts (pos 1024) (pos 1024) (pos 1024)) (v .past)
 
--- before a macroblock: vectors and predictors as they are used if it is the next in the picture; the flags are those of the last type, as a B picture's skip needs them
+-- before a macroblock: vectors and predictors as they are used if it is the next in the picture; the flags are those of the last type, as a skip in a B
+-- picture needs them
 pub record Related (g : Coding) (first : Bool) (v : Variables) (w : World) : Type 0 where
   pub o : Own
   pub is : w ≡ world (sliceOf g (v .«previous_macroblock_address») (v .«quantizer_scale») (forStart g first v) (backStart g first v) o) (v .pels)

@@ -6,7 +6,7 @@ use Prim.Native.Nat.{ℕ, zero, suc, _+_, _-_, _≤_}
 use native.Mathlib.Omega.{arith}
 use borrow.Author.Tests.{eqb-true, ltb-true, ltb-false, le-ltb, lt-ltb}
 use lib.Dec.{eqb, ltb}
-use lib.IntN.{ℤ, pos, natAbs, _+ℤ_, _-ℤ_}
+use lib.IntN.{ℤ, pos, natAbs, _+ℤ_}
 use lib.Signed.{ltZ, leZ}
 use Rattle.laws.proofs.Tests.{both}
 use Rattle.laws.proofs.Ints.{v, lit, _⊕_, _⊖_, le-yes, lt-yes, yes-lt}
@@ -182,7 +182,8 @@ module _ (g : S.Coding) (x : S.Variables) (w : World) (n : ℕ) (some : 1 ≤ n)
       p-ready p =
           let b : eqb (g .given .type) 3 ≡ false = ap (λ (k : ℕ). eqb k 3) (eqb-true (g .given .type) 2 p) in
           rw (le-ltb n 2 h, lt-ltb 1 n h, p, b)
-          (skips-ready 0 0 S.zero-vector S.zero-vector (λ e. absurd (false≢true (sym b ∙ e))) (rw p refl) (rw b refl) (zero-in (g .forward)) (zero-in (g .backward)))
+          (skips-ready 0 0 S.zero-vector S.zero-vector (λ e. absurd (false≢true (sym b ∙ e))) (rw p refl) (rw b refl) (zero-in (g .forward))
+          (zero-in (g .backward)))
 
       -- in a B picture
       b-ready : eqb (g .given .type) 2 ≡ false → Goal (ours g x (r .o))

@@ -141,7 +141,8 @@ module _ (rule : Rule) (g : Given) (df db : S.Direction) (s : List ℕ) (long : 
           (cond (u && not xb) (done (again (record { begun = false; pels = x .pels }))) (done (stop S.forbidden)))) s e)
           (run (cond t (bind (O.slice g (natAbs c) (world (p .slice) (y .frame .store))) (P.pastSlice g p))
           (cond (u && not yb) (done (again (P.slicesOf false (P.frame p (y .frame .store))))) (done (stop (on (P.frame p (y .frame .store))))))) s e)
-      go true h u yb xb q = slice-meets c (x .pels) p (i .shown .type) (i .shown .stores) (not-picture c h) (y .frame .store) e (i .shown .pels) (i .shown .begun)
+      go true h u yb xb q = slice-meets c (x .pels) p (i .shown .type) (i .shown .stores) (not-picture c h) (y .frame .store) e (i .shown .pels)
+          (i .shown .begun)
       go false h false yb xb q = tt
       go false h true false false q =
           (refl, record { same = refl; shown = record { pels = i .shown .pels; begun = i .shown .begun; type = i .shown .type; stores = i .shown .stores } })

@@ -1,0 +1,123 @@
+-- By computation: a sequence of an I, a P, a B and an I picture, with user data and a group, which conforms, so that the theorem says something of it.
+use mathlib.Core.Path.{_≡_, refl}
+use mathlib.Core.List.{List, [], _∷_, _++_, map}
+use Prim.Native.Nat.{ℕ, _+_, _*_}
+use lib.ListN.{replicate, take, drop}
+use lib.Ieee.{ofInt}
+use Rattle.laws.specs.Each.{allBelow}
+use Rattle.laws.specs.Signed.{clamp255, odd}
+use Rattle.laws.specs.Turns.{turns}
+use Rattle.laws.specs.Stores.{storeRow, storeRows}
+use Rattle.bits.specs.Bits.{bitAt, bitsAt, got, next, codePrefix, codeFrom, found}
+use Rattle.bits.specs.Programs.{run, bind, loop, many, findTurn, findStartCode}
+use Rattle.codes.specs.Tables as Tables
+use Rattle.codes.specs.Standard.{macroblockTypeIntraCodes, macroblockTypePredictiveCodes, macroblockTypeBCodes}
+use Rattle.codes.specs.Walk.{walkTurn, walk, vlc}
+use Rattle.codes.specs.Codes as Codes
+use Rattle.codes.specs.Matrices.{downFrom, diagonals, zigZag, intraQuantMatrix, nonIntraQuantMatrix, premultiplierMatrix}
+use Rattle.codes.specs.Rates.{pixelAspectRatio, pictureRate}
+use Rattle.motion.specs.Standard.{complement, right, recon, reconstructed, residual, standardVector}
+use Rattle.coefficients.specs.Dcs as Dcs
+use Rattle.coefficients.specs.Coefficients as Coefficients
+use Rattle.coefficients.specs.Syntax as Syntax
+use Rattle.coefficients.specs.Dequantise.{dequantised}
+use Rattle.coefficients.specs.Standard.{or32, dctZZ0}
+use Rattle.transform.specs.Butterfly.{butterfly}
+use Rattle.transform.specs.Idct.{columns, rows as rowPass, idct}
+use Rattle.prediction.specs.Standard.{formed}
+use Rattle.prediction.specs.Writers.{overwrite, addBlock, blockPlace}
+use Rattle.picture.specs.Ways.{Way, on, out, also, leave, onward, plain}
+use Rattle.picture.specs.Heads.{macroblockType}
+use Rattle.picture.specs.Slices.{extraTurn, extra}
+use Rattle.standard.specs.Rules.{rust}
+use Rattle.standard.specs.Standard.Shall as Shall
+use Rattle.standard.specs.Standard.Types as Types
+use Rattle.standard.specs.Standard.Vectors as Vectors
+use Rattle.standard.specs.Standard.Prediction as Prediction
+use Rattle.standard.specs.Standard.Skipped as Skipped
+use Rattle.standard.specs.Standard.Block as Block
+use Rattle.standard.specs.Standard.Macroblock as Macroblock
+use Rattle.standard.specs.Standard.Slice as Slice
+use Rattle.standard.specs.Standard.PictureHeader as Header
+use Rattle.standard.specs.Standard.Picture as Picture
+use Rattle.decoder.specs.declared.answers.Opening.{Opening}
+use Rattle.decoder.specs.declared.answers.Opening.the-variants.{Ready}
+use Rattle.decoder.specs.Record.{Left, fresh, cleared, place}
+use Rattle.decoder.specs.Sequences.{matrix, size, rest}
+use Rattle.decoder.specs.Headers.{findSequence, accepted, askSize, askHeader, askStore}
+use Rattle.decoder.specs.Opening.{opened, openingFrom, opening}
+use Rattle.sequence.specs.Sequence.{following, begins, pictures}
+use Rattle.sequence.specs.Display.{storeOf, shown, allButLast}
+
+-- 32 × 16 samples; user data, which make up the 136 bytes that opening asks for
+abbrev headerBytes : List ℕ
+headerBytes = (0x00 ∷ 0x00 ∷ 0x01 ∷ 0xb3 ∷ 0x02 ∷ 0x00 ∷ 0x10 ∷ 0x13 ∷ 0xff ∷ 0xff ∷ 0xe0 ∷ 0xa0 ∷ []) ++ (0x00 ∷ 0x00 ∷ 0x01 ∷ 0xb2 ∷ replicate 60 0x20)
+
+-- closed_gop 1, broken_link 0
+abbrev groupBytes : List ℕ
+groupBytes = 0x00 ∷ 0x00 ∷ 0x01 ∷ 0xb8 ∷ 0x00 ∷ 0x08 ∷ 0x00 ∷ 0x40 ∷ []
+
+-- DC 133 in the first macroblock, 128 in the second, with one more coefficient in its block 1
+abbrev intraBytes : List ℕ
+intraBytes = 0x00 ∷ 0x00 ∷ 0x01 ∷ 0x00 ∷ 0x00 ∷ 0x08 ∷ 0xff ∷ 0xf8 ∷ 0x00 ∷ 0x00 ∷ 0x01 ∷ 0x01 ∷ 0x0b ∷ 0xb6 ∷ 0x94 ∷ 0xa4 ∷ 0x45 ∷ 0xd5 ∷ 0x4d ∷ 0x4a ∷
+    0x44 ∷ 0x40 ∷ []
+
+-- both macroblocks copied, the second by the vector (-1, 0) in half samples
+abbrev predictiveBytes : List ℕ
+predictiveBytes = 0x00 ∷ 0x00 ∷ 0x01 ∷ 0x00 ∷ 0x00 ∷ 0x17 ∷ 0xff ∷ 0xf8 ∷ 0x80 ∷ 0x00 ∷ 0x00 ∷ 0x01 ∷ 0x01 ∷ 0x0a ∷ 0x79 ∷ 0x70 ∷ []
+
+-- the first macroblock by the vectors (1, 0) forward and (0, 0) backward, the second by (-1, 0) backward
+abbrev bothWaysBytes : List ℕ
+bothWaysBytes = 0x00 ∷ 0x00 ∷ 0x01 ∷ 0x00 ∷ 0x00 ∷ 0x1f ∷ 0xff ∷ 0xf8 ∷ 0x88 ∷ 0x00 ∷ 0x00 ∷ 0x01 ∷ 0x01 ∷ 0x0b ∷ 0x2f ∷ 0x4e ∷ []
+
+-- sequence_end_code, and a byte behind it (DIFFERENCES A.8)
+abbrev endBytes : List ℕ
+endBytes = 0x00 ∷ 0x00 ∷ 0x01 ∷ 0xb7 ∷ 0x00 ∷ []
+
+abbrev stream : List ℕ
+stream = headerBytes ++ (groupBytes ++ (intraBytes ++ (predictiveBytes ++ (bothWaysBytes ++ (intraBytes ++ endBytes)))))
+
+abbrev opened-by : Left Opening
+opened-by = opening stream (replicate 2304 7)
+
+-- the pictures of the stream s, behind the opening o
+abbrev decoded : List ℕ → Left Opening → Way (List Picture.Decoded)
+decoded s o = pictures rust (o .decoder .sequence .sizes) (o .decoder .sequence .matrices) s many (begins (o .store)) (place (o .decoder))
+
+abbrev types : Way (List Picture.Decoded) → List ℕ
+types (on ds) = map (λ (d : Picture.Decoded). d .header .«picture_coding_type») ds
+types (out n l) = []
+
+-- what is shown: the number of a store, and the samples 15 to 17 of the first row of its plane Y
+abbrev seen : Picture.Decoded → List ℕ
+seen p = storeOf p ∷ take 3 (drop (768 * storeOf p + 15) (p .pels))
+
+abbrev rows : Way (List Picture.Decoded) → List (List ℕ)
+rows (on ds) = map seen (shown (allButLast ds))
+rows (out n l) = []
+
+pub record Sequence : Type 0 where
+  pub ready : opened-by .answer ≡ Ready
+  pub four : types (decoded stream opened-by) ≡ 1 ∷ 2 ∷ 3 ∷ 1 ∷ []
+  -- the I picture, out of store 0, then the B picture, out of store 2; the P picture and the last one are not handed out (DIFFERENCES A.7)
+  pub handed : rows (decoded stream opened-by) ≡ (0 ∷ 133 ∷ 128 ∷ 128 ∷ []) ∷ (2 ∷ 132 ∷ 132 ∷ 130 ∷ []) ∷ []
+
+pub sequence : Sequence
+unfolding clamp255 odd storeRow storeRows bitAt bitsAt got next codePrefix codeFrom found run bind loop findTurn findStartCode turns ofInt allBelow
+    Tables.macroblockAddressIncrementIndex Tables.macroblockAddressIncrementValue Tables.macroblockTypeIntraIndex Tables.macroblockTypeIntraValue
+    Tables.macroblockTypePredictiveIndex Tables.macroblockTypePredictiveValue Tables.macroblockTypeBIndex Tables.macroblockTypeBValue
+    Tables.motionIndex Tables.motionValue Tables.dctSizeLuminanceIndex Tables.dctSizeLuminanceValue Tables.dctSizeChrominanceIndex
+    Tables.dctSizeChrominanceValue Tables.dctCoeffIndex Tables.dctCoeffValue
+    walkTurn walk vlc Codes.macroblockAddressIncrement Codes.macroblockTypeIntra Codes.macroblockTypePredictive Codes.macroblockTypeB Codes.motion
+    Codes.dctSizeLuminance Codes.dctSizeChrominance Codes.dctCoeff
+    downFrom diagonals zigZag intraQuantMatrix nonIntraQuantMatrix premultiplierMatrix pixelAspectRatio pictureRate
+    macroblockTypeIntraCodes macroblockTypePredictiveCodes macroblockTypeBCodes
+    complement right recon reconstructed residual standardVector or32 dctZZ0 Dcs.dcSize Coefficients.runLevel Coefficients.coefficient dequantised
+    Syntax.pairTurn Syntax.pairs butterfly columns rowPass idct formed overwrite addBlock blockPlace
+    also leave onward plain macroblockType extraTurn extra
+    Shall.field Shall.whileTurn Shall.while Macroblock.increment Types.inTable Vectors.vector Vectors.forVector Vectors.backVector
+    Prediction.predictedPlane Prediction.predictedFrom Prediction.predicted Skipped.skippedFrom Skipped.skipped
+    Block.reconstructed Block.dctDc Block.written Block.intraBlock Block.nonIntraBlock Block.blocks Macroblock.coded Macroblock.macroblock
+    Slice.pastMacroblock Slice.sliceTurn Slice.slice Header.direction Header.header Picture.pastSlice Picture.slicesTurn Picture.slices Picture.picture
+    fresh cleared matrix size rest findSequence accepted askSize askHeader askStore opened openingFrom opening following pictures
+sequence = record { ready = refl; four = refl; handed = refl }

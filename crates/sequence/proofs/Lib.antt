@@ -1,0 +1,9 @@
+pub mod Searches
+pub mod Turns
+pub mod Opened
+pub mod Pictures
+pub mod Stores
+pub mod Handing
+pub mod Display
+pub mod Calls
+pub mod Example
