@@ -13,6 +13,19 @@ extern "C" {
         shown: *mut usize,
         time: *mut f64,
     ) -> u32;
+    fn mpeg1_write_rgb_scaled(
+        store: *const u8,
+        m: usize,
+        numbers: *const i64,
+        nn: usize,
+        clock: *const f64,
+        nc: usize,
+        index: usize,
+        area: *mut u32,
+        na: usize,
+        width: usize,
+        height: usize,
+    ) -> u32;
     fn mpeg1_record_numbers() -> usize;
     fn mpeg1_store_bytes(width: usize, height: usize) -> usize;
     fn mpeg1_plane_start(numbers: *const i64, nn: usize, index: usize, plane: usize) -> usize;
@@ -47,6 +60,12 @@ impl Ours {
             0 => Some(shown),
             _ => None,
         }
+    }
+
+    pub fn convert(&self, index: usize, area: &mut [u32], w: usize, h: usize) -> bool {
+        let (s, n, c) = (self.store.as_ptr(), self.numbers.as_ptr(), self.clock.as_ptr());
+        let (m, k) = (self.store.len(), self.numbers.len());
+        0 == unsafe { mpeg1_write_rgb_scaled(s, m, n, k, c, 4, index, area.as_mut_ptr(), area.len(), w, h) }
     }
 
     pub fn luma(&self, index: usize) -> &[u8] {

@@ -1,5 +1,6 @@
 // Times whole decoding: ours, the archive of crates/mpeg1, and the Rust on the same bytes in one process.
 // usage: whole ROUNDS FILE ..         ratio of the best processor times, the two in turn
+//                                     and of conversions of the first picture of the first two files
 //        whole once ours|rust|none FILE   decodes once, for a count of instructions; `none` only reads the file
 mod clock;
 mod ours;
@@ -79,6 +80,22 @@ fn measure(name: &str, stream: &[u8], rounds: usize) {
     println!("{file:<24} {:>9} bytes {:>5} pictures   ours {:>9.3} ms   rust {:>9.3} ms   ratio {:.3}", stream.len(), first.pictures, a / 1e6, b / 1e6, a / b);
 }
 
+// The conversion of the first picture to an area of w by h, in nanoseconds a pixel.
+fn convert(name: &str, stream: &[u8], rounds: usize, w: usize, h: usize) {
+    let (mut decoder, mut video) = (Ours::new(), Video::new(stream.to_vec()));
+    assert!(decoder.open(stream), "the stream is refused");
+    let (index, other) = (decoder.decode(stream).expect("a picture"), video.decode().expect("a picture"));
+    let (mut first, mut second) = (vec![0u32; w * h], vec![0u32; w * h]);
+    let (mut a, mut b) = (f64::MAX, f64::MAX);
+    for _ in 0..rounds {
+        b = b.min(clock::timed(|| video.frame(other).write_rgb_scaled(&mut second, w, h)).1);
+        a = a.min(clock::timed(|| decoder.convert(index, &mut first, w, h)).1);
+    }
+    assert!(first == second, "{name}: ours and the Rust give different pixels");
+    let (file, pixels) = (name.rsplit('/').next().unwrap_or(name), (w * h) as f64);
+    println!("{file:<24} to {w}x{h} ARGB   ours {:>7.2} ns   rust {:>7.2} ns a pixel   ratio {:.3}", a / pixels, b / pixels, a / b);
+}
+
 fn main() {
     let words: Vec<String> = std::env::args().skip(1).collect();
     let read = |name: &String| std::fs::read(name).unwrap_or_else(|error| panic!("{name}: {error}"));
@@ -94,5 +111,10 @@ fn main() {
     let rounds = words[0].parse().expect("how many rounds");
     for name in &words[1..] {
         measure(name, &read(name), rounds);
+    }
+    for (w, h) in [(720, 480), (1440, 960), (97, 61)] {
+        for name in &words[1..3] {
+            convert(name, &read(name), 4 * rounds, w, h);
+        }
     }
 }

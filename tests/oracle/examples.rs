@@ -1,9 +1,15 @@
 // The theorems that compute whole streams, with the Rust in the place of the definitions: both sides of each equation are to be equal.
+use crate::buffer::Buffer;
 use crate::terms::{File, Value};
-use crate::video::{hand_outs, intra_quant_matrix, picture};
+use crate::video::{hand_outs, intra_quant_matrix, picture, Handed};
 use std::path::Path;
 
-const FILES: [&str; 3] = ["crates/demands/proofs/Example.antt", "crates/demands/proofs/Listing.antt", "crates/picture/proofs/Example.antt"];
+const FILES: [&str; 4] = [
+    "crates/demands/proofs/Example.antt",
+    "crates/demands/proofs/Listing.antt",
+    "crates/picture/proofs/Example.antt",
+    "crates/sequence/proofs/Example.antt",
+];
 
 fn made(name: &str, values: impl Into<Vec<Value>>) -> Value {
     Value::Made(name.to_string(), values.into())
@@ -62,6 +68,24 @@ fn listing(stream: &Value) -> Value {
     Value::List(lines)
 }
 
+// The types in the headers of all pictures of a stream, the last one included, which no call decodes.
+fn types(stream: &Value) -> Value {
+    let mut buffer = Buffer::new(stream.bytes());
+    let mut types = Vec::new();
+    while buffer.find_start_code(0) != -1 {
+        buffer.skip(10);
+        types.push(number(buffer.read(3)));
+    }
+    Value::List(types)
+}
+
+// Of each picture that is handed out the store, and the samples 15 to 17 of the first row of its plane Y.
+fn rows(stream: &Value) -> Value {
+    let run = hand_outs(&stream.bytes(), usize::MAX);
+    let row = |picture: &Handed| Value::List([&[number(picture.store)], bytes(&picture.planes[15..18]).list()].concat());
+    Value::List(run.handed.iter().map(row).collect())
+}
+
 // A run of a picture from the beginning of a stream.
 fn run(given: &[Value], stream: &Value) -> Value {
     let [sizes, matrices, state, store] = given else { panic!("a picture has sizes, matrices, state and store") };
@@ -92,9 +116,12 @@ fn meaning(name: &str, given: Vec<Value>) -> Value {
         ("handOut", [Value::Made(_, calls), stream, store]) => hand_out(&calls[0], stream, store),
         ("openingSays" | "outcomeSays", [answer]) => answer.clone(),
         ("listing", [stream]) => listing(stream),
+        ("Ready", []) => made("success", []),
+        ("types", [Value::Made(_, given)]) => types(&given[0]),
+        ("rows", [Value::Made(_, given)]) => rows(&given[0]),
         ("run", [Value::Made(_, given), stream, Value::Number(0)]) => run(given, stream),
         ("storeOf", [way]) => store_of(way),
-        ("binary64" | "true" | "false" | "success" | "picture" | "number" | "line" | "out" | "P.picture", _) => made(name, given),
+        ("binary64" | "true" | "false" | "success" | "picture" | "number" | "line" | "out" | "P.picture" | "decoded", _) => made(name, given),
         _ => panic!("no meaning is known of {name}, applied to {} values", given.len()),
     }
 }
