@@ -31,11 +31,19 @@ module _ {d : Decoder} (t : Typed d) where
   picture-long =
       let s = d .picture .slice in
       let motions = stateNumbers (d .picture) ++ motionNumbers (s .«motion_forward») ++ motionNumbers (s .«motion_backward») in
-      omega (arith, length-append (motions ++ s .«dc_predictor») (s .«block_data»), length-append motions (s .«dc_predictor»), t .picture .dc .long, t .picture .left .long)
+      omega (
+        arith,
+        length-append (motions ++ s .«dc_predictor») (s .«block_data»),
+        length-append motions (s .«dc_predictor»),
+        t .picture .dc .long,
+        t .picture .left .long,
+      )
 
   pub both-long : length (sequenceNumbers (place d) (d .sequence) ++ pictureNumbers (d .picture)) ≡ 219
   both-long = length-append (sequenceNumbers (place d) (d .sequence)) (pictureNumbers (d .picture)) ∙ omega (arith, sequence-long, picture-long)
 
   pub numbers-long : length (numbersOf d) ≡ 222
   unfolding numbersOf
-  numbers-long = length-append (sequenceNumbers (place d) (d .sequence) ++ pictureNumbers (d .picture)) (lastNumbers (d .«has_reference_frame») (d .«frames_decoded») (d .stop)) ∙ omega (arith, both-long)
+  numbers-long =
+      length-append (sequenceNumbers (place d) (d .sequence) ++ pictureNumbers (d .picture)) (lastNumbers (d .«has_reference_frame») (d .«frames_decoded») (d .stop))
+      ∙ omega (arith, both-long)

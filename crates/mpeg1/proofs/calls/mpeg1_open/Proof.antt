@@ -1,5 +1,5 @@
-use mathlib.Core.Path.{_≡_, sym, ap, _∙_}
 use mathlib.Core.Bool.{true, false≢true}
+use mathlib.Core.Path.{_≡_, sym, ap, _∙_}
 use borrow.Author.Needs.{needs}
 use borrow.Author.Tests.{not-true, not-false}
 use denote.Ref.{now}
@@ -25,14 +25,8 @@ returns c =
     let e = not-true (roomy (now (s .args .numbers)) (now (s .args .clock))) (c .if1 .taken) in
     (opens-2 (now (s .args .stream)) (now (s .args .store)) (now (s .args .numbers)) (now (s .args .clock)) e, λ h. absurd (false≢true (sym e ∙ h)))
 
-open-requires : tie.Need-open-requires
-open-requires c κs = search needs
-
 save-requires : tie.Need-save-requires
 save-requires c κs = let s = entry (at-open c) in room (now (s .args .numbers)) (now (s .args .clock)) (roomy-is (at-open c))
-
-opening-number-requires : tie.Need-opening-number-requires
-opening-number-requires c κs = search needs
 
 returns-2 : tie.Need-returns-2
 returns-2 c =
@@ -42,24 +36,15 @@ returns-2 c =
       λ h. held-by n k (x .1) (x .0 .0) (x .0 .1) (ap (λ y. y .decoder) (o .«open» .ensures)),
     )
 
-same-length : tie.Need-same-length
-same-length c = search needs
-
-same-length-2 : tie.Need-same-length-2
-same-length-2 c = search needs
-
-same-length-3 : tie.Need-same-length-3
-same-length-3 c = search needs
-
 pub mpeg1-open-spec : {M : Type 1} → statement M
 mpeg1-open-spec =
     tie.close
     (tie.spec
     returns
-    open-requires
+    (λ c κs. search needs)
     save-requires
-    opening-number-requires
-    same-length
-    same-length-2
-    same-length-3
+    (λ c κs. search needs)
+    (λ c. search needs)
+    (λ c. search needs)
+    (λ c. search needs)
     returns-2)

@@ -5,11 +5,8 @@ use mir.Syntax.{w64}
 use Rattle.mpeg1.proofs.fields.byte.Statement.{statement}
 use Rattle.mpeg1.proofs.fields.byte.Tie as tie
 
-cast-result : tie.Need-cast-result
-cast-result c = search needs
-
 returns : tie.Need-returns
 returns c = toZ-pos w64 {n = c .args .x} (omega arith)
 
 pub byte-spec : {M : Type 1} → statement M
-byte-spec = tie.close (tie.spec cast-result returns)
+byte-spec = tie.close (tie.spec (λ c. search needs) returns)

@@ -8,18 +8,6 @@ use Rattle.mpeg1.proofs.Crossing.{below-fits, below-is, upper-size}
 use Rattle.mpeg1.proofs.fields.size.Statement.{statement}
 use Rattle.mpeg1.proofs.fields.size.Tie as tie
 
-cast-result : tie.Need-cast-result
-cast-result c = search needs
-
-returns : tie.Need-returns
-returns c = search needs
-
-sub-below : tie.Need-sub-below
-sub-below c = search needs
-
-cast-below : tie.Need-cast-below
-cast-below c = search needs
-
 -- what the size lacks of 2^64 - 1
 lacks : (c : tie.Else1) → 18446744073709551615 - c .before .args .x < 2 ^ 63
 lacks c = omega arith
@@ -33,4 +21,4 @@ returns-2 c =
     toZ-ofZ {w = w64} (below-fits k (lacks c)) ∙ below-is k (lacks c) ∙ upper-size (c .before .args .x) (omega arith) (omega arith)
 
 pub size-spec : {M : Type 1} → statement M
-size-spec = tie.close (tie.spec cast-result returns sub-below cast-below sub-result returns-2)
+size-spec = tie.close (tie.spec (λ c. search needs) (λ c. search needs) (λ c. search needs) (λ c. search needs) sub-result returns-2)

@@ -1,12 +1,12 @@
 use mathlib.Core.Path.{ap}
+use Prim.Native.Nat.{_-_}
+use native.Mathlib.Omega.{arith}
 use borrow.Author.Needs.{sfits-of}
+use denote.Ref.{now}
+use lib.ListN.{length}
 use mir.Syntax.{w64}
 use mir.Val.{ofZ}
 use Rattle.laws.proofs.Ints.{same-bits}
-use Prim.Native.Nat.{_-_}
-use native.Mathlib.Omega.{arith}
-use denote.Ref.{now}
-use lib.ListN.{length}
 use Rattle.mpeg1.proofs.Begins.{Agreed, agreed-none, differs, agreed-on, agreed-all}
 use Rattle.mpeg1.proofs.reading.begins_with.Statement.{statement}
 use Rattle.mpeg1.proofs.reading.begins_with.Tie as tie
@@ -20,32 +20,23 @@ abbrev μ-loop : tie.MeasureT-loop
 loop-holds : tie.Need-loop-holds Inv-loop μ-loop
 loop-holds c = agreed-none (now (c .args .values)) (now (c .args .numbers))
 
-mul-if1 : tie.Need-mul-if1 Inv-loop μ-loop
-mul-if1 c = omega arith
-
-shared-slice-copy-out-if1 : tie.Need-shared-slice-copy-out-if1 Inv-loop μ-loop
-shared-slice-copy-out-if1 c = omega arith
-
-mul-if1-2 : tie.Need-mul-if1-2 Inv-loop μ-loop
-mul-if1-2 c = omega arith
-
-shared-slice-copy-out-if1-2 : tie.Need-shared-slice-copy-out-if1-2 Inv-loop μ-loop
-shared-slice-copy-out-if1-2 c = omega arith
-
 returns : tie.Need-returns Inv-loop μ-loop
-returns c = let l = c .before .before .before .before in differs (now (l .before .args .values)) (now (l .before .args .numbers)) (l .before .pre) (l .loop .i) (l .loop .inv) (c .before .before .before .loop-test .taken) (λ e. c .if1 .taken (ap (ofZ w64) e))
-
-add-i : tie.Need-add-i Inv-loop μ-loop
-add-i c = omega arith
-
-loop-less : tie.Need-loop-less Inv-loop μ-loop
-loop-less c = omega arith
+returns c =
+    let l = c .before .before .before .before in
+    differs (now (l .before .args .values)) (now (l .before .args .numbers)) (l .before .pre) (l .loop .i) (l .loop .inv)
+    (c .before .before .before .loop-test .taken) (λ e. c .if1 .taken (ap (ofZ w64) e))
 
 loop-again : tie.Need-loop-again Inv-loop μ-loop
-loop-again c = let l = c .before .before .before .before in agreed-on (now (l .before .args .values)) (now (l .before .args .numbers)) (l .before .pre) (l .loop .i) (l .loop .inv) (c .before .before .before .loop-test .taken) (same-bits w64 (sfits-of (c .before .before .if12 .given)) (sfits-of (c .before .if13 .given)) (c .if1 .left))
+loop-again c =
+    let l = c .before .before .before .before in
+    agreed-on (now (l .before .args .values)) (now (l .before .args .numbers)) (l .before .pre) (l .loop .i) (l .loop .inv)
+    (c .before .before .before .loop-test .taken)
+    (same-bits w64 (sfits-of (c .before .before .if12 .given)) (sfits-of (c .before .if13 .given)) (c .if1 .left))
 
 returns-2 : tie.Need-returns-2 Inv-loop μ-loop
-returns-2 c = let l = c .before in agreed-all (now (l .before .args .values)) (now (l .before .args .numbers)) (l .before .pre) (l .loop .i) (l .loop .inv) (c .loop-test .left)
+returns-2 c =
+    let l = c .before in
+    agreed-all (now (l .before .args .values)) (now (l .before .args .numbers)) (l .before .pre) (l .loop .i) (l .loop .inv) (c .loop-test .left)
 
 pub begins-with-spec : {M : Type 1} → statement M
 begins-with-spec =
@@ -54,12 +45,12 @@ begins-with-spec =
     Inv-loop
     μ-loop
     loop-holds
-    mul-if1
-    shared-slice-copy-out-if1
-    mul-if1-2
-    shared-slice-copy-out-if1-2
+    (λ c. omega arith)
+    (λ c. omega arith)
+    (λ c. omega arith)
+    (λ c. omega arith)
     returns
-    add-i
-    loop-less
+    (λ c. omega arith)
+    (λ c. omega arith)
     loop-again
     returns-2)

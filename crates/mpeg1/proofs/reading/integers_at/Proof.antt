@@ -1,19 +1,18 @@
 use mathlib.Core.Path.{sym, ap, _∙_}
+use Prim.Native.Nat.{_-_}
+use native.Mathlib.Omega.{arith}
 use borrow.Author.Needs.{sfits-of}
+use borrow.Rule.Slice.PartMut.{midOf}
 use denote.Ref.{now}
+use lib.IntN.{pos}
+use lib.ListN.{replicate}
 use mir.Facts.{toZ-ofZ}
 use mir.Syntax.{w32, w64}
 use Rattle.laws.proofs.Lists.{length-mid}
-use Prim.Native.Nat.{_-_}
-use native.Mathlib.Omega.{arith}
-use borrow.Rule.Slice.PartMut.{midOf}
-use lib.IntN.{ℤ, pos}
-use lib.ListN.{replicate}
-use Rattle.mpeg1.specs.Fields.{naturalOf, integerOf}
+use Rattle.mpeg1.specs.Fields.{integerOf}
 use Rattle.mpeg1.proofs.Copies.{Copied, copied-none, filled-on, filled-all, mid-at}
 use Rattle.mpeg1.proofs.reading.integers_at.Statement.{statement}
 use Rattle.mpeg1.proofs.reading.integers_at.Tie as tie
-use Rattle.mpeg1.proofs.fields.integer_of.Reads as integer-of-reads
 
 abbrev Inv-loop : tie.InvT-loop
 Inv-loop numbers at values₀ i₀ values i = Copied integerOf (replicate 64 (pos 0)) 0 (midOf at 64 numbers) (pos 0) values i
@@ -24,35 +23,21 @@ abbrev μ-loop : tie.MeasureT-loop
 loop-holds : tie.Need-loop-holds Inv-loop μ-loop
 loop-holds c = copied-none
 
-add-integer-of : tie.Need-add-integer-of Inv-loop μ-loop
-add-integer-of c = omega arith
-
-mul-integer-of : tie.Need-mul-integer-of Inv-loop μ-loop
-mul-integer-of c = omega arith
-
-shared-slice-copy-out-integer-of : tie.Need-shared-slice-copy-out-integer-of Inv-loop μ-loop
-shared-slice-copy-out-integer-of c = omega arith
-
-integer-of-requires : tie.Need-integer-of-requires Inv-loop μ-loop
-integer-of-requires c κs = tt
-
-mul-values : tie.Need-mul-values Inv-loop μ-loop
-mul-values c = omega arith
-
-array-set-from-values : tie.Need-array-set-from-values Inv-loop μ-loop
-array-set-from-values c = omega arith
-
-add-i : tie.Need-add-i Inv-loop μ-loop
-add-i c = omega arith
-
-loop-less : tie.Need-loop-less Inv-loop μ-loop
-loop-less c = omega arith
-
 loop-again : tie.Need-loop-again Inv-loop μ-loop
-loop-again c = let s = c .before .before .before .before in let i = c .before .before .before .loop .i in filled-on (c .before .before .before .loop .inv) (rw (length-mid (s .args .at) 64 (now (s .args .numbers)) (s .pre)) (c .before .before .loop-test .taken)) (toZ-ofZ {w = w32} (sfits-of (c .integer-of .ok)) ∙ c .integer-of .ensures ∙ ap integerOf (toZ-ofZ {w = w64} (sfits-of (c .before .integer-of-arg .given)) ∙ sym (mid-at (s .args .at) 64 i (now (s .args .numbers)) (pos 0) (c .before .before .loop-test .taken))))
+loop-again c =
+    let l = c .before .before .before in
+    let s = l .before in
+    let t = c .before .before .loop-test .taken in
+    filled-on (l .loop .inv) (rw (length-mid (s .args .at) 64 (now (s .args .numbers)) (s .pre)) t)
+    (toZ-ofZ {w = w32} (sfits-of (c .integer-of .ok)) ∙ c .integer-of .ensures
+    ∙ ap integerOf
+    (toZ-ofZ {w = w64} (sfits-of (c .before .integer-of-arg .given)) ∙ sym (mid-at (s .args .at) 64 (l .loop .i) (now (s .args .numbers)) (pos 0) t)))
 
 returns : tie.Need-returns Inv-loop μ-loop
-returns c = let s = c .before .before in let n = length-mid (s .args .at) 64 (now (s .args .numbers)) (s .pre) in filled-all (c .before .loop .inv) (rw n (c .loop-test .left)) n
+returns c =
+    let s = c .before .before in
+    let n = length-mid (s .args .at) 64 (now (s .args .numbers)) (s .pre) in
+    filled-all (c .before .loop .inv) (rw n (c .loop-test .left)) n
 
 pub integers-at-spec : {M : Type 1} → statement M
 integers-at-spec =
@@ -61,13 +46,13 @@ integers-at-spec =
     Inv-loop
     μ-loop
     loop-holds
-    add-integer-of
-    mul-integer-of
-    shared-slice-copy-out-integer-of
-    integer-of-requires
-    mul-values
-    array-set-from-values
-    add-i
-    loop-less
+    (λ c. omega arith)
+    (λ c. omega arith)
+    (λ c. omega arith)
+    (λ c κs. tt)
+    (λ c. omega arith)
+    (λ c. omega arith)
+    (λ c. omega arith)
+    (λ c. omega arith)
     loop-again
     returns)

@@ -1,9 +1,9 @@
 use mathlib.Core.Path.{ap, _∙_}
+use borrow.Author.Needs.{needs}
 use borrow.Author.Tests.{le-leb, lt-leb}
 use denote.Ref.{now}
 use lib.ListN.{length}
 use Rattle.mpeg1.specs.Memory.{numbersOf, begins, isRecord}
-use borrow.Author.Needs.{needs}
 use Rattle.mpeg1.proofs.reading.is_record.Statement.{statement}
 use Rattle.mpeg1.proofs.reading.is_record.Tie as tie
 
@@ -13,26 +13,19 @@ returns c = rw (lt-leb 222 (length (now (c .before .before .args .numbers))) (c 
 
 returns-2 : tie.Need-returns-2
 unfolding isRecord
-returns-2 c = let s = c .before .before .before in rw (le-leb 222 (length (now (s .args .numbers))) (c .before .if1 .left), lt-leb 4 (length (now (s .args .clock))) (c .if2 .taken))
-
-record-of-requires : tie.Need-record-of-requires
-record-of-requires c κs = search needs
-
-numbers-of-requires : tie.Need-numbers-of-requires
-numbers-of-requires c κs = search needs
-
-slice-aggregate-begins-with : tie.Need-slice-aggregate-begins-with
-slice-aggregate-begins-with c = search needs
-
-begins-with-requires : tie.Need-begins-with-requires
-begins-with-requires c κs = search needs
+returns-2 c =
+    let s = c .before .before .before in
+    rw (le-leb 222 (length (now (s .args .numbers))) (c .before .if1 .left), lt-leb 4 (length (now (s .args .clock))) (c .if2 .taken))
 
 returns-3 : tie.Need-returns-3
 unfolding isRecord
-returns-3 c = let s = c .before .before .before .before .before .before .before in
-    rw (le-leb 222 (length (now (s .args .numbers))) (c .before .before .before .before .before .if1 .left), le-leb 4 (length (now (s .args .clock))) (c .before .before .before .before .if2 .left))
+returns-3 c =
+    let q = c .before .before .before .before in
+    let s = q .before .before .before in
+    rw (le-leb 222 (length (now (s .args .numbers))) (q .before .if1 .left), le-leb 4 (length (now (s .args .clock))) (q .if2 .left))
     (c .begins-with .ensures
-    ∙ ap (λ z. begins z (now (s .args .numbers))) (c .before .before .numbers-of .ensures ∙ ap numbersOf (c .before .before .before .record-of .ensures)))
+    ∙ ap (λ z. begins z (now (s .args .numbers)))
+    (c .before .before .numbers-of .ensures ∙ ap numbersOf (c .before .before .before .record-of .ensures)))
 
 pub is-record-spec : {M : Type 1} → statement M
 is-record-spec =
@@ -40,8 +33,8 @@ is-record-spec =
     (tie.spec
     returns
     returns-2
-    record-of-requires
-    numbers-of-requires
-    slice-aggregate-begins-with
-    begins-with-requires
+    (λ c κs. search needs)
+    (λ c κs. search needs)
+    (λ c. search needs)
+    (λ c κs. search needs)
     returns-3)

@@ -9,11 +9,8 @@ use Rattle.mpeg1.proofs.views.mpeg1_frame_rate.Tie as tie
 returns : tie.Need-returns
 returns c = rw (lt-leb 4 (length (now (c .before .args .clock))) (c .if1 .taken)) zero-is
 
-shared-slice-read-result : tie.Need-shared-slice-read-result
-shared-slice-read-result c = search needs
-
 returns-2 : tie.Need-returns-2
 returns-2 c = rw (le-leb 4 (length (now (c .before .before .args .clock))) (c .before .if1 .left))
 
 pub mpeg1-frame-rate-spec : {M : Type 1} → statement M
-mpeg1-frame-rate-spec = tie.close (tie.spec returns shared-slice-read-result returns-2)
+mpeg1-frame-rate-spec = tie.close (tie.spec returns (λ c. search needs) returns-2)

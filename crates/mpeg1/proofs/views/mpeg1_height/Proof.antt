@@ -3,11 +3,8 @@ use borrow.Author.Needs.{needs}
 use Rattle.mpeg1.proofs.views.mpeg1_height.Statement.{statement}
 use Rattle.mpeg1.proofs.views.mpeg1_height.Tie as tie
 
-seen-requires : tie.Need-seen-requires
-seen-requires c κs = search needs
-
 returns : tie.Need-returns
 returns c = ap (λ d. d .sequence .height) (c .seen .ensures .0)
 
 pub mpeg1-height-spec : {M : Type 1} → statement M
-mpeg1-height-spec = tie.close (tie.spec seen-requires returns)
+mpeg1-height-spec = tie.close (tie.spec (λ c κs. search needs) returns)

@@ -9,12 +9,6 @@ use Rattle.mpeg1.proofs.views.mpeg1_plane_bytes.Tie as tie
 returns : tie.Need-returns
 returns c = rw (lt-leb (c .before .args .plane) 2 (c .if1 .taken))
 
-seen-requires : tie.Need-seen-requires
-seen-requires c κs = search needs
-
-plane-number-requires : tie.Need-plane-number-requires
-plane-number-requires c κs = search needs
-
 plane-length-requires : tie.Need-plane-length-requires
 plane-length-requires c κs = size-few (c .before .seen .ensures .1)
 
@@ -26,4 +20,4 @@ returns-2 c =
     ∙ ap₂ (λ p d. planeLength p (d .sequence .sizes .«mb_size»)) (c .before .plane-number .ensures) (c .before .before .seen .ensures .0))
 
 pub mpeg1-plane-bytes-spec : {M : Type 1} → statement M
-mpeg1-plane-bytes-spec = tie.close (tie.spec returns seen-requires plane-number-requires plane-length-requires returns-2)
+mpeg1-plane-bytes-spec = tie.close (tie.spec returns (λ c κs. search needs) (λ c κs. search needs) plane-length-requires returns-2)

@@ -1,5 +1,5 @@
-use mathlib.Core.Path.{ap₂, _∙_}
 use mathlib.Core.Bool.{Bool, _&&_}
+use mathlib.Core.Path.{ap₂, _∙_}
 use native.Mathlib.Omega.{arith}
 use borrow.Author.Needs.{needs}
 use borrow.Author.Tests.{leb-true, not-true, not-false}
@@ -17,12 +17,6 @@ inside s = leb (s .args .index) 2 && leb (s .args .plane) 2
 returns : tie.Need-returns
 returns c = rw (not-true (inside (c .before)) (c .if1 .taken))
 
-seen-requires : tie.Need-seen-requires
-seen-requires c κs = search needs
-
-plane-number-requires : tie.Need-plane-number-requires
-plane-number-requires c κs = search needs
-
 plane-start-requires : tie.Need-plane-start-requires
 plane-start-requires c κs =
     let e = c .before .before in let s = e .before in
@@ -37,4 +31,4 @@ returns-2 c =
     ∙ ap₂ (λ p d. planeStart (s .args .index) p (d .sequence .sizes .«mb_size»)) (c .before .plane-number .ensures) (c .before .before .seen .ensures .0))
 
 pub mpeg1-plane-start-spec : {M : Type 1} → statement M
-mpeg1-plane-start-spec = tie.close (tie.spec returns seen-requires plane-number-requires plane-start-requires returns-2)
+mpeg1-plane-start-spec = tie.close (tie.spec returns (λ c κs. search needs) (λ c κs. search needs) plane-start-requires returns-2)

@@ -12,15 +12,6 @@ use Rattle.mpeg1.proofs.views.mpeg1_row_bytes.Tie as tie
 returns : tie.Need-returns
 returns c = rw (lt-leb (c .before .args .plane) 2 (c .if1 .taken))
 
-seen-requires : tie.Need-seen-requires
-seen-requires c κs = search needs
-
-plane-number-requires : tie.Need-plane-number-requires
-plane-number-requires c κs = search needs
-
-block-size-requires : tie.Need-block-size-requires
-block-size-requires c κs = search needs
-
 mul-result : tie.Need-mul-result
 mul-result c =
     let size : c .block-size .result ≤ 16 = rw (c .block-size .ensures) (block-most (c .before .plane-number .result)) in
@@ -30,7 +21,8 @@ returns-2 : tie.Need-returns-2
 returns-2 c =
     let s = c .before .before .before .before in
     rw (le-leb (s .args .plane) 2 (c .before .before .before .if1 .left))
-    (ap₂ (λ d k. d .sequence .sizes .«mb_width» * k) (c .before .before .seen .ensures .0) (c .block-size .ensures ∙ ap blockSize (c .before .plane-number .ensures)))
+    (ap₂ (λ d k. d .sequence .sizes .«mb_width» * k) (c .before .before .seen .ensures .0)
+    (c .block-size .ensures ∙ ap blockSize (c .before .plane-number .ensures)))
 
 pub mpeg1-row-bytes-spec : {M : Type 1} → statement M
-mpeg1-row-bytes-spec = tie.close (tie.spec returns seen-requires plane-number-requires block-size-requires mul-result returns-2)
+mpeg1-row-bytes-spec = tie.close (tie.spec returns (λ c κs. search needs) (λ c κs. search needs) (λ c κs. search needs) mul-result returns-2)

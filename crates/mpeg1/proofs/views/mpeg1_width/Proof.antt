@@ -3,11 +3,8 @@ use borrow.Author.Needs.{needs}
 use Rattle.mpeg1.proofs.views.mpeg1_width.Statement.{statement}
 use Rattle.mpeg1.proofs.views.mpeg1_width.Tie as tie
 
-seen-requires : tie.Need-seen-requires
-seen-requires c κs = search needs
-
 returns : tie.Need-returns
 returns c = ap (λ d. d .sequence .width) (c .seen .ensures .0)
 
 pub mpeg1-width-spec : {M : Type 1} → statement M
-mpeg1-width-spec = tie.close (tie.spec seen-requires returns)
+mpeg1-width-spec = tie.close (tie.spec (λ c κs. search needs) returns)

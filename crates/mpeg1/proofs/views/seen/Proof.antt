@@ -1,5 +1,5 @@
-use mathlib.Core.Path.{_≡_, sym, ap, _∙_}
 use mathlib.Core.Bool.{true}
+use mathlib.Core.Path.{_≡_, sym, ap, _∙_}
 use borrow.Author.Needs.{needs}
 use borrow.Author.Tests.{not-true, not-false}
 use denote.Ref.{now}
@@ -12,14 +12,8 @@ use Rattle.mpeg1.proofs.Seen.{still-is, seen-none, seen-impossible, see
 use Rattle.mpeg1.proofs.views.seen.Statement.{statement}
 use Rattle.mpeg1.proofs.views.seen.Tie as tie
 
-slice-aggregate-is-record : tie.Need-slice-aggregate-is-record
-slice-aggregate-is-record c = search needs
-
-is-record-requires : tie.Need-is-record-requires
-is-record-requires c κs = search needs
-
-fresh-requires : tie.Need-fresh-requires
-fresh-requires c κs = search needs
+abbrev entry : tie.After-possible → tie.Start
+entry c = c .before .before .before .before .before .before
 
 -- the answer to the first question
 record-test : (c : tie.After-is-record) → c .is-record .result ≡ isRecord (now (c .before .before .args .numbers)) still
@@ -33,9 +27,6 @@ returns c =
       rw (c .fresh .ensures) fit-fresh,
     )
 
-slice-aggregate-record-of : tie.Need-slice-aggregate-record-of
-slice-aggregate-record-of c = search needs
-
 -- behind it
 is : (c : tie.Else1) → let s = c .before .before .before in isRecord (now (s .args .numbers)) still ≡ true
 is c = sym (record-test (c .before)) ∙ not-false (c .before .is-record .result) (c .if1 .left)
@@ -43,17 +34,11 @@ is c = sym (record-test (c .before)) ∙ not-false (c .before .is-record .result
 record-of-requires : tie.Need-record-of-requires
 record-of-requires c κs = let s = c .before .before .before .before in record-room (now (s .args .numbers)) still (is (c .before))
 
-possible-requires : tie.Need-possible-requires
-possible-requires c κs = search needs
-
-fresh-requires-2 : tie.Need-fresh-requires-2
-fresh-requires-2 c κs = search needs
-
 -- the record that was read, and the answer to the second question
-read : (c : tie.After-possible) → let s = c .before .before .before .before .before .before in c .before .record-of .result ≡ recordOf (now (s .args .numbers)) still
-read c = let s = c .before .before .before .before .before .before in c .before .record-of .ensures ∙ ap (recordOf (now (s .args .numbers))) still-is
+read : (c : tie.After-possible) → c .before .record-of .result ≡ recordOf (now (entry c .args .numbers)) still
+read c = c .before .record-of .ensures ∙ ap (recordOf (now (entry c .args .numbers))) still-is
 
-test : (c : tie.After-possible) → let s = c .before .before .before .before .before .before in c .possible .result ≡ possible (recordOf (now (s .args .numbers)) still)
+test : (c : tie.After-possible) → c .possible .result ≡ possible (recordOf (now (entry c .args .numbers)) still)
 test c = c .possible .ensures ∙ ap possible (read c)
 
 returns-2 : tie.Need-returns-2
@@ -74,13 +59,13 @@ pub seen-spec : {M : Type 1} → statement M
 seen-spec =
     tie.close
     (tie.spec
-    slice-aggregate-is-record
-    is-record-requires
-    fresh-requires
+    (λ c. search needs)
+    (λ c κs. search needs)
+    (λ c κs. search needs)
     returns
-    slice-aggregate-record-of
+    (λ c. search needs)
     record-of-requires
-    possible-requires
-    fresh-requires-2
+    (λ c κs. search needs)
+    (λ c κs. search needs)
     returns-2
     returns-3)

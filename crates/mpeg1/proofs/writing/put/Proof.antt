@@ -1,13 +1,13 @@
 use mathlib.Core.Path.{ap, _∙_}
+use Prim.Native.Nat.{_-_}
+use native.Mathlib.Omega.{arith}
 use borrow.Author.Needs.{sfits-of}
 use borrow.Rule.Slice.PartMut.{putMid}
 use denote.Ref.{now}
-use mir.Facts.{toZ-ofZ}
-use mir.Syntax.{w32, w64}
-use Prim.Native.Nat.{_-_}
-use native.Mathlib.Omega.{arith}
 use lib.IntN.{ℤ, pos}
 use lib.ListN.{length}
+use mir.Facts.{toZ-ofZ}
+use mir.Syntax.{w64}
 use Rattle.mpeg1.proofs.Copies.{Copied, copied-none, copied-on, copied-all, map-same}
 use Rattle.mpeg1.proofs.writing.put.Statement.{statement}
 use Rattle.mpeg1.proofs.writing.put.Tie as tie
@@ -21,27 +21,6 @@ abbrev μ-loop : tie.MeasureT-loop
 loop-holds : tie.Need-loop-holds Inv-loop μ-loop
 loop-holds c = copied-none
 
-mul-numbers : tie.Need-mul-numbers Inv-loop μ-loop
-mul-numbers c = omega arith
-
-shared-slice-copy-out-numbers : tie.Need-shared-slice-copy-out-numbers Inv-loop μ-loop
-shared-slice-copy-out-numbers c = omega arith
-
-add-t9 : tie.Need-add-t9 Inv-loop μ-loop
-add-t9 c = omega arith
-
-mul-t10 : tie.Need-mul-t10 Inv-loop μ-loop
-mul-t10 c = omega arith
-
-slice-set-from-numbers : tie.Need-slice-set-from-numbers Inv-loop μ-loop
-slice-set-from-numbers c = omega arith
-
-add-i : tie.Need-add-i Inv-loop μ-loop
-add-i c = omega arith
-
-loop-less : tie.Need-loop-less Inv-loop μ-loop
-loop-less c = omega arith
-
 loop-again : tie.Need-loop-again Inv-loop μ-loop
 loop-again c = copied-on (c .before .before .loop .inv) (c .before .loop-test .taken) (toZ-ofZ {w = w64} (sfits-of (c .numbers .given)))
 
@@ -49,7 +28,10 @@ same-length : tie.Need-same-length Inv-loop μ-loop
 same-length c = c .before .loop .inv .long
 
 returns : tie.Need-returns Inv-loop μ-loop
-returns c = copied-all (c .before .loop .inv) (c .loop-test .left) (c .before .before .pre) ∙ ap (λ z. putMid (c .before .before .args .at) (length (now (c .before .before .args .values))) (now (c .before .before .args .numbers)) z) (map-same (now (c .before .before .args .values)))
+returns c =
+    let s = c .before .before in
+    let v = now (s .args .values) in
+    copied-all (c .before .loop .inv) (c .loop-test .left) (s .pre) ∙ ap (putMid (s .args .at) (length v) (now (s .args .numbers))) (map-same v)
 
 pub put-spec : {M : Type 1} → statement M
 put-spec =
@@ -58,13 +40,13 @@ put-spec =
     Inv-loop
     μ-loop
     loop-holds
-    mul-numbers
-    shared-slice-copy-out-numbers
-    add-t9
-    mul-t10
-    slice-set-from-numbers
-    add-i
-    loop-less
+    (λ c. omega arith)
+    (λ c. omega arith)
+    (λ c. omega arith)
+    (λ c. omega arith)
+    (λ c. omega arith)
+    (λ c. omega arith)
+    (λ c. omega arith)
     loop-again
     same-length
     returns)

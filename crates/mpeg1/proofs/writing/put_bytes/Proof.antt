@@ -1,17 +1,14 @@
-use mathlib.Core.Path.{ap, _∙_}
-use borrow.Author.Needs.{sfits-of}
-use borrow.Rule.Slice.PartMut.{putMid}
-use denote.Ref.{now}
-use mir.Facts.{toZ-ofZ}
-use mir.Syntax.{w32, w64}
+use mathlib.Core.Path.{_∙_}
 use Prim.Native.Nat.{_-_}
 use native.Mathlib.Omega.{arith}
-use lib.IntN.{ℤ, pos}
+use borrow.Author.Needs.{sfits-of}
+use lib.IntN.{pos}
 use lib.ListN.{length}
-use Rattle.mpeg1.proofs.Copies.{Copied, copied-none, copied-on, copied-all, map-same}
+use mir.Facts.{toZ-ofZ}
+use mir.Syntax.{w64}
+use Rattle.mpeg1.proofs.Copies.{Copied, copied-none, copied-on, copied-all}
 use Rattle.mpeg1.proofs.writing.put_bytes.Statement.{statement}
 use Rattle.mpeg1.proofs.writing.put_bytes.Tie as tie
-use Rattle.mpeg1.proofs.fields.byte.Reads as byte-reads
 
 abbrev Inv-loop : tie.InvT-loop
 Inv-loop numbers₀ at values i₀ numbers i = Copied pos numbers₀ at values 0 numbers i
@@ -22,29 +19,9 @@ abbrev μ-loop : tie.MeasureT-loop
 loop-holds : tie.Need-loop-holds Inv-loop μ-loop
 loop-holds c = copied-none
 
-shared-slice-read-byte : tie.Need-shared-slice-read-byte Inv-loop μ-loop
-shared-slice-read-byte c = omega arith
-
-byte-requires : tie.Need-byte-requires Inv-loop μ-loop
-byte-requires c κs = tt
-
-add-t5 : tie.Need-add-t5 Inv-loop μ-loop
-add-t5 c = omega arith
-
-mul-t10 : tie.Need-mul-t10 Inv-loop μ-loop
-mul-t10 c = omega arith
-
-slice-set-from-numbers : tie.Need-slice-set-from-numbers Inv-loop μ-loop
-slice-set-from-numbers c = omega arith
-
-add-i : tie.Need-add-i Inv-loop μ-loop
-add-i c = omega arith
-
-loop-less : tie.Need-loop-less Inv-loop μ-loop
-loop-less c = omega arith
-
 loop-again : tie.Need-loop-again Inv-loop μ-loop
-loop-again c = copied-on (c .before .before .before .loop .inv) (c .before .before .loop-test .taken) (toZ-ofZ {w = w64} (sfits-of (c .byte .ok)) ∙ c .byte .ensures)
+loop-again c =
+    copied-on (c .before .before .before .loop .inv) (c .before .before .loop-test .taken) (toZ-ofZ {w = w64} (sfits-of (c .byte .ok)) ∙ c .byte .ensures)
 
 same-length : tie.Need-same-length Inv-loop μ-loop
 same-length c = c .before .loop .inv .long
@@ -59,13 +36,13 @@ put-bytes-spec =
     Inv-loop
     μ-loop
     loop-holds
-    shared-slice-read-byte
-    byte-requires
-    add-t5
-    mul-t10
-    slice-set-from-numbers
-    add-i
-    loop-less
+    (λ c. omega arith)
+    (λ c κs. tt)
+    (λ c. omega arith)
+    (λ c. omega arith)
+    (λ c. omega arith)
+    (λ c. omega arith)
+    (λ c. omega arith)
     loop-again
     same-length
     returns)

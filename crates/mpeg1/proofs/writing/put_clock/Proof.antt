@@ -1,14 +1,11 @@
 use native.Mathlib.Omega.{arith}
+use borrow.Author.Needs.{needs}
 use denote.Ref.{now}
 use lib.ListN.{length-set}
 use Rattle.mpeg1.specs.Memory.{clockOf}
 use Rattle.mpeg1.proofs.Copies.{four-over}
-use borrow.Author.Needs.{needs}
 use Rattle.mpeg1.proofs.writing.put_clock.Statement.{statement}
 use Rattle.mpeg1.proofs.writing.put_clock.Tie as tie
-
-slice-write-clock : tie.Need-slice-write-clock
-slice-write-clock c = search needs
 
 slice-write-clock-2 : tie.Need-slice-write-clock-2
 slice-write-clock-2 c = simp length-set (omega arith)
@@ -16,23 +13,19 @@ slice-write-clock-2 c = simp length-set (omega arith)
 slice-write-clock-3 : tie.Need-slice-write-clock-3
 slice-write-clock-3 c = simp length-set (omega arith)
 
-slice-write-clock-4 : tie.Need-slice-write-clock-4
-slice-write-clock-4 c = search needs
-
-same-length : tie.Need-same-length
-same-length c = search needs
-
 returns : tie.Need-returns
 unfolding clockOf
-returns c = let d = c .before .args .d .clock in four-over (now (c .before .args .clock)) (d .framerate) (d .«pixel_aspect_ratio») (d .time) (d .«last_frame_time») (c .before .pre)
+returns c =
+    let d = c .before .args .d .clock in
+    four-over (now (c .before .args .clock)) (d .framerate) (d .«pixel_aspect_ratio») (d .time) (d .«last_frame_time») (c .before .pre)
 
 pub put-clock-spec : {M : Type 1} → statement M
 put-clock-spec =
     tie.close
     (tie.spec
-    slice-write-clock
+    (λ c. search needs)
     slice-write-clock-2
     slice-write-clock-3
-    slice-write-clock-4
-    same-length
+    (λ c. search needs)
+    (λ c. search needs)
     returns)

@@ -1,7 +1,8 @@
-use Prim.Native.Nat.{_<_, _^_}
-use mathlib.Core.Path.{refl, ap, _∙_}
 use mathlib.Core.List.{_++_}
+use mathlib.Core.Path.{refl, ap, _∙_}
+use Prim.Native.Nat.{_<_, _^_}
 use native.Mathlib.Omega.{arith}
+use borrow.Author.Needs.{needs}
 use borrow.Rule.Slice.PartMut.{putMid}
 use denote.Ref.{now}
 use lib.ListN.{length}
@@ -10,27 +11,8 @@ use Rattle.mpeg1.specs.Memory.{sequenceNumbers, pictureNumbers, lastNumb
 use Rattle.mpeg1.specs.Types.{Typed}
 use Rattle.mpeg1.proofs.Copies.{put-next, put-first}
 use Rattle.mpeg1.proofs.Lengths.{sequence-long, both-long, numbers-long}
-use borrow.Author.Needs.{needs}
 use Rattle.mpeg1.proofs.writing.put_record.Statement.{statement}
 use Rattle.mpeg1.proofs.writing.put_record.Tie as tie
-
-last-numbers-requires : tie.Need-last-numbers-requires
-last-numbers-requires c κs = search needs
-
-put-sequence-requires : tie.Need-put-sequence-requires
-put-sequence-requires c κs = search needs
-
-put-picture-requires : tie.Need-put-picture-requires
-put-picture-requires c κs = search needs
-
-slice-aggregate-put : tie.Need-slice-aggregate-put
-slice-aggregate-put c = search needs
-
-put-requires : tie.Need-put-requires
-put-requires c κs = search needs
-
-same-length : tie.Need-same-length
-same-length c = search needs
 
 -- the calls, from the last one back to the entry
 abbrev at-picture : tie.After-numbers3 → tie.After-put-picture
@@ -69,10 +51,10 @@ pub put-record-spec : {M : Type 1} → statement M
 put-record-spec =
     tie.close
     (tie.spec
-    last-numbers-requires
-    put-sequence-requires
-    put-picture-requires
-    slice-aggregate-put
-    put-requires
-    same-length
+    (λ c κs. search needs)
+    (λ c κs. search needs)
+    (λ c κs. search needs)
+    (λ c. search needs)
+    (λ c κs. search needs)
+    (λ c. search needs)
     returns)
