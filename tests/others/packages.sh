@@ -15,15 +15,16 @@ films() {
   contents | grep -iE '\.(mpg|mpeg|m1v|mpv)[[:space:]]' | grep -v '^usr/lib/' | sed -E 's/^(.*[^ ]) +[^ ]*\/([^ ,]+)$/\2 \1/' | sort -u
 }
 
-# Takes the video out of the system layer. What is no MPEG-1 is said and left out. A stream that is too long is cut.
+# Takes the video out of the system layer. MPEG-2 is taken, too: to a decoder of MPEG-1 it is a damaged stream. What is neither is said and left out. A
+# stream that is too long is cut.
 take_film() { # PACKAGE PATH FILE
   local name codec
   name=$1_$(basename "${2%.*}")
   codec=$(ffprobe -v error -select_streams v:0 -show_entries stream=codec_name -of default=nk=1:nw=1 "$3" 2> /dev/null | head -n 1)
   echo "$1 $2: ${codec:-no video}"
-  if [ "$codec" = mpeg1video ]; then
-    ffmpeg -v error -nostdin -y -i "$3" -map 0:v:0 -c copy -f mpeg1video - | head -c 16777216 > "$out/package_$name.m1v"
-  fi
+  case $codec in
+    mpeg1video | mpeg2video) ffmpeg -v error -nostdin -y -i "$3" -map 0:v:0 -c copy -f "$codec" - 2> /dev/null | head -c 16777216 > "$out/${codec}_$name.m1v" ;;
+  esac
 }
 
 packages() {
