@@ -119,7 +119,9 @@ fn any_coefficients(record: &mut Record, random: &mut Random) {
 fn any_clock(record: &mut Record, random: &mut Random) {
     let at = random.below(4);
     let any = f64::from_bits(random.wide());
-    record.clock[at] = random.one_of(&[0.0, -0.0, 25.0, 29.97, 1e300, 1e-310, f64::INFINITY, any]);
+    // not a number: of any bits, quiet or signalling
+    let nan = f64::from_bits(random.wide() | 0x7ff0_0000_0000_0001);
+    record.clock[at] = random.one_of(&[0.0, -0.0, 25.0, 29.97, 1e300, 1e-310, f64::INFINITY, any, nan]);
     let handed = random.below(134_217_728) as i64;
     record.numbers[HANDED] = random.one_of(&[0, 1, 134_217_727, 134_217_728, handed]);
 }
