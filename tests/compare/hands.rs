@@ -214,7 +214,7 @@ pub fn edges(codes: &Codes, random: &mut Random) -> Vec<Case> {
             n[MB_WIDTH..=MB_SIZE].copy_from_slice(&[across, down, across * down]);
         }
         let conversions = vec![Conversion { after: 0, index: 0, width: 3, height: 2, area: 6 }];
-        Case { begin: Some(record), stream: stream.clone(), store: before.store.clone(), most: 1, conversions, noise: random.next(), lent: ROOM }
+        Case { begin: Some(record), stream: stream.clone(), store: before.store.clone(), most: 2, conversions, noise: random.next(), lent: ROOM }
     });
     cases.collect()
 }
@@ -238,5 +238,5 @@ pub fn case(codes: &Codes, random: &mut Random) -> Case {
         1 => [223 + random.below(9), 4 + random.below(3)],
         _ => ROOM,
     };
-    Case { begin: Some(record), stream, store, most: 1, conversions, noise: random.next(), lent }
+    Case { begin: Some(record), stream, store, most: 1 + random.below(8) / 7, conversions, noise: random.next(), lent }
 }
