@@ -1,9 +1,10 @@
 // A case: what the calls begin with, and which calls are made. Both sides make them, and everything is compared after each.
 use crate::difference::{self, Difference};
 use crate::ours::{Lent, Ours, NOT_SHOWN, NO_TIME};
-use crate::record::{Record, NUMBERS};
+use crate::record::{possible, Record, NUMBERS};
 use crate::reference::{Answer, Reference};
 use crate::tally::{Call, Tally};
+use crate::views;
 
 // A conversion after so many hand-outs.
 #[derive(Clone, Copy)]
@@ -40,6 +41,7 @@ pub enum Damage {
     Number(usize),
     Clock(usize),
     Store(usize),
+    View(usize),
     Conversion,
     Pixel(usize),
 }
@@ -139,7 +141,13 @@ impl Run<'_> {
             _ => (),
         }
         difference::records(what, &mut self.ours, &self.reference.record)?;
-        difference::stores(what, &mut self.ours, &self.reference.store)
+        difference::stores(what, &mut self.ours, &self.reference.store)?;
+        let is_possible = self.case.lent[0] >= NUMBERS && possible(&self.reference.record);
+        let turned = match self.damage {
+            Some(Damage::View(view)) => Some(view),
+            _ => None,
+        };
+        views::compare(what, &mut self.ours, &self.reference.record, is_possible, turned)
     }
 
     fn convert_after(&mut self, call: usize) -> Result<(), Difference> {

@@ -30,6 +30,7 @@ mod rust;
 mod selftest;
 mod streams;
 mod tally;
+mod views;
 mod writer;
 
 use case::Case;
@@ -102,7 +103,7 @@ fn main() {
     let paths = streams::files(folder);
     let sources = Sources { codes: codes::Codes::new(), public: paths.iter().map(|path| read(path)).collect() };
     let title = given[1..].join(" ");
-    ours::check_layout();
+    views::check_layout();
     reference::quiet_panics();
     match given[1].as_str() {
         "selftest" => std::process::exit(!selftest::run(&read(&folder.join("ipb_16x16.m1v"))) as i32),

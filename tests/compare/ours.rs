@@ -1,5 +1,5 @@
 // Our calls, those of the archive, on memory with guards around it.
-use crate::record::{Record, NUMBERS};
+use crate::record::Record;
 
 extern "C" {
     fn mpeg1_open(stream: *const u8, n: usize, store: *mut u8, m: usize, numbers: *mut i64, nn: usize, clock: *mut f64, nc: usize) -> u32;
@@ -28,7 +28,6 @@ extern "C" {
         width: usize,
         height: usize,
     ) -> u32;
-    fn mpeg1_record_numbers() -> usize;
 }
 
 // How many values stand before and behind lent memory, which no call may change.
@@ -117,9 +116,4 @@ impl Ours {
         let (store, numbers, clock) = (self.store.pointer(), self.numbers.pointer(), self.clock.pointer());
         unsafe { mpeg1_write_rgb_scaled(store, m, numbers, nn, clock, nc, index, area.pointer(), na, width, height) }
     }
-}
-
-// The archive's record is the one that record.rs describes.
-pub fn check_layout() {
-    assert_eq!(unsafe { mpeg1_record_numbers() }, NUMBERS, "numbers in a record of the archive");
 }

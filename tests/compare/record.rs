@@ -1,4 +1,5 @@
 // The decoder's record as numbers (crates/mpeg1 says their order), the clock apart as four floats, and question 2 about it.
+use crate::rust::unchanged::video::premultiplier;
 
 pub const NUMBERS: usize = 222;
 
@@ -114,8 +115,8 @@ fn sizes_follow(n: &[i64; NUMBERS]) -> bool {
 }
 
 // RULES Q2, line by line.
-pub fn possible(record: &Record, premultiplier: &[i32; 64]) -> bool {
-    let n = &record.numbers;
+pub fn possible(record: &Record) -> bool {
+    let (n, premultiplier) = (&record.numbers, premultiplier());
     let mut stores = [n[STORES], n[STORES + 1], n[STORES + 2]];
     stores.sort();
     let vector = |at: usize| within(n[at + R], 0, 6) && within(n[at + H], -1024, 1023) && within(n[at + V], -1024, 1023);

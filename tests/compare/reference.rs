@@ -127,7 +127,7 @@ impl Reference {
     }
 
     fn is_possible(&self) -> bool {
-        self.roomy && possible(&self.record, unchanged::video::premultiplier())
+        self.roomy && possible(&self.record)
     }
 
     // RULES Q, the order of a hand-out.

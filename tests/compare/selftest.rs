@@ -3,6 +3,7 @@ use crate::case::{Case, Conversion, Damage, ROOM};
 use crate::kept;
 use crate::record::{name, NUMBERS};
 use crate::tally::Tally;
+use crate::views::VIEWS;
 
 // What is lent has so many values before it that no call may change.
 const GUARD: usize = 16;
@@ -28,6 +29,7 @@ fn damages(store: usize, area: usize) -> Vec<(Damage, String)> {
     .to_vec();
     let clock = ["framerate", "pixel_aspect_ratio", "time of the next picture", "last_frame_time"];
     all.extend((0..4).map(|at| (Damage::Clock(GUARD + at), clock[at].to_string())));
+    all.extend((0..VIEWS.len()).map(|view| (Damage::View(view), VIEWS[view].to_string())));
     all.extend((0..NUMBERS).map(|at| (Damage::Number(GUARD + at), name(at))));
     all.extend((0..store).map(|at| (Damage::Store(GUARD + at), format!("byte {at} of"))));
     all.extend((0..area).map(|at| (Damage::Pixel(GUARD + at), format!("pixel {at}:"))));
