@@ -29,9 +29,11 @@ impl Writer<'_> {
         self.wild > 0 && self.random.below(self.wild) == 0
     }
 
+    // The code of a value; a table that was changed may have none, and then none is put.
     fn put_code(&mut self, table: usize, value: i32) {
-        let code = self.codes.table(table).code(value).expect("a code of the table");
-        self.bits.code(code);
+        if let Some(code) = self.codes.table(table).code(value) {
+            self.bits.code(code);
+        }
     }
 
     fn put_any_code(&mut self, table: usize) -> i32 {
