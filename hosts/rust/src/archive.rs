@@ -3,6 +3,7 @@
 #![allow(unsafe_code)]
 
 use std::alloc::{alloc_zeroed, Layout};
+use std::ops::Range;
 
 extern "C" {
     fn mpeg1_open(
@@ -58,6 +59,32 @@ pub(crate) struct State {
     store: Vec<u8>,
     numbers: Vec<i64>,
     clock: Vec<f64>,
+    shape: Shape,
+}
+
+/// What an accepted header fixes: the size that is shown, and where the planes lie. It is asked for once, since each such call looks at the whole record.
+#[derive(Clone, Default)]
+pub(crate) struct Shape {
+    pub width: usize,
+    pub height: usize,
+    pub row_bytes: [usize; 3],
+    planes: [[Range<usize>; 3]; 3],
+}
+
+impl Shape {
+    fn of(numbers: &[i64]) -> Shape {
+        let (n, length) = (numbers.as_ptr(), numbers.len());
+        let plane = |index, plane| {
+            let (start, bytes) = unsafe { (mpeg1_plane_start(n, length, index, plane), mpeg1_plane_bytes(n, length, plane)) };
+            start..start.saturating_add(bytes)
+        };
+        Shape {
+            width: unsafe { mpeg1_width(n, length) },
+            height: unsafe { mpeg1_height(n, length) },
+            row_bytes: [0, 1, 2].map(|plane| unsafe { mpeg1_row_bytes(n, length, plane) }),
+            planes: [0, 1, 2].map(|index| [0, 1, 2].map(|number| plane(index, number))),
+        }
+    }
 }
 
 /// What a hand-out gives: the number of the store, and the time in seconds.
@@ -88,11 +115,11 @@ impl State {
     /// A record of zeros, and a store for pictures of this size; none where there is not enough memory.
     pub fn new(width: usize, height: usize) -> Option<State> {
         let (store, numbers, clock) = unsafe { (mpeg1_store_bytes(width, height), mpeg1_record_numbers(), mpeg1_record_floats()) };
-        Some(State { store: zeros(store)?, numbers: vec![0; numbers], clock: vec![0.0; clock] })
+        Some(State { store: zeros(store)?, numbers: vec![0; numbers], clock: vec![0.0; clock], shape: Shape::default() })
     }
 
     pub fn open(&mut self, stream: &[u8]) -> Result<(), u32> {
-        let State { store, numbers, clock } = self;
+        let State { store, numbers, clock, .. } = self;
         answer(unsafe {
             mpeg1_open(
                 stream.as_ptr(),
@@ -104,11 +131,13 @@ impl State {
                 clock.as_mut_ptr(),
                 clock.len(),
             )
-        })
+        })?;
+        self.shape = Shape::of(&self.numbers);
+        Ok(())
     }
 
     pub fn decode(&mut self, stream: &[u8]) -> Result<Shown, u32> {
-        let State { store, numbers, clock } = self;
+        let State { store, numbers, clock, .. } = self;
         let mut shown = Shown { index: 0, time: 0.0 };
         answer(unsafe {
             mpeg1_decode(
@@ -128,7 +157,7 @@ impl State {
     }
 
     pub fn write_rgb_scaled(&self, index: usize, area: &mut [u32], width: usize, height: usize) -> Result<(), u32> {
-        let State { store, numbers, clock } = self;
+        let State { store, numbers, clock, .. } = self;
         answer(unsafe {
             mpeg1_write_rgb_scaled(
                 store.as_ptr(),
@@ -146,12 +175,8 @@ impl State {
         })
     }
 
-    pub fn width(&self) -> usize {
-        unsafe { mpeg1_width(self.numbers.as_ptr(), self.numbers.len()) }
-    }
-
-    pub fn height(&self) -> usize {
-        unsafe { mpeg1_height(self.numbers.as_ptr(), self.numbers.len()) }
+    pub fn shape(&self) -> &Shape {
+        &self.shape
     }
 
     pub fn picture_type(&self) -> u32 {
@@ -171,18 +196,9 @@ impl State {
         self.numbers.first().map_or(0, |&position| usize::try_from(position).unwrap_or(0))
     }
 
-    pub fn row_bytes(&self, plane: usize) -> usize {
-        unsafe { mpeg1_row_bytes(self.numbers.as_ptr(), self.numbers.len(), plane) }
-    }
-
     /// The bytes of a plane of a store, whole macroblocks; none where there is no such plane.
     pub fn plane(&self, index: usize, plane: usize) -> &[u8] {
-        let (start, bytes) = unsafe {
-            (
-                mpeg1_plane_start(self.numbers.as_ptr(), self.numbers.len(), index, plane),
-                mpeg1_plane_bytes(self.numbers.as_ptr(), self.numbers.len(), plane),
-            )
-        };
-        start.checked_add(bytes).and_then(|end| self.store.get(start..end)).unwrap_or(&[])
+        let range = self.shape.planes.get(index).and_then(|planes| planes.get(plane)).cloned();
+        range.and_then(|range| self.store.get(range)).unwrap_or(&[])
     }
 }

@@ -68,12 +68,12 @@ impl<'s> Decoder<'s> {
 
     /// The width that is shown, in samples.
     pub fn width(&self) -> usize {
-        self.state.width()
+        self.state.shape().width
     }
 
     /// The height that is shown, in samples.
     pub fn height(&self) -> usize {
-        self.state.height()
+        self.state.shape().height
     }
 
     /// Pictures a second, to three decimals; 0 where the header names no rate.
@@ -162,13 +162,14 @@ impl<'d> Picture<'d> {
 
     /// The samples of a plane.
     pub fn samples(&self, plane: Plane) -> Samples<'d> {
-        let (width, height) = (self.state.width(), self.state.height());
+        let shape = self.state.shape();
+        let (width, height) = (shape.width, shape.height);
         let (number, width, height) = match plane {
             Plane::Y => (0, width, height),
             Plane::Cr => (1, width.div_ceil(2), height.div_ceil(2)),
             Plane::Cb => (2, width.div_ceil(2), height.div_ceil(2)),
         };
-        Samples { width, height, row_bytes: self.state.row_bytes(number), bytes: self.state.plane(self.index, number) }
+        Samples { width, height, row_bytes: shape.row_bytes[number], bytes: self.state.plane(self.index, number) }
     }
 
     /// Writes the picture in this size to the first `width` × `height` numbers of the area, row by row, as `0xFFRRGGBB`. The area may be longer;
