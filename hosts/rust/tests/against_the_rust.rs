@@ -64,6 +64,6 @@ fn damaged_streams() {
     let runs: Vec<_> = copies.iter().map(|(name, stream)| compare(name, stream, reference::run_short)).collect();
     let pictures: usize = runs.iter().map(|run| run.0).sum();
     let ended = [3, 4, 5, 7, 8, 9].map(|number| (number, runs.iter().filter(|run| run.1 == number).count()));
-    assert!(ended.iter().all(|&(number, runs)| number == 5 || runs > 0), "runs by number: {ended:?}");
+    assert!(ended.iter().all(|&(_, runs)| runs > 0), "runs by number: {ended:?}");
     println!("{pictures} pictures of {} damaged streams are the Rust's; runs by number: {ended:?}", copies.len());
 }

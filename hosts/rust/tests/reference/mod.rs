@@ -142,9 +142,12 @@ pub fn damaged() -> Vec<(String, Vec<u8>)> {
         for cut in [0, 1, 4, 11, 12, 139, 140, 141, 150, stream.len() / 2, stream.len() - 1].into_iter().filter(|&cut| cut < stream.len()) {
             copies.push((format!("{name} cut to {cut} bytes"), stream[..cut].to_vec()));
         }
-        for copy in 0..24 {
+        let mut no_width = stream.clone();
+        no_width[4..6].fill(0);
+        copies.push((format!("{name} of width 0"), no_width));
+        for copy in 0..100 {
             let mut bytes = stream.clone();
-            for _ in 0..=copy / 4 {
+            for _ in 0..=copy % 9 {
                 let at = below(bytes.len());
                 bytes[at] = below(256) as u8;
             }
