@@ -135,3 +135,27 @@ fn lists_are_compared() {
         assert!(said.starts_with(&format!("{} of {all} pictures agree\n", all - 1)) && said.contains(&first), "{name}: {said}");
     }
 }
+
+// The example in C, which hosts/test builds and names by MPEG1_C_EXAMPLE, writes the same video and says the same number.
+#[test]
+fn the_c_example() {
+    let Some(example) = std::env::var_os("MPEG1_C_EXAMPLE") else {
+        println!("MPEG1_C_EXAMPLE is not set, so no example in C is run: hosts/test does it");
+        return;
+    };
+    let path = folder("c example").join("reel.m1v");
+    let whole = reference::streams().into_iter().map(|(name, stream)| (name, reference::run(&stream, &[]), stream));
+    let damaged = reference::damaged().into_iter().map(|(name, stream)| (name, reference::run_short(&stream, &[]), stream));
+    for (name, rust, stream) in whole.chain(damaged) {
+        std::fs::write(&path, &stream).unwrap();
+        let output = std::process::Command::new(&example).arg(&path).output().unwrap();
+        let (code, said) = ended(&output);
+        assert_eq!(code == 0, rust.number == 7, "{name}: {said}");
+        assert!(code == 0 || said.ends_with(&format!("answer {}\n", rust.number)), "{name}: {said}");
+        if rust.number < 7 {
+            assert!(output.stdout.is_empty(), "{name}");
+        } else {
+            assert!(video(&output.stdout) == rust.pictures.iter().map(in_file).collect::<Vec<_>>(), "{name}: the video differs");
+        }
+    }
+}
