@@ -84,7 +84,8 @@ isPast f = elim f [ Alone ↦ false | Past ↦ true | Copied a ↦ false ]
 pub fetch-past : (z : Sizes) (p : Place) → p .across ≡ z .«mb_width» → p .down ≡ z .«mb_height» → (h v : ℤ) → fetch p h v ≡ Past
     → PredictionOutside z
 unfolding fetch
-fetch-past z p across down h v e = go (ltZ (start p h v) (pos 0)) (ltZ (pos (maxAddress p)) (start p h v)) (ltb (maxAddress p) (natAbs (start p h v) + reach p h v))
+fetch-past z p across down h v e =
+    go (ltZ (start p h v) (pos 0)) (ltZ (pos (maxAddress p)) (start p h v)) (ltb (maxAddress p) (natAbs (start p h v) + reach p h v))
     refl refl refl (ap isPast e)
   where
     go : (b c t : Bool) → ltZ (start p h v) (pos 0) ≡ b → ltZ (pos (maxAddress p)) (start p h v) ≡ c

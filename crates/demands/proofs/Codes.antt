@@ -40,7 +40,8 @@ code-from s c (suc n) a = go (found s a) (found-is-first s a) (λ e. code-from s
         → run (bind (cond (b || false) (done (stop (pos (getD s (p + 3) 0)))) (done (again tt))) (turn (loop n (findTurn (pos c)) (negsuc 0)))) s ((p + 4) * 8)
         .value ≡ pos c
         → CodeFound s c a
-        (run (bind (cond (b || false) (done (stop (pos (getD s (p + 3) 0)))) (done (again tt))) (turn (loop n (findTurn (pos c)) (negsuc 0)))) s ((p + 4) * 8) .at)
+        (run (bind (cond (b || false) (done (stop (pos (getD s (p + 3) 0)))) (done (again tt))) (turn (loop n (findTurn (pos c)) (negsuc 0)))) s ((p + 4) * 8)
+        .at)
     test p w r true t h = found-at p (w .from) (prefix-bytes s p c (w .here) (eqb-true _ _ t) (w .five))
     test p w r false t h = further (r ((p + 4) * 8) h)
       where

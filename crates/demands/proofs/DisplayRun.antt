@@ -67,7 +67,8 @@ module _ (s : List ℕ) (short : length s ≤ 16777216) (bytes : (k : ℕ) → g
       (λ f. run-shows (waiting h c) f k (decoded-rest c cs q)) (λ o. over-run o k)
     where
       go : CallShows s h (handOutReads (x .decoder) s (x .store)) (left (r .outcome) (r .decoder) m)
-          → (Phase s (going (r .decoder) m) (waiting h (handOutReads (x .decoder) s (x .store))) → InOrder (waiting h (handOutReads (x .decoder) s (x .store))) ps cs)
+          → (Phase s (going (r .decoder) m) (waiting h (handOutReads (x .decoder) s (x .store)))
+          → InOrder (waiting h (handOutReads (x .decoder) s (x .store))) ps cs)
           → (Over s (going (r .decoder) m) → (ps ≡ []) × (cs ≡ []))
           → InOrder h (shownBy (r .outcome) (r .decoder) m ++ ps) (handOutReads (x .decoder) s (x .store) ++ cs)
       go (inl w) f o = in-order h (shownBy (r .outcome) (r .decoder) m) ps (handOutReads (x .decoder) s (x .store)) cs (w .0) (f (w .1))

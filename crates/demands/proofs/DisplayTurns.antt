@@ -54,7 +54,8 @@ first-shows s n h c (again y) i k q =
     let e = turns 1 (pictureTurn s) (λ z. gave (H.Refused 7) (z .decoder) (z .store)) y in
     then-shows n h c r e (k .silent)
     (subst (λ (j : ℕ). EndShows j (waiting h c) r e) (k .frames)
-    (second-shows (y .decoder .«frames_decoded») (waiting h c) r (pictureTurn s y) (held-stops s y i) (from-shows s y (k .fit) (k .showing) (decoded-rest c r q))))
+    (second-shows (y .decoder .«frames_decoded») (waiting h c) r (pictureTurn s y) (held-stops s y i)
+    (from-shows s y (k .fit) (k .showing) (decoded-rest c r q))))
 first-shows s n h c (stop e) i k q = subst (λ (r : List Coded). EndShows n h r e) (sym (append-nil c)) k
 
 pub pictures-show : (s : List ℕ) (x : Going) {h : List (List ℕ)} → Fit (x .decoder) (x .store) → Showing (x .decoder) (x .store) h

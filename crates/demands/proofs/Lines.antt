@@ -32,7 +32,8 @@ module _ (s : List ℕ) (most : length s ≤ 16777216) (bytes : (k : ℕ) → ge
   unfolding linesFrom
   lines-from zero n x b p = let f = few s most bytes b in let no : ⊥ = omega arith in absurd no
   lines-from (suc j) n x b p =
-      go (call s x .answer) (call s x .decoder) (call s x .store) (call-on s most bytes b .0) (λ a e. positive a (hand-named (hand-after (x .decoder) s (x .store) a e)))
+      go (call s x .answer) (call s x .decoder) (call s x .store) (call-on s most bytes b .0)
+      (λ a e. positive a (hand-named (hand-after (x .decoder) s (x .store) a e)))
       (λ y c. lines-from j (n + 1) y c (omega arith))
     where
       go : (o : Outcome) (d : Decoder) (l : List ℕ) → Between s (going d l) (n + pictureIn o) → ((a : ℕ) → o ≡ H.Refused a → 1 ≤ a)

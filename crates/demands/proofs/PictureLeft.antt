@@ -63,10 +63,18 @@ module _ (s : List ℕ) (z : Sizes) (m : Matrices) (area : z .«mb_size» ≡ z 
       let d = keeping s (P.given z m q) l area cur long in
       g-if (eqb (p .«picture_type») 3)
       (λ b. g-as (ways-as (Stopped p l) {P = Framed c p} {Q = Left z p l true}
-      (λ f k. record { store = k .store; stores = λ e. k .stores ∙ sym (ap (λ (t : ℕ). turned t (p .stores)) (k .type) ∙ three (p .«picture_type») b); others = λ e. absurd (true≢false e) }))
+      (λ f k. record {
+        store = k .store;
+        stores = λ e. k .stores ∙ sym (ap (λ (t : ℕ). turned t (p .stores)) (k .type) ∙ three (p .«picture_type») b);
+        others = λ e. absurd (true≢false e);
+      }))
       (slices-ways c p l same-but))
       (λ b. onward-ways (Stopped p l) {P = Framed d q} _ (slices-ways d q l same-but)
-      (λ f k. g-done (record { store = k .store; stores = λ e. sym (ap (λ (t : ℕ). turned t (p .stores)) (k .type) ∙ other (p .«picture_type») b); others = λ e. absurd (true≢false e) })))
+      (λ f k. g-done (record {
+        store = k .store;
+        stores = λ e. sym (ap (λ (t : ℕ). turned t (p .stores)) (k .type) ∙ other (p .«picture_type») b);
+        others = λ e. absurd (true≢false e);
+      })))
     where
       three : (t : ℕ) → eqb t 3 ≡ true → turned t (p .stores) ≡ p .stores
       three t h = rw h refl

@@ -80,7 +80,11 @@ module _ (s : List ℕ) {d : Decoder} {l : List ℕ} (k : Fit d l) where
   pub past-fit : {f : P.Frame} {a : ℕ} → Reads s d l f a → Fit (past d f a) (f .store)
   past-fit {f} r =
       let j = frame-left r in
-      record { area = k .area; stores = go (run (P.pictureHeader (d .picture)) s (place d) .value .decoded) refl j; long = omega (arith, k .long, j .store .long) }
+      record {
+        area = k .area;
+        stores = go (run (P.pictureHeader (d .picture)) s (place d) .value .decoded) refl j;
+        long = omega (arith, k .long, j .store .long);
+      }
     where
       go : (b : Bool) → run (P.pictureHeader (d .picture)) s (place d) .value .decoded ≡ b
           → Left (d .sequence .sizes) (d .picture) l (run (P.pictureHeader (d .picture)) s (place d) .value .decoded) f → PossibleStores (f .picture .stores)

@@ -82,7 +82,8 @@ module _ {d : Decoder} {s l : List ℕ} where
   hand-2 (A.after-7 i t u) p = let no : ⊥ = omega arith in absurd no
   hand-2 (A.after-8-9 i e c) p = let no : ⊥ = ⊎-elim (λ g. omega arith) (λ g. omega arith) (cause-number c) in absurd no
 
-  pub hand-header : {n : ℕ} {x : Decoder} {m : List ℕ} → AfterHandOut d s l n x m → 2 < n → n < 6 → (d .sequence .«has_sequence_header» ≡ false) × AfterHeader s d n x × (m ≡ l)
+  pub hand-header : {n : ℕ} {x : Decoder} {m : List ℕ} → AfterHandOut d s l n x m → 2 < n → n < 6
+      → (d .sequence .«has_sequence_header» ≡ false) × AfterHeader s d n x × (m ≡ l)
   hand-header (A.after-1 h) p q = let no : ⊥ = omega arith in absurd no
   hand-header (A.after-2 h) p q = let no : ⊥ = omega arith in absurd no
   hand-header (A.after-mark h) p q = let no : ⊥ = ⊎-elim (λ (e : d .stop ≡ 8). omega arith) (λ (e : d .stop ≡ 9). omega arith) h in absurd no
