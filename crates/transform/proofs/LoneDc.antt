@@ -5,7 +5,8 @@ use Prim.Native.Nat.{ℕ, zero, suc, _+_, _*_, _/_, _%_, _<_}
 use native.Mathlib.Omega.{arith}
 use lib.IntN.{ℤ, pos, _+ℤ_, +ℤ-idl, +ℤ-idr}
 use lib.ListN.{replicate, length-replicate, getD-replicate}
-use Rattle.transform.specs.Butterfly.{eight, nth, over256, butterfly}
+use Rattle.transform.specs.Butterfly.{eight, nth, butterfly}
+use Rattle.transform.specs.Steps.{over256}
 use Rattle.transform.specs.Idct.{at, lane, columns, rows, idct, dcOnly}
 use Rattle.transform.proofs.Blocks.{block-at, block-is}
 use Rattle.transform.proofs.Eights.{eight-same, nth-eight}

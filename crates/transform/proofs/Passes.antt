@@ -11,7 +11,8 @@ use lib.ListN.{length}
 use Rattle.laws.specs.Stores.{storeRows}
 use Rattle.laws.proofs.Lists.{rows-in, rows-out, length-rows}
 use Rattle.transform.specs.declared.butterfly.Eight.{Eight}
-use Rattle.transform.specs.Butterfly.{eight, nth, over256, butterfly}
+use Rattle.transform.specs.Butterfly.{eight, nth, butterfly}
+use Rattle.transform.specs.Steps.{over256}
 use Rattle.transform.specs.Idct.{at, lane, columns, rows}
 use Rattle.transform.proofs.Blocks.{block-is}
 use Rattle.transform.proofs.Eights.{eight-same, nth-eight}

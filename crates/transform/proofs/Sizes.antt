@@ -12,13 +12,14 @@ use Rattle.laws.proofs.Nums.{num, con, shift-right, _⊞_}
 use Rattle.laws.proofs.Tables as Tables
 use Rattle.laws.proofs.Tables.{every}
 use Rattle.transform.specs.declared.butterfly.Eight.{Eight}
-use Rattle.transform.specs.Butterfly.{nth, over256, butterfly}
+use Rattle.transform.specs.Butterfly.{nth, butterfly}
+use Rattle.transform.specs.Steps.{over256, outputs}
 use Rattle.transform.specs.Idct.{at, lane, columns, rows, idct}
 use Rattle.laws.specs.Sizes.{AtMost, Narrow}
 use Rattle.transform.specs.Bounds.{Middle, inputSize, outputSize}
 use Rattle.transform.proofs.Eights.{nth-eight}
 use Rattle.transform.proofs.Blocks.{block-at}
-use Rattle.transform.proofs.Steps.{outs, good, outs-within}
+use Rattle.transform.proofs.Steps.{good, outs-within}
 
 -- the step's outputs
 pub outputs-within : (a : Eight) → AtMost 8 inputSize (nth a) → AtMost 8 outputSize (nth (butterfly a))
@@ -64,7 +65,7 @@ module _ (l : List ℤ) (h : Bounded l) where
       le-trans (h .each (x + k * 8) (omega arith)) (subst (λ (n : ℕ). down x k ≤ inputSize n) e (small-at (x + k * 8) (omega arith))))
 
   -- what a column gives keeps to the size of the input that the column is: computed for each column and output
-  given : (x : ℕ) (p : x < 8) → T (every (good (down x) (lane l x 8) (column-down x p) (inputSize x)) 0 outs)
+  given : (x : ℕ) (p : x < 8) → T (every (good (down x) (lane l x 8) (column-down x p) (inputSize x)) 0 outputs)
   unfolding premultiplierMatrix
   given zero p = tt
   given (suc zero) p = tt

@@ -1,4 +1,4 @@
--- The steps of RULES 4.1 as expressions over the eight inputs.
+-- The steps of RULES 4.1 as the machine computes them, and that none leaves 32 bits.
 use mathlib.Core.Path.{_≡_, refl, sym, ap, _∙_, subst}
 use mathlib.Core.Bool.{Bool, _&&_}
 use mathlib.Core.List.{List, [], _∷_}
@@ -12,6 +12,8 @@ use mir.Syntax.{w32}
 use Rattle.laws.proofs.Exprs.{Exp, var, cst, _⊹_, _∸_, _×̇_, neg, shr, Input, signed, eval, bound, ok, within}
 use Rattle.laws.proofs.Tables.{every, at}
 use Rattle.transform.specs.declared.butterfly.Eight.{Eight}
+use Rattle.transform.specs.Steps as S
+use Rattle.transform.specs.Steps.{Step, input, _⊕_, _⊖_, _⊗_, nearest, outputs, output}
 use Rattle.transform.specs.Butterfly.{eight, nth, butterfly}
 use Rattle.laws.specs.Sizes.{AtMost}
 use Rattle.transform.proofs.Eights.{nth-eight}
@@ -23,6 +25,7 @@ more e = e ⊹ cst 128
 abbrev pub rnd : Exp → Exp
 rnd e = shr 8 (more e)
 
+-- what the code computes on the way to the outputs: its needs name these
 abbrev pub b3 : Exp
 b3 = var 2 ⊹ var 6
 
@@ -71,36 +74,18 @@ y6 = x3 ∸ b3
 abbrev pub y7 : Exp
 y7 = neg x0 ∸ rnd (b4 ×̇ cst 473 ⊹ b6 ×̇ cst 196)
 
-abbrev pub o0 : Exp
-o0 = b7 ⊹ y4
-
-abbrev pub o1 : Exp
-o1 = x4 ⊹ y3
-
-abbrev pub o2 : Exp
-o2 = y5 ∸ x0
-
-abbrev pub o3 : Exp
-o3 = y6 ∸ y7
-
-abbrev pub o4 : Exp
-o4 = y6 ⊹ y7
-
-abbrev pub o5 : Exp
-o5 = x0 ⊹ y5
-
-abbrev pub o6 : Exp
-o6 = y3 ∸ x4
-
-abbrev pub o7 : Exp
-o7 = y4 ∸ b7
-
-abbrev pub outs : List Exp
-outs = o0 ∷ o1 ∷ o2 ∷ o3 ∷ o4 ∷ o5 ∷ o6 ∷ o7 ∷ []
+-- an expression of the definition, as the code computes it
+abbrev pub exp : Step → Exp
+exp (input k) = var k
+exp (a ⊕ b) = exp a ⊹ exp b
+exp (a ⊖ b) = exp a ∸ exp b
+exp (S.neg a) = neg (exp a)
+exp (a ⊗ n) = exp a ×̇ cst n
+exp (nearest a) = rnd (exp a)
 
 -- output k
 abbrev pub out : ℕ → Exp
-out k = getD outs k (var 0)
+out k = exp (output k)
 
 module _ (size : ℕ → ℕ) (a : Eight) (h : AtMost 8 size (nth a)) where
   abbrev pub inputs : List (Input w32)
@@ -121,11 +106,11 @@ module _ (size : ℕ → ℕ) (a : Eight) (h : AtMost 8 size (nth a)) where
   step-is = refl
 
   -- no step on the way to an output leaves 32 bits, and the output is at most M in size
-  abbrev pub good : ℕ → ℕ → Exp → Bool
-  good M k e = ok inputs e && leb (bound inputs e) M
+  abbrev pub good : ℕ → ℕ → Step → Bool
+  good M k e = ok inputs (exp e) && leb (bound inputs (exp e)) M
 
-  pub outs-within : (M : ℕ) → T (every (good M) 0 outs) → (k : ℕ) → k < 8 → natAbs (nth (butterfly a) k) ≤ M
+  pub outs-within : (M : ℕ) → T (every (good M) 0 outputs) → (k : ℕ) → k < 8 → natAbs (nth (butterfly a) k) ≤ M
   outs-within M t k q =
-      let p = and-yes (ok inputs (out k)) (leb (bound inputs (out k)) M) (at (good M) outs (var 0) t k q) in
+      let p = and-yes (ok inputs (out k)) (leb (bound inputs (out k)) M) (at (good M) outputs (input 0) t k q) in
       subst (λ (z : ℤ). natAbs z ≤ M) (sym (ap (λ (e : Eight). nth e k) step-is ∙ nth-eight (λ j. eval inputs (out j)) k q))
       (le-trans (within inputs (out k) (p .0)) (leb→le (bound inputs (out k)) M (p .1)))

@@ -5,7 +5,8 @@ use lib.IntN.{ℤ, pos}
 use lib.ListN.{getD, replicate}
 use Rattle.laws.specs.Stores.{storeRows}
 use Rattle.transform.specs.declared.butterfly.Eight.{Eight}
-use Rattle.transform.specs.Butterfly.{eight, nth, over256, butterfly}
+use Rattle.transform.specs.Butterfly.{eight, nth, butterfly}
+use Rattle.transform.specs.Steps.{over256}
 
 -- number k of a block
 abbrev pub at : List ℤ → ℕ → ℤ

@@ -1,3 +1,4 @@
 pub mod Bounds
+pub mod Steps
 pub mod Butterfly
 pub mod Idct

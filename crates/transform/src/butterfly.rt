@@ -1,6 +1,7 @@
 // The eight-point step, which the Rust's idct has in line, once for columns and once for rows.
 ghost use mathlib.Core.Path.{_≡_};
-ghost use Rattle.transform.specs.Butterfly.{nth, eight, over256, butterfly};
+ghost use Rattle.transform.specs.Butterfly.{nth, eight, butterfly};
+ghost use Rattle.transform.specs.Steps.{over256};
 ghost use Rattle.laws.specs.Sizes.{AtMost};
 ghost use Rattle.transform.specs.Bounds.{inputSize, outputSize};
 

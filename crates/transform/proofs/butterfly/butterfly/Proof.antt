@@ -3,7 +3,7 @@ use mir.Syntax.{w32}
 use Rattle.laws.proofs.Exprs.{var, cst, _⊹_, _∸_, _×̇_, neg, Input, need, value}
 use Rattle.transform.specs.Bounds.{inputSize}
 use Rattle.transform.proofs.Steps.{more, b3, b4, tmp1, tmp2, b6, b7, x4, x0, x1, x2, x3, y3, y4, y5, y6, y7}
-use Rattle.transform.proofs.Steps.{o0, o1, o2, o3, o4, o5, o6, o7, inputs, step-is}
+use Rattle.transform.proofs.Steps.{out, inputs, step-is}
 use Rattle.transform.proofs.butterfly.butterfly.Statement.{statement}
 use Rattle.transform.proofs.butterfly.butterfly.Tie as tie
 
@@ -18,14 +18,14 @@ returns : tie.Need-returns
 returns c =
     rw (step-is inputSize (start c .args .a) (start c .pre))
     (λ i. record {
-      v0 = value (ins c) o0 tt i;
-      v1 = value (ins c) o1 tt i;
-      v2 = value (ins c) o2 tt i;
-      v3 = value (ins c) o3 tt i;
-      v4 = value (ins c) o4 tt i;
-      v5 = value (ins c) o5 tt i;
-      v6 = value (ins c) o6 tt i;
-      v7 = value (ins c) o7 tt i;
+      v0 = value (ins c) (out 0) tt i;
+      v1 = value (ins c) (out 1) tt i;
+      v2 = value (ins c) (out 2) tt i;
+      v3 = value (ins c) (out 3) tt i;
+      v4 = value (ins c) (out 4) tt i;
+      v5 = value (ins c) (out 5) tt i;
+      v6 = value (ins c) (out 6) tt i;
+      v7 = value (ins c) (out 7) tt i;
     })
 
 pub butterfly-spec : {M : Type 1} → statement M
@@ -63,12 +63,12 @@ butterfly-spec =
     (λ c. need (ins c) (b4 ×̇ cst 473 ⊹ b6 ×̇ cst 196) tt)
     (λ c. need (ins c) (more (b4 ×̇ cst 473 ⊹ b6 ×̇ cst 196)) tt)
     (λ c. need (ins c) y7 tt)
-    (λ c. need (ins c) o0 tt)
-    (λ c. need (ins c) o1 tt)
-    (λ c. need (ins c) o2 tt)
-    (λ c. need (ins c) o3 tt)
-    (λ c. need (ins c) o4 tt)
-    (λ c. need (ins c) o5 tt)
-    (λ c. need (ins c) o6 tt)
-    (λ c. need (ins c) o7 tt)
+    (λ c. need (ins c) (out 0) tt)
+    (λ c. need (ins c) (out 1) tt)
+    (λ c. need (ins c) (out 2) tt)
+    (λ c. need (ins c) (out 3) tt)
+    (λ c. need (ins c) (out 4) tt)
+    (λ c. need (ins c) (out 5) tt)
+    (λ c. need (ins c) (out 6) tt)
+    (λ c. need (ins c) (out 7) tt)
     returns)

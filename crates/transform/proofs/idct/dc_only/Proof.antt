@@ -7,7 +7,7 @@ use lib.IntN.{ℤ, natAbs}
 use mir.Syntax.{w32}
 use Rattle.laws.proofs.Ints.{v, lit, _⊕_, shr, abs-by, abs-of}
 use Rattle.laws.proofs.Exprs.{var, Input, signed, need, value}
-use Rattle.transform.specs.Butterfly.{over256}
+use Rattle.transform.specs.Steps.{over256}
 use Rattle.transform.specs.Idct.{dcOnly}
 use Rattle.transform.proofs.Steps.{more, rnd}
 use Rattle.transform.proofs.idct.dc_only.Statement.{statement}

@@ -2,7 +2,8 @@ use mathlib.Core.Path.{sym, ap, _∙_, subst}
 use Prim.Native.Nat.{_-_}
 use native.Mathlib.Omega.{arith}
 use Rattle.transform.specs.declared.butterfly.Eight.{Eight}
-use Rattle.transform.specs.Butterfly.{eight, nth, over256, butterfly}
+use Rattle.transform.specs.Butterfly.{eight, nth, butterfly}
+use Rattle.transform.specs.Steps.{over256}
 use Rattle.laws.specs.Sizes.{AtMost}
 use Rattle.transform.specs.Bounds.{inputSize, outputSize}
 use Rattle.transform.proofs.Passes.{After, start-pass, kept, turn-pass, by-rows, row-step, end-rows}
