@@ -4,3 +4,4 @@ pub mod Kept
 pub mod Placing
 pub mod Sizes
 pub mod Standard
+pub mod DcTable

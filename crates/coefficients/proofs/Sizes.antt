@@ -1,9 +1,10 @@
 -- How large what is read can be: runs, levels, DC differences; and the range of DC values. Assumes nothing.
-use mathlib.Core.Path.{_≡_}
-use mathlib.Core.Bool.{Bool, true, _&&_}
+use mathlib.Core.Path.{_≡_, sym, subst}
+use mathlib.Core.Bool.{Bool, true, false, _&&_}
 use mathlib.Core.List.{List}
 use Prim.Native.Nat.{ℕ, _+_, _-_, _/_, _%_, _^_, _≤_, _<_}
 use native.Mathlib.Omega.{arith}
+use borrow.Author.Tests.{eqb-false}
 use lib.Dec.{eqb, ltb}
 use lib.IntN.{ℤ, pos, negℤ, natAbs, _-ℤ_}
 use lib.Pow.{pow-mono}
@@ -16,7 +17,8 @@ use Rattle.codes.proofs.Values.{coefficient-most, size-luminance-most, size-chr
 use Rattle.coefficients.specs.declared.coefficient.Coefficient.{Coefficient}
 use Rattle.coefficients.specs.declared.coefficient.Coefficient.the-variants.{EndOfBlock, RunLevel}
 use Rattle.coefficients.specs.Coefficients.{escapeLevel, escape, runLevel, coefficient}
-use Rattle.coefficients.specs.Dcs.{added, dcInside, dcSize, dcDifference}
+use Rattle.coefficients.specs.Dcs.{added, byTopBit, dcInside, dcSize, dcDifference}
+use Rattle.coefficients.proofs.DcTable.{added-is}
 
 -- a run and a level that can be read
 abbrev pub Small : Coefficient → Type 0
@@ -54,12 +56,17 @@ module _ {s : List ℕ} where
       (λ e. g-bind _ (g-bits 1) (λ more k. g-if (eqb more 0) (λ e. g-done tt) (λ e. run-level-small code h)))
       (λ e. run-level-small code h))
 
-pub added-small : (s d : ℕ) → s ≤ 8 → d < 2 ^ s → natAbs (added s d) ≤ 255
-unfolding added
-added-small s d h l =
+-- a size that is not 0
+not-zero : (n : ℕ) → eqb n 0 ≡ false → 0 < n
+not-zero n e = omega (arith, eqb-false n 0 e)
+
+pub added-small : (s d : ℕ) → 0 < s → s ≤ 8 → d < 2 ^ s → natAbs (added s d) ≤ 255
+unfolding byTopBit
+added-small s d p h l =
     let most : 2 ^ s ≤ 256 = pow-mono h in
-    by-case (λ z. natAbs z ≤ 255) (eqb (d / 2 ^ (s - 1) % 2) 1) (λ e. omega arith)
-    (λ e. abs-by 255 (lit (d + 1) ⊖ lit (2 ^ s)) (omega arith) (omega arith))
+    subst (λ (z : ℤ). natAbs z ≤ 255) (sym (added-is s d p h l))
+    (by-case (λ z. natAbs z ≤ 255) (eqb (d / 2 ^ (s - 1) % 2) 1) (λ e. omega arith)
+    (λ e. abs-by 255 (lit (d + 1) ⊖ lit (2 ^ s)) (omega arith) (omega arith)))
 
 module _ {s : List ℕ} where
   pub size-most : (luminance : Bool) → Gives s (λ n. n ≤ 8) (dcSize luminance)
@@ -69,7 +76,7 @@ module _ {s : List ℕ} where
   pub difference-small : (luminance : Bool) → Gives s (λ z. natAbs z ≤ 255) (dcDifference luminance)
   unfolding dcDifference
   difference-small luminance =
-      g-bind _ (size-most luminance) (λ n h. g-if (eqb n 0) (λ e. g-done (omega arith)) (λ e. g-bind _ (g-bits n) (λ d l. g-done (added-small n d h l))))
+      g-bind _ (size-most luminance) (λ n h. g-if (eqb n 0) (λ e. g-done (omega arith)) (λ e. g-bind _ (g-bits n) (λ d l. g-done (added-small n d (not-zero n e) h l))))
 
 -- a DC value that question 8 admits
 pub inside-small : (x : ℤ) → dcInside x ≡ true → natAbs x ≤ 256

@@ -25,7 +25,8 @@ use Rattle.bits.proofs.Programs.{served-has, served-next}
 use Rattle.bits.proofs.Rules.{is-bits, r-call, r-yes, r-no, r-done}
 use Rattle.codes.specs.Standard.{code, Stands}
 use Rattle.coefficients.specs.Coefficients.{escapeLevel}
-use Rattle.coefficients.specs.Dcs.{added}
+use Rattle.coefficients.specs.Dcs.{added, byTopBit}
+use Rattle.coefficients.proofs.DcTable.{added-is}
 use Rattle.coefficients.specs.Dequantise as ours
 use Rattle.coefficients.specs.Dequantise.{quantiser, dequantised, madeOdd}
 use Rattle.coefficients.specs.Standard.{or32, dctZZ0, levelCode, oddified, clipped, dctRecon}
@@ -50,11 +51,12 @@ low-half p d zero r l h e z = omega arith
 low-half p d (suc zero) r l h e z = let n : ⊥ = omega arith in absurd n
 low-half p d (suc (suc q)) r l h e z = let n : ⊥ = omega arith in absurd n
 
-pub dc-as-printed : (s d : ℕ) → 0 < s → s ≤ 31 → d < 2 ^ s → dctZZ0 s d ≡ added s d
-unfolding dctZZ0 added
-dc-as-printed s d h k l = go (d / 2 ^ (s - 1) % 2) refl
+-- the standard's C and the formula
+formula-as-printed : (s d : ℕ) → 0 < s → s ≤ 31 → d < 2 ^ s → dctZZ0 s d ≡ byTopBit s d
+unfolding dctZZ0 byTopBit
+formula-as-printed s d h k l = go (d / 2 ^ (s - 1) % 2) refl
   where
-    go : (b : ℕ) → d / 2 ^ (s - 1) % 2 ≡ b → dctZZ0 s d ≡ added s d
+    go : (b : ℕ) → d / 2 ^ (s - 1) % 2 ≡ b → dctZZ0 s d ≡ byTopBit s d
     go zero e =
         let p = 2 ^ (s - 1) in
         let one : s ≡ 1 + (s - 1) = omega arith in
@@ -70,6 +72,10 @@ dc-as-printed s d h k l = go (d / 2 ^ (s - 1) % 2) refl
         let top : d / p % 2 ≡ 1 = omega arith in
         let on : bitAnd d p ≡ p = and-bit d (s - 1) ∙ ap (λ (n : ℕ). n * p) top ∙ omega arith in
         rw (ne-eqb (bitAnd d p) 0 (λ x. omega (arith, pow-pos (s - 1))), eq-eqb _ _ top)
+
+-- the standard's C and its table
+pub dc-as-printed : (s d : ℕ) → 0 < s → s ≤ 8 → d < 2 ^ s → dctZZ0 s d ≡ added s d
+dc-as-printed s d h k l = formula-as-printed s d h (omega arith) l ∙ sym (added-is s d h k l)
 
 -- ---- the level behind an escape
 

@@ -6,14 +6,19 @@ use lib.IntN.{ℤ, pos, negℤ, _-ℤ_}
 use lib.Signed.{leZ}
 use Rattle.bits.specs.Programs.{Prog, done, bits, _>>=_, _>>_, if_then_else_}
 use Rattle.codes.specs.Codes.{dctSizeLuminance, dctSizeChrominance}
+use Rattle.coefficients.specs.DcTable.{lines, said}
 
 -- RULES 3.1: the differential's size, by the table for blocks of Y or by the one for Cb and Cr
 unfoldable pub dcSize : Bool → Prog ℕ
 dcSize luminance = if luminance then dctSizeLuminance else dctSizeChrominance
 
--- RULES 3.2: what a differential of s bits adds: itself where its top bit is 1, else differential + 1 - 2 ^ s
+-- RULES 3.2: what a differential d of s bits adds, by the printed table
 unfoldable pub added : ℕ → ℕ → ℤ
-added s d = cond (eqb (d / 2 ^ (s - 1) % 2) 1) (pos d) (pos (d + 1) -ℤ pos (2 ^ s))
+added s d = said lines s d
+
+-- RULES 3.2, the same as a formula: d itself where its top bit is 1, else d + 1 - 2 ^ s
+unfoldable pub byTopBit : ℕ → ℕ → ℤ
+byTopBit s d = cond (eqb (d / 2 ^ (s - 1) % 2) 1) (pos d) (pos (d + 1) -ℤ pos (2 ^ s))
 
 -- RULES 3.2: what the DC value adds to the predictor: 0 where the size is 0, else what the differential adds
 unfoldable pub dcDifference : Bool → Prog ℤ

@@ -163,7 +163,7 @@ module _ (rule : Rule) (g : Given) (f b : S.Direction) (intra : Bool) (scale : �
 
 -- ---- the DC value
 
-size-small : (luminance : Bool) (s : List ℕ) (a : ℕ) → run (dcSize luminance) s a .value ≤ 31
+size-small : (luminance : Bool) (s : List ℕ) (a : ℕ) → run (dcSize luminance) s a .value ≤ 8
 unfolding dcSize
 size-small true s a = let h = size-luminance-most {s = s} .value a in omega arith
 size-small false s a = let h = size-chrominance-most {s = s} .value a in omega arith
@@ -176,7 +176,7 @@ module _ (s : List ℕ) where
       a-same (sym (plain-bind (dcSize (ltb i 4)) _ s a)) (
       a-plain (dcSize (ltb i 4)) (dcSize (ltb i 4)) _ _ refl (go (o .value) (o .at) (size-small (ltb i 4) s a) (eqb (o .value) 0) refl))
     where
-      go : (n e : ℕ) → n ≤ 31 → (t : Bool) → eqb n 0 ≡ t
+      go : (n e : ℕ) → n ≤ 8 → (t : Bool) → eqb n 0 ≡ t
           → Agree _≡_ s e (cond t (give (pos 0)) (onward (plain (bits n)) (λ d. give (dctZZ0 n d))))
           (plain (cond t (done (pos 0)) (bind (bits n) (λ d. done (added n d)))))
       go n e h true q = a-give refl

@@ -10,7 +10,8 @@ use mir.Syntax.{w32}
 use Rattle.laws.proofs.Bytes.{shl-one, bit-yes, bit-no}
 use Rattle.laws.proofs.Exprs.{Exp, var, cst, _⊹_, _∸_, Input, local, natural, need, value, eval-fits}
 use Rattle.laws.proofs.Ints.{lit, _⊖_, abs-by}
-use Rattle.coefficients.specs.Dcs.{added}
+use Rattle.coefficients.specs.Dcs.{added, byTopBit}
+use Rattle.coefficients.proofs.DcTable.{added-is}
 use Rattle.coefficients.proofs.dc.added.Statement.{statement}
 use Rattle.coefficients.proofs.dc.added.Tie as tie
 
@@ -38,16 +39,21 @@ mask : (s : tie.Start) → bitAnd (s .args .differential) (1 * 2 ^ (s .args .siz
     (2 ^ (s .args .size - 1))
 mask s = ap (bitAnd (s .args .differential)) (shl-one w32 (s .args .size - 1) (omega arith))
 
+-- the formula that the code computes is the table's
+as-formula : (s : tie.Start) → byTopBit (s .args .size) (s .args .differential) ≡ added (s .args .size) (s .args .differential)
+as-formula s = sym (added-is (s .args .size) (s .args .differential) (s .pre .0) (s .pre .1) (s .pre .2))
+
 cast-result : tie.Need-cast-result
 cast-result c = eval-fits (ρ (c .before)) (var 0) tt
 
 returns : tie.Need-returns
-unfolding added
+unfolding byTopBit
 returns c =
     let s = c .before in
     let e = value (ρ s) (var 0) tt in
     let b = bit-yes (s .args .differential) (s .args .size - 1) (λ z. c .if1 .taken (mask s ∙ z)) in
-    (e ∙ rw b, omega (arith, ap natAbs e, small s))
+    let r : pos (s .args .differential) ≡ byTopBit (s .args .size) (s .args .differential) = rw b in
+    (e ∙ r ∙ as-formula s, omega (arith, ap natAbs e, small s))
 
 cast-result-2 : tie.Need-cast-result-2
 cast-result-2 c = eval-fits (ρ (c .before)) (var 0) tt
@@ -59,7 +65,7 @@ sub-result : tie.Need-sub-result
 sub-result c = need (ρ (c .before)) less tt
 
 returns-2 : tie.Need-returns-2
-unfolding added
+unfolding byTopBit
 returns-2 c =
     let s = c .before in
     let d = s .args .differential in
@@ -67,7 +73,8 @@ returns-2 c =
     let b = bit-no d (s .args .size - 1) (sym (mask s) ∙ c .if1 .left) in
     let n : natAbs (pos (d + 1) -ℤ pos (2 ^ (s .args .size))) ≤ 255
     = abs-by 255 (lit (d + 1) ⊖ lit (2 ^ (s .args .size))) (omega arith) (omega (arith, power s)) in
-    (e ∙ rw b, omega (arith, ap natAbs e))
+    let r : pos (d + 1) -ℤ pos (2 ^ (s .args .size)) ≡ byTopBit (s .args .size) d = rw b in
+    (e ∙ r ∙ as-formula s, omega (arith, ap natAbs e))
 
 pub added-spec : {M : Type 1} → statement M
 added-spec =
