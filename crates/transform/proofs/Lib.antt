@@ -4,3 +4,6 @@ pub mod LoneDc
 pub mod Passes
 pub mod Sizes
 pub mod Steps
+pub mod Apart
+pub mod Near
+pub mod Leaves

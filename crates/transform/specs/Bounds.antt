@@ -1,10 +1,12 @@
 -- RULES 4.4: the sizes at which no step of the transform leaves 32 bits.
-use Prim.Native.Nat.{ℕ, _%_}
+use Prim.Native.Nat.{ℕ, _+_, _*_, _/_, _%_, _≤_, _<_}
 use mathlib.Core.List.{List, [], _∷_}
-use lib.IntN.{ℤ}
+use lib.IntN.{ℤ, pos, natAbs, _+ℤ_}
 use lib.ListN.{getD}
 use Rattle.laws.specs.Sizes.{AtMost}
-use Rattle.transform.specs.Idct.{at}
+use Rattle.transform.specs.Steps.{Step, input, _⊕_, _⊖_, neg, _⊗_, nearest, value, output}
+use Rattle.transform.specs.Butterfly.{nth}
+use Rattle.transform.specs.Idct.{at, lane, columns}
 
 -- the eight inputs of the step. Columns of coefficients keep to these sizes, and so do the rows between the passes
 abbrev pub inputSize : ℕ → ℕ
@@ -17,3 +19,34 @@ outputSize k = 33500000
 -- a block between the passes
 abbrev pub Middle : List ℤ → Type 0
 Middle l = AtMost 64 (λ k. inputSize (k % 8)) (at l)
+
+-- ---- each number on the way
+
+-- how large a step can be whose inputs keep to these sizes
+abbrev pub sizeOf : (ℕ → ℕ) → Step → ℕ
+sizeOf size (input k) = size k
+sizeOf size (a ⊕ b) = sizeOf size a + sizeOf size b
+sizeOf size (a ⊖ b) = sizeOf size a + sizeOf size b
+sizeOf size (neg a) = sizeOf size a
+sizeOf size (a ⊗ n) = sizeOf size a * n
+sizeOf size (nearest a) = (sizeOf size a + 128 + 255) / 256
+
+-- z keeps to the size n, which 32 bits with a sign hold
+pub record Sized (n : ℕ) (z : ℤ) : Type 0 where
+  pub most : natAbs z ≤ n
+  pub small : n < 2147483648
+
+-- every sum, difference and product on the way to a step does, also the sum that is divided
+abbrev pub Keeps : (ℕ → ℕ) → (ℕ → ℤ) → Step → Type 0
+Keeps size s (input k) = Sized (size k) (s k)
+Keeps size s (a ⊕ b) = Keeps size s a × Keeps size s b × Sized (sizeOf size (a ⊕ b)) (value s (a ⊕ b))
+Keeps size s (a ⊖ b) = Keeps size s a × Keeps size s b × Sized (sizeOf size (a ⊖ b)) (value s (a ⊖ b))
+Keeps size s (neg a) = Keeps size s a × Sized (sizeOf size (neg a)) (value s (neg a))
+Keeps size s (a ⊗ n) = Keeps size s a × Sized (sizeOf size (a ⊗ n)) (value s (a ⊗ n))
+Keeps size s (nearest a) =
+    Keeps size s a × Sized (sizeOf size a + 128) (value s a +ℤ pos 128) × Sized (sizeOf size (nearest a)) (value s (nearest a))
+
+-- in both passes, of which the second rounds its outputs
+pub record NoneLeaves (l : List ℤ) : Type 0 where
+  pub column : (x k : ℕ) → x < 8 → k < 8 → Keeps inputSize (nth (lane l x 8)) (output k)
+  pub row : (y k : ℕ) → y < 8 → k < 8 → Keeps inputSize (nth (lane (columns l) (y * 8) 1)) (nearest (output k))
