@@ -277,6 +277,15 @@ def _(c):
     for some in (b'\x00\x7f\x01\x00', b'\x7f\x00\x01\x00', b'\x00\x00\x03\x00'):
         c.chance_picture(2)
         c.data(some + b'\x2a\x15\x55\x7f')
+# a DC value outside where the store has a picture already
+@case('3.3-Q8_eight_over_a_picture', 48, 16)
+def _(c):
+    c.chance_picture(2)
+    c.chance_picture(2)
+    c.picture(1)
+    c.slice(1)
+    c.macroblock(1, block=lambda k: [255])
+    c.macroblock(1, block=lambda k: [256 if k == 3 else 255])
 # a DC value outside in a block whose pairs lead past the last place
 @case('3.3-Q8_eight_dropped', 48, 16)
 def _(c):
