@@ -7,9 +7,9 @@ use crate::show::show_conversion;
 use crate::show::show_name;
 use crate::streams::behind_text;
 use crate::streams::text_at;
-use lists::noise::fill;
 use decoder::record::Decoder;
 use lists::bytes::part;
+use lists::noise::fill;
 use lists::numbers::number_at;
 
 // Hand-outs from a record on.

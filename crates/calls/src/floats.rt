@@ -1,7 +1,12 @@
 // Floats of a record: fractions in a file, bits in a line.
 
+ghost use mathlib.Core.Path.{_≡_};
+ghost use Rattle.calls.specs.RecordSums as R;
+
 // The bits of a float; there is one NaN.
-pub fn bits(x: f64) -> u64 {
+pub fn bits(x: f64) -> u64
+    ensures { λ r. ⌜ r ≡ R.bits x ⌝ }
+{
     if x == x {
         return f64::to_bits(x);
     }

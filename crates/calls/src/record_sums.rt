@@ -1,5 +1,6 @@
 // The checksum of a record: its numbers, in the order of the file, and its matrices.
 use crate::floats::bits;
+use crate::sums::mixed;
 use crate::sums::sum_bytes;
 use crate::sums::sum_numbers;
 use decoder::record::Clock;
@@ -9,24 +10,33 @@ use lists::numbers::held;
 use picture::state::Motion;
 use picture::state::Picture;
 use picture::state::Slice;
+ghost use mathlib.Core.Path.{_≡_};
 ghost use Prim.Native.Nat.{_<_};
+ghost use Rattle.calls.specs.Sums.{summed, summedBelow};
+ghost use Rattle.calls.specs.RecordSums as R;
 
 // The low 32 bits of a number.
-fn low(n: u64) -> u32 {
+fn low(n: u64) -> u32
+    ensures { λ r. ⌜ r ≡ R.low n ⌝ }
+{
     (n % 4294967296) as u32
 }
 
-fn size(n: usize) -> u32 {
+fn size(n: usize) -> u32
+    ensures { λ r. ⌜ r ≡ R.low n ⌝ }
+{
     low(n as u64)
 }
 
-fn flag(b: bool) -> u32 {
+fn flag(b: bool) -> u32
+    ensures { λ r. ⌜ r ≡ R.flag b ⌝ }
+{
     if b { 1 } else { 0 }
 }
 
 fn sum_sequence(before: u64, q: Sequence) -> u64
     requires { ⌜ before < 4294967311 ⌝ }
-    ensures { λ r. ⌜ r < 4294967311 ⌝ }
+    ensures { λ r. ⌜ (r ≡ R.sequenceSum before q) × (r < 4294967311) ⌝ }
 {
     let sizes = q.sizes;
     let numbers = [
@@ -42,7 +52,7 @@ fn sum_sequence(before: u64, q: Sequence) -> u64
 
 fn sum_motion(before: u64, m: Motion) -> u64
     requires { ⌜ before < 4294967311 ⌝ }
-    ensures { λ r. ⌜ r < 4294967311 ⌝ }
+    ensures { λ r. ⌜ (r ≡ R.motionSum before m) × (r < 4294967311) ⌝ }
 {
     let numbers = [
         flag(m.full_px),
@@ -56,7 +66,7 @@ fn sum_motion(before: u64, m: Motion) -> u64
 
 fn sum_slice(before: u64, s: Slice) -> u64
     requires { ⌜ before < 4294967311 ⌝ }
-    ensures { λ r. ⌜ r < 4294967311 ⌝ }
+    ensures { λ r. ⌜ (r ≡ R.sliceSum before s) × (r < 4294967311) ⌝ }
 {
     let head = [s.quantizer_scale, held(s.macroblock_address)];
     let forward = s.motion_forward;
@@ -69,7 +79,7 @@ fn sum_slice(before: u64, s: Slice) -> u64
 
 fn sum_picture(before: u64, p: Picture) -> u64
     requires { ⌜ before < 4294967311 ⌝ }
-    ensures { λ r. ⌜ r < 4294967311 ⌝ }
+    ensures { λ r. ⌜ (r ≡ R.pictureSum before p) × (r < 4294967311) ⌝ }
 {
     let stores = p.stores;
     let numbers = [
@@ -85,7 +95,7 @@ fn sum_picture(before: u64, p: Picture) -> u64
 
 fn sum_float(before: u64, x: f64) -> u64
     requires { ⌜ before < 4294967311 ⌝ }
-    ensures { λ r. ⌜ r < 4294967311 ⌝ }
+    ensures { λ r. ⌜ (r ≡ R.floatSum before x) × (r < 4294967311) ⌝ }
 {
     let b = bits(x);
     let numbers = [low(b / 4294967296), low(b)];
@@ -94,7 +104,7 @@ fn sum_float(before: u64, x: f64) -> u64
 
 fn sum_clock(before: u64, c: Clock) -> u64
     requires { ⌜ before < 4294967311 ⌝ }
-    ensures { λ r. ⌜ r < 4294967311 ⌝ }
+    ensures { λ r. ⌜ (r ≡ R.clockSum before c) × (r < 4294967311) ⌝ }
 {
     let rates = sum_float(sum_float(before, c.framerate), c.pixel_aspect_ratio);
     sum_float(sum_float(rates, c.time), c.last_frame_time)
@@ -103,27 +113,27 @@ fn sum_clock(before: u64, c: Clock) -> u64
 // The left-over coefficients.
 fn sum_left(before: u64, left: &[i32; 64]) -> u64
     requires { ⌜ before < 4294967311 ⌝ }
-    ensures { λ r. ⌜ r < 4294967311 ⌝ }
+    ensures { λ r. ⌜ (r ≡ summedBelow before (R.signedAt (now (left .entry))) 64) × (r < 4294967311) ⌝ }
 {
-    let mut numbers = [0u32; 64];
+    let mut sum = before;
     let mut i: usize = 0;
     while i < 64 {
         let z = left[i];
-        numbers[i] = held(z);
+        sum = mixed(sum, held(z));
         i += 1;
     }
-    sum_numbers(before, &numbers)
+    sum
 }
 
 fn sum_matrix(before: u64, matrix: &[u8; 64]) -> u64
     requires { ⌜ before < 4294967311 ⌝ }
-    ensures { λ r. ⌜ r < 4294967311 ⌝ }
+    ensures { λ r. ⌜ (r ≡ summed before (now (matrix .entry))) × (r < 4294967311) ⌝ }
 {
     sum_bytes(before, matrix)
 }
 
 pub fn sum_record(d: Decoder) -> u64
-    ensures { λ r. ⌜ r < 4294967311 ⌝ }
+    ensures { λ r. ⌜ r ≡ R.recordSum d ⌝ }
 {
     let reader = d.reader;
     let at = reader.at;
@@ -132,10 +142,11 @@ pub fn sum_record(d: Decoder) -> u64
     let picture = d.picture;
     let clock = d.clock;
     let scalars = sum_picture(sum_sequence(sum_numbers(1, &place), sequence), picture);
+    let timed = sum_clock(scalars, clock);
     let ends = [flag(d.has_reference_frame), d.frames_decoded, d.stop];
     let slice = picture.slice;
     let left = slice.block_data;
-    let numbers = sum_left(sum_numbers(sum_clock(scalars, clock), &ends), &left);
+    let numbers = sum_left(sum_numbers(timed, &ends), &left);
     let matrices = sequence.matrices;
     let intra = matrices.intra_quant_matrix;
     let other = matrices.non_intra_quant_matrix;

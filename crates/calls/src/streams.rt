@@ -4,10 +4,10 @@ use crate::show::number_of;
 use crate::show::show;
 use crate::show::show_name;
 use crate::show::show_opening;
-use lists::noise::fill;
 use decoder::answers::Opening;
 use decoder::record::Decoder;
 use lists::bytes::part;
+use lists::noise::fill;
 use lists::numbers::number_at;
 
 fn opening_number(opening: Opening) -> u32 {

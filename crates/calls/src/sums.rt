@@ -3,7 +3,7 @@ ghost use mathlib.Core.Path.{_≡_};
 ghost use Prim.Native.Nat.{_<_};
 ghost use Rattle.calls.specs.Sums.{mixed, summed};
 
-fn mixed(sum: u64, n: u32) -> u64
+pub fn mixed(sum: u64, n: u32) -> u64
     requires { ⌜ sum < 4294967311 ⌝ }
     ensures { λ r. ⌜ (r ≡ mixed sum n) × (r < 4294967311) ⌝ }
 {

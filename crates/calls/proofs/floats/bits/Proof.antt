@@ -1,8 +1,8 @@
-use mathlib.Core.Path.{_≡_}
+use mathlib.Core.Path.{_≡_, refl}
 use mathlib.Core.Bool.{true, not, false≢true}
-use borrow.Author.Needs.{needs}
 use lib.Dec.{T}
 use lib.Ieee.{Float, nan, inf, fin, eq, isNan}
+use Rattle.calls.specs.RecordSums.{bits}
 use Rattle.calls.proofs.floats.bits.Statement.{statement}
 use Rattle.calls.proofs.floats.bits.Tie as tie
 
@@ -16,5 +16,13 @@ number (fin s m k) e = tt
 float-to-bits-result : tie.Need-float-to-bits-result
 float-to-bits-result c = number (c .before .args .x) (c .if1 .taken)
 
+returns : tie.Need-returns
+unfolding bits
+returns c = rw (c .if1 .taken) refl
+
+returns-2 : tie.Need-returns-2
+unfolding bits
+returns-2 c = rw (c .if1 .left) refl
+
 pub bits-spec : {M : Type 1} → statement M
-bits-spec = tie.close (tie.spec float-to-bits-result (λ c. search needs) (λ c. search needs))
+bits-spec = tie.close (tie.spec float-to-bits-result returns returns-2)

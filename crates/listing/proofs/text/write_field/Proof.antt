@@ -1,6 +1,7 @@
 use Prim.Native.Nat.{_+_, _≤_}
 use native.Mathlib.Omega.{arith}
 use borrow.Author.Needs.{needs}
+use lib.ListN.{length}
 use Rattle.listing.proofs.Writing.{fewest-few, wrote-field}
 use Rattle.listing.proofs.text.write_field.Statement.{statement}
 use Rattle.listing.proofs.text.write_field.Tie as tie
@@ -15,6 +16,11 @@ write-bytes-requires c κs = omega (arith, few (c .before .before), c .before .b
 -- the place behind the digits
 low : (c : tie.After-write-bytes) → c .write-bytes .result ≤ c .before .before .before .before .before .before .args .at + 20
 low c = let d = c .before .before .before in omega (arith, few d, d .decimal .ensures, c .write-bytes .ensures .place)
+
+-- what was asked of the page
+asked : (c : tie.After-write-bytes) → c .before .before .before .before .before .before .args .at + 21
+    ≤ length (c .before .before .before .before .before .before .args .page .now)
+asked c = c .before .before .before .before .before .before .pre
 
 returns : tie.Need-returns
 returns c =
@@ -34,7 +40,7 @@ write-field-spec =
     (λ c. search needs)
     (λ c. search needs)
     write-bytes-requires
-    (λ c. omega (arith, low (c .before .before), c .before .before .write-bytes .kept .0, c .before .before .before .before .before .before .before .before .pre))
-    (λ c. omega (arith, low (c .before .before), c .before .before .before .before .before .before .before .before .pre))
+    (λ c. omega (arith, low (c .before .before), c .before .before .write-bytes .kept .0, asked (c .before .before)))
+    (λ c. omega (arith, low (c .before .before), asked (c .before .before)))
     (λ c. search needs)
     returns)
