@@ -11,7 +11,7 @@ use lib.ListN.{length, getD, set, take, drop, length-set, length-append, length-
 use lib.Seq.{ext-getD, drop-cons, take-at, drop-at, drop-drop, getD-take, getD-drop, length-take-le}
 use Rattle.laws.specs.Stores.{storeRow}
 use Rattle.mpeg1.specs.Memory.{over}
-use Rattle.laws.proofs.Lists.{length-mid, put-in, put-before, put-after, row-on, row-in, row-out, length-row}
+use Rattle.laws.proofs.Lists.{put-in, put-before, put-after, row-on, row-in, row-out, length-row}
 
 module _ {B : Type 0} where
   put-length : (at n : ℕ) (l ys : List B) → at + n ≤ length l → length ys ≡ n → length (putMid at n l ys) ≡ length l

@@ -3,15 +3,15 @@ use mathlib.Core.Path.{_≡_, refl, sym, ap, _∙_}
 use mathlib.Core.Bool.{Bool, true, false, _||_, false≢true}
 use Prim.Native.Nat.{ℕ, suc, _+_, _-_, _^_, _≤_, _<_}
 use native.Mathlib.Omega.{arith}
-use borrow.Author.Tests.{eq-eqb, ne-eqb, lt-ltb, le-ltb, eqb-true, eqb-false}
+use borrow.Author.Tests.{le-ltb, eqb-true, eqb-false}
 use borrow.Author.Needs.{sfits-of}
 use lib.Dec.{T, eqb}
 use lib.IntN.{ℤ, pos, negsuc, natAbs, _-ℤ_}
 use lib.Signed.{mag, ltZ, nonNeg}
-use mir.Facts.{toZ-ofZ, toZ-pos}
+use mir.Facts.{toZ-ofZ}
 use mir.Syntax.{Width, w32, w64}
 use mir.Val.{Fits, SFits, bits, hbits, toZ, ofZ}
-use Rattle.laws.proofs.Ints.{up, dn, v, lit, low, eq-by, lt-yes, lt-no, fits-by, fits-of, cast-by, cast-is, back, reread, same-bits, natAbs-is, one-side, _⊖_}
+use Rattle.laws.proofs.Ints.{up, dn, v, lit, low, eq-by, lt-yes, lt-no, fits-by, fits-of, cast-by, cast-is, back, reread, same-bits, one-side, _⊖_}
 use Rattle.bits.specs.Programs.{eqZ}
 use Rattle.bits.proofs.Codes.{eqZ-yes, eqZ-no}
 use Rattle.mpeg1.specs.Fields.{size, sizeOf, naturalOf, integerOf}

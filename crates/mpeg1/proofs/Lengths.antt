@@ -1,12 +1,10 @@
 -- How many numbers a record has.
-use mathlib.Core.Path.{_≡_, refl, _∙_}
+use mathlib.Core.Path.{_≡_, _∙_}
 use mathlib.Core.List.{_++_, map}
-use Prim.Native.Nat.{ℕ, _+_}
+use Prim.Native.Nat.{_+_}
 use native.Mathlib.Omega.{arith}
 use lib.IntN.{pos}
 use lib.ListN.{length, length-append, length-map}
-use Rattle.picture.specs.declared.state.Picture.{Picture}
-use Rattle.decoder.specs.declared.record.Sequence.{Sequence}
 use Rattle.decoder.specs.declared.record.Decoder.{Decoder}
 use Rattle.decoder.specs.Record.{place}
 use Rattle.mpeg1.specs.Types.{Typed}
@@ -45,5 +43,5 @@ module _ {d : Decoder} (t : Typed d) where
   pub numbers-long : length (numbersOf d) ≡ 222
   unfolding numbersOf
   numbers-long =
-      length-append (sequenceNumbers (place d) (d .sequence) ++ pictureNumbers (d .picture)) (lastNumbers (d .«has_reference_frame») (d .«frames_decoded») (d .stop))
-      ∙ omega (arith, both-long)
+      let last = lastNumbers (d .«has_reference_frame») (d .«frames_decoded») (d .stop) in
+      length-append (sequenceNumbers (place d) (d .sequence) ++ pictureNumbers (d .picture)) last ∙ omega (arith, both-long)

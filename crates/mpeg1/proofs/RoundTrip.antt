@@ -1,22 +1,19 @@
 -- The record that is read of a memory is the one that was written over it.
 use mathlib.Core.Path.{_≡_, refl, sym, ap, ap₂, _∙_}
-use mathlib.Core.Bool.{Bool, true, false, _&&_}
+use mathlib.Core.Bool.{Bool, true, false}
 use mathlib.Core.List.{List, [], _∷_, _++_, map, append-assoc}
-use Prim.Native.Nat.{ℕ, zero, suc, _+_, _≤_, _<_, _^_}
+use Prim.Native.Nat.{ℕ, suc, _+_, _≤_, _<_, _^_}
 use native.Mathlib.Omega.{arith}
-use borrow.Author.Tests.{le-leb, le-ltb, lt-ltb}
+use borrow.Author.Tests.{le-leb}
 use borrow.Rule.Slice.PartMut.{midOf}
-use lib.Dec.{leb, ltb}
 use lib.Ieee.{Float}
 use lib.IntN.{ℤ, pos, negsuc}
-use lib.ListN.{length, getD, take, drop, length-append, length-drop, length-map}
+use lib.ListN.{length, getD, take, drop, length-append, length-map}
 use lib.Seq.{drop-at, take-at, drop-drop, getD-drop}
-use lib.Signed.{ltZ}
 use mir.Facts.{ofZ-toZ}
 use mir.Syntax.{w8, w32, w64}
-use mir.Val.{Fits, SFits, ofZ, toZ}
+use mir.Val.{Fits, SFits}
 use Rattle.laws.proofs.Ints.{v, lit, fits-of, no-lt}
-use Rattle.bits.specs.Programs.{eqZ}
 use Rattle.bits.proofs.Codes.{eqZ-yes}
 use Rattle.picture.specs.declared.state.Motion.{Motion}
 use Rattle.picture.specs.declared.state.Picture.{Picture}
@@ -26,8 +23,8 @@ use Rattle.decoder.specs.Record.{place}
 use Rattle.mpeg1.specs.Fields.{flag, size, flagOf, sizeOf, naturalOf, integerOf}
 use Rattle.mpeg1.specs.Memory as M
 use Rattle.mpeg1.specs.Memory.{numbersOf, clockOf, over, recordOf, begins, isRecord, Holds, number}
-use Rattle.mpeg1.specs.Types.{Bytes, Integers, TypedMotion, TypedSequence, TypedPicture, Typed}
-use Rattle.mpeg1.proofs.Lengths.{sequence-long, picture-long, numbers-long}
+use Rattle.mpeg1.specs.Types.{TypedMotion, Typed}
+use Rattle.mpeg1.proofs.Lengths.{numbers-long}
 
 -- ---- a field
 

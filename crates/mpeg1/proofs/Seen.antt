@@ -4,7 +4,7 @@ use mathlib.Core.Bool.{true, false}
 use mathlib.Core.List.{List}
 use Prim.Native.Nat.{_≤_}
 use native.Mathlib.Omega.{arith}
-use lib.Ieee.{Float, binary64, ofBits, ofInt}
+use lib.Ieee.{binary64, ofBits, ofInt}
 use lib.IntN.{ℤ}
 use lib.ListN.{replicate}
 use Rattle.prediction.specs.declared.planes.Plane.{Plane}
