@@ -76,7 +76,8 @@ module _ {s : List ℕ} where
   pub difference-small : (luminance : Bool) → Gives s (λ z. natAbs z ≤ 255) (dcDifference luminance)
   unfolding dcDifference
   difference-small luminance =
-      g-bind _ (size-most luminance) (λ n h. g-if (eqb n 0) (λ e. g-done (omega arith)) (λ e. g-bind _ (g-bits n) (λ d l. g-done (added-small n d (not-zero n e) h l))))
+      g-bind _ (size-most luminance) (λ n h. g-if (eqb n 0) (λ e. g-done (omega arith))
+      (λ e. g-bind _ (g-bits n) (λ d l. g-done (added-small n d (not-zero n e) h l))))
 
 -- a DC value that question 8 admits
 pub inside-small : (x : ℤ) → dcInside x ≡ true → natAbs x ≤ 256

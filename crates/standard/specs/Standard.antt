@@ -1,5 +1,5 @@
 -- ISO/IEC 11172-2 from the picture down, 2.4.2.5 to 2.4.2.8 with 2.4.3.4 to 2.4.3.7 and 2.4.4: one module for each layer, in the standard's names and order.
--- Where a stream breaks a rule that a decoder relies on, a run ends with `forbidden`. It was written without the page; docs/STANDARD.md says what is not literal.
+-- Where a stream breaks a rule that a decoder relies on, a run ends with `forbidden`. Written without the page; docs/STANDARD.md says what is not literal.
 pub mod Shall
 pub mod State
 pub mod Types

@@ -46,11 +46,11 @@ returns-3 c =
     let at = x .args .along .at in
     let room = o .before .before .before .before .if2 .left in (
       whole-case _ _ _ _ _ (n .before .before .if1 .left) (n .number-at .ensures) (b .before .before .number-at2 .ensures) (b .behind .ensures)
-          _ _ _ _ _ _ (b .before .number-at3 .ensures) room (o .before .operation-of .ensures) (o .operate .ensures .0) (c .before .before .bytes-agree .ensures)
-          (c .before .agrees .ensures) (c .next .ensures),
+          _ _ _ _ _ _ (b .before .number-at3 .ensures) room (o .before .operation-of .ensures) (o .operate .ensures .0)
+          (c .before .before .bytes-agree .ensures) (c .before .agrees .ensures) (c .next .ensures),
       rw (c .next .ensures)
-          (onward-inside l _ (getD l at 0) (at + 13) (at + 13 + b .behind .result) _ (x .pre .1) (omega arith) (omega (arith, room, n .before .before .if1 .left))
-          (o .operate .ensures .1 .place)),
+          (onward-inside l _ (getD l at 0) (at + 13) (at + 13 + b .behind .result) _ (x .pre .1) (omega arith)
+          (omega (arith, room, n .before .before .if1 .left)) (o .operate .ensures .1 .place)),
     )
 
 pub take-case-spec : {M : Type 1} → statement M
