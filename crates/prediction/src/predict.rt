@@ -1,6 +1,6 @@
 // Blocks of one plane predicted from another, and a macroblock's three planes from another store.
-use crate::blocks::gather;
-use crate::blocks::lay;
+use crate::gathering::gather;
+use crate::gathering::lay;
 use crate::place::Fetch;
 use crate::place::Macroblock;
 use crate::place::Place;

@@ -1,12 +1,12 @@
--- `blocks::lay_rows` meets its contract: each turn of the loop lays a row.
+-- `gathering::lay_rows` meets its contract: each turn of the loop lays a row.
 use Prim.Native.Nat.{_+_, _*_, _-_, _≤_}
 use native.Mathlib.Omega.{arith}
 use lib.ListN.{getD}
 use Rattle.prediction.specs.Predict.{lay}
 use Rattle.prediction.specs.Samples.{laid}
 use Rattle.prediction.proofs.Lines.{Lines, no-line, in-line, line-on, lines-all, in-block}
-use Rattle.prediction.proofs.blocks.lay_rows.Statement.{statement}
-use Rattle.prediction.proofs.blocks.lay_rows.Tie as tie
+use Rattle.prediction.proofs.gathering.lay_rows.Statement.{statement}
+use Rattle.prediction.proofs.gathering.lay_rows.Tie as tie
 
 abbrev Inv-loop : tie.InvT-loop
 Inv-loop d₀ di dw size block interpolate y₀ d y = Lines d₀ di dw size size (λ old y x. laid interpolate old (getD block (y * size + x) 0)) d y

@@ -1,11 +1,11 @@
--- `blocks::lay_row` meets its contract: each turn of the loop writes a byte more of the row.
+-- `gathering::lay_row` meets its contract: each turn of the loop writes a byte more of the row.
 use Prim.Native.Nat.{_-_}
 use native.Mathlib.Omega.{arith}
 use lib.ListN.{getD}
 use Rattle.prediction.specs.Samples.{laid}
 use Rattle.prediction.proofs.Lines.{Run, no-run, run-on, run-all}
-use Rattle.prediction.proofs.blocks.lay_row.Statement.{statement}
-use Rattle.prediction.proofs.blocks.lay_row.Tie as tie
+use Rattle.prediction.proofs.gathering.lay_row.Statement.{statement}
+use Rattle.prediction.proofs.gathering.lay_row.Tie as tie
 
 abbrev Inv-loop : tie.InvT-loop
 Inv-loop d₀ at block from size interpolate x₀ d x = Run d₀ at from (λ old n. laid interpolate old (getD block n 0)) size d x

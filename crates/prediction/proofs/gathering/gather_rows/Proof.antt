@@ -1,4 +1,4 @@
--- `blocks::gather_rows` meets its contract: each turn of the loop gathers a row.
+-- `gathering::gather_rows` meets its contract: each turn of the loop gathers a row.
 use mathlib.Core.Path.{sym, ap, _∙_}
 use mathlib.Core.Bool.{cond}
 use Prim.Native.Nat.{ℕ, _+_, _*_, _-_, _≤_}
@@ -10,8 +10,8 @@ use Rattle.laws.specs.Stores.{storeRow}
 use Rattle.laws.proofs.Lists.{last-row}
 use Rattle.prediction.specs.Samples.{sample}
 use Rattle.prediction.proofs.Lines.{Lines, no-line, line-on, lines-all, in-block}
-use Rattle.prediction.proofs.blocks.gather_rows.Statement.{statement}
-use Rattle.prediction.proofs.blocks.gather_rows.Tie as tie
+use Rattle.prediction.proofs.gathering.gather_rows.Statement.{statement}
+use Rattle.prediction.proofs.gathering.gather_rows.Tie as tie
 
 abbrev Inv-loop : tie.InvT-loop
 Inv-loop out₀ s from dw size across down y₀ out y = Lines out₀ 0 size size size (λ old y x. sample s dw across down (from + y * dw + x)) out y

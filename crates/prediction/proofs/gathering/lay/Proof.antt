@@ -1,11 +1,11 @@
--- `blocks::lay` meets its contract: the size is 16, 8 or 0.
+-- `gathering::lay` meets its contract: the size is 16, 8 or 0.
 use mathlib.Core.Path.{_≡_}
 use native.Mathlib.Omega.{arith}
 use borrow.Author.Needs.{needs}
 use Rattle.laws.specs.Stores.{storeRows}
 use Rattle.prediction.specs.Predict.{lay}
-use Rattle.prediction.proofs.blocks.lay.Statement.{statement}
-use Rattle.prediction.proofs.blocks.lay.Tie as tie
+use Rattle.prediction.proofs.gathering.lay.Statement.{statement}
+use Rattle.prediction.proofs.gathering.lay.Tie as tie
 
 lay-rows-requires : tie.Need-lay-rows-requires
 lay-rows-requires c κs = let h = rw (c .before .if1 .taken) at (c .before .before .before .pre) in ((h .0 .1, h .0 .2), h .1)

@@ -1,11 +1,11 @@
--- `blocks::gather` meets its contract: the size is 16, 8 or 0.
+-- `gathering::gather` meets its contract: the size is 16, 8 or 0.
 use mathlib.Core.Path.{_≡_, refl}
 use Prim.Native.Nat.{ℕ}
 use native.Mathlib.Omega.{arith}
 use Rattle.laws.specs.Stores.{storeRows}
 use Rattle.prediction.specs.Predict.{gathered}
-use Rattle.prediction.proofs.blocks.gather.Statement.{statement}
-use Rattle.prediction.proofs.blocks.gather.Tie as tie
+use Rattle.prediction.proofs.gathering.gather.Statement.{statement}
+use Rattle.prediction.proofs.gathering.gather.Tie as tie
 
 gather-rows-requires : tie.Need-gather-rows-requires
 gather-rows-requires c κs = let h = rw (c .before .if1 .taken) at (c .before .before .before .pre) in (refl, (h .0 .1, h .1))
