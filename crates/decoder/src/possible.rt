@@ -102,7 +102,7 @@ fn same_sizes(x: Sizes, z: Sizes) -> bool
 }
 
 // Sizes follow only from a width and a height within their bounds, so these are tested first.
-fn possible_sequence(q: Sequence) -> bool
+pub fn possible_sequence(q: Sequence) -> bool
     ensures { λ r. ⌜ r ≡ possibleSequence q ⌝ }
 {
     let width = q.width;

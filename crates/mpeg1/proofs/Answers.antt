@@ -1,16 +1,16 @@
 -- The ways through the definitions of the calls, one for each answer.
 use mathlib.Core.Path.{_≡_}
 use mathlib.Core.Bool.{true, false, _&&_}
-use mathlib.Core.List.{List}
+use mathlib.Core.List.{List, [], _∷_}
 use Prim.Native.Nat.{ℕ, _≤_, _<_}
 use borrow.Author.Tests.{leb-true, le-leb, lt-leb}
 use lib.Dec.{leb}
 use lib.Ieee.{Float}
-use lib.IntN.{ℤ}
 use lib.ListN.{length}
-use Rattle.laws.proofs.Tests.{both}
+use Rattle.laws.proofs.Tests.{both, each}
 use Rattle.decoder.specs.declared.record.Decoder.{Decoder}
 use Rattle.decoder.specs.declared.answers.Opening.{Opening}
+use Rattle.decoder.specs.declared.answers.Outcome.{Outcome}
 use Rattle.decoder.specs.declared.answers.Outcome.the-variants.{Picture, Refused}
 use Rattle.decoder.specs.declared.answers.Shown.{Shown}
 use Rattle.decoder.specs.declared.answers.Converted.{Converted}
@@ -18,64 +18,93 @@ use Rattle.decoder.specs.Record.{left}
 use Rattle.decoder.specs.Opening.{opening}
 use Rattle.decoder.specs.HandOut.{handOut}
 use Rattle.decoder.specs.Conversion as Conversion
-use Rattle.mpeg1.specs.Memory.{numbersOf, clockOf, over, recordOf, begins, isRecord, Holds}
-use Rattle.mpeg1.specs.Types.{Typed}
-use Rattle.mpeg1.specs.Calls.{kept, shows, roomy, openingNumber, opensIn, decodesIn, convertedNumber, converts, convertsIn}
-use Rattle.mpeg1.proofs.RoundTrip.{held}
+use Rattle.mpeg1.specs.Memory.{Memory, number, written, recordOf, roomy, flagsIn, shortsIn, isRecord, Readable}
+use Rattle.mpeg1.specs.Calls.{kept, shows, openingNumber, opensIn, HandsOut, decodesIn, convertedNumber, converts, convertsIn}
 
-module _ (n : List ℤ) (c : List Float) where
-  pub room : roomy n c ≡ true → (222 ≤ length n) × (4 ≤ length c)
-  room e = let x = both (leb 222 (length n)) (leb 4 (length c)) e in (leb-true 222 (length n) (x .0), leb-true 4 (length c) (x .1))
+-- ---- room for a record, and a record
+
+pub record Room (x : Memory) : Type 0 where
+  pub numbers : 21 ≤ length (x .numbers)
+  pub integers : 73 ≤ length (x .integers)
+  pub matrices : 128 ≤ length (x .matrices)
+  pub clock : 4 ≤ length (x .clock)
+
+module _ (x : Memory) where
+  pub room : roomy x ≡ true → Room x
+  room e =
+      let h = each (leb 21 (length (x .numbers))) (leb 73 (length (x .integers)) ∷ leb 128 (length (x .matrices)) ∷ leb 4 (length (x .clock)) ∷ []) e in
+      record { numbers = leb-true _ _ (h 0); integers = leb-true _ _ (h 1); matrices = leb-true _ _ (h 2); clock = leb-true _ _ (h 3) }
 
   -- a memory that holds a record has room for it
-  pub record-room : isRecord n c ≡ true → (222 ≤ length n) × (4 ≤ length c)
+  pub record-roomy : isRecord x ≡ true → roomy x ≡ true
   unfolding isRecord
-  record-room e =
-      let x = both (leb 222 (length n) && leb 4 (length c)) (begins (numbersOf (recordOf n c)) n) e in
-      room (x .0)
+  record-roomy e = each (roomy x) (flagsIn (x .numbers) ∷ shortsIn (x .numbers) ∷ []) e 0
 
-  -- what is written over it is held by it
-  pub held-by : {d e : Decoder} {m : List ℤ} {k : List Float} → Typed d → m ≡ over (numbersOf d) n → k ≡ over (clockOf d) c → d ≡ e → Holds m k e
-  held-by {d} f p q r = rw (p, q, ← r) (held d n c f)
+  pub readable : isRecord x ≡ true → Readable x
+  unfolding isRecord
+  readable e =
+      let n = x .numbers in
+      let p = each (roomy x) (flagsIn n ∷ shortsIn n ∷ []) e in
+      let r = room (p 0) in
+      let h = each (leb (number n 7) 4294967295)
+      (leb (number n 11) 4294967295 ∷ leb (number n 14) 4294967295 ∷ leb (number n 17) 4294967295 ∷ leb (number n 19) 4294967295
+      ∷ leb (number n 20) 4294967295 ∷ []) (p 2) in
+      record {
+        numbers = record {
+          long = r .numbers;
+          type = leb-true _ _ (h 0);
+          scale = leb-true _ _ (h 1);
+          forward = leb-true _ _ (h 2);
+          backward = leb-true _ _ (h 3);
+          handed = leb-true _ _ (h 4);
+          stop = leb-true _ _ (h 5);
+        };
+        integers = r .integers;
+        matrices = r .matrices;
+        clock = r .clock;
+      }
 
-module _ (s l : List ℕ) (n : List ℤ) (c : List Float) where
-  pub opens-2 : roomy n c ≡ false → kept 2 l n c ≡ opensIn s l n c
+-- ---- opening
+
+module _ (s l : List ℕ) (x : Memory) where
+  pub opens-2 : roomy x ≡ false → kept 2 l x ≡ opensIn s l x
   unfolding opensIn
   opens-2 e = rw e
 
-  pub opens : {x : Opening} {d : Decoder} {r : ℕ} {store : List ℕ} {m : List ℤ} {k : List Float} → roomy n c ≡ true
-      → left x d store ≡ opening s l → r ≡ openingNumber x → m ≡ over (numbersOf d) n → k ≡ over (clockOf d) c → kept r store m k ≡ opensIn s l n c
+  pub opens : {a : Opening} {d : Decoder} {r : ℕ} {store : List ℕ} {z : Memory} → roomy x ≡ true → left a d store ≡ opening s l → r ≡ openingNumber a
+      → z ≡ written d x → kept r store z ≡ opensIn s l x
   unfolding opensIn
-  opens a e o p q = rw (a, ← e, o, p, q)
+  opens h e o p = rw (h, ← e, o, p)
 
-  module _ (shown : ℕ) (time : Float) where
-    pub decodes-1 : 16777216 < length s → shows (kept 1 l n c) shown time ≡ decodesIn s l n c shown time
+-- ---- the hand-out
+
+module _ (s l : List ℕ) (x : Memory) (shown : ℕ) (time : Float) where
+  pub decodes-1 : 16777216 < length s → shows (kept 1 l x) shown time ≡ decodesIn s l x shown time
+  unfolding decodesIn
+  decodes-1 h = rw (lt-leb (length s) 16777216 h)
+
+  module _ (h : length s ≤ 16777216) where
+    pub decodes-2 : isRecord x ≡ false → shows (kept 2 l x) shown time ≡ decodesIn s l x shown time
     unfolding decodesIn
-    decodes-1 h = rw (lt-leb (length s) 16777216 h)
+    decodes-2 e = rw (le-leb (length s) 16777216 h, e)
 
-    module _ (h : length s ≤ 16777216) where
-      pub decodes-2 : isRecord n c ≡ false → shows (kept 2 l n c) shown time ≡ decodesIn s l n c shown time
+    module _ (i : isRecord x ≡ true) {a : Outcome} {store : List ℕ} {z : Memory} (o : HandsOut a store z (handOut (recordOf x) s l) x) where
+      pub decodes-picture : {p : Shown} → a ≡ Picture p → shows (kept 0 store z) (p .store) (p .time) ≡ decodesIn s l x shown time
       unfolding decodesIn
-      decodes-2 e = rw (le-leb (length s) 16777216 h, e)
+      decodes-picture e = rw (le-leb (length s) 16777216 h, i, ← o .answered, e, o .stored, o .wrote)
 
-      module _ (i : isRecord n c ≡ true) {d : Decoder} {store : List ℕ} {m : List ℤ} {k : List Float} (p : m ≡ over (numbersOf d) n)
-          (q : k ≡ over (clockOf d) c) where
-        pub decodes-picture : {x : Shown} → left (Picture x) d store ≡ handOut (recordOf n c) s l
-            → shows (kept 0 store m k) (x .store) (x .time) ≡ decodesIn s l n c shown time
-        unfolding decodesIn
-        decodes-picture e = rw (le-leb (length s) 16777216 h, i, ← e, p, q)
+      pub decodes-number : {n : ℕ} → a ≡ Refused n → shows (kept n store z) shown time ≡ decodesIn s l x shown time
+      unfolding decodesIn
+      decodes-number e = rw (le-leb (length s) 16777216 h, i, ← o .answered, e, o .stored, o .wrote)
 
-        pub decodes-number : {x : ℕ} → left (Refused x) d store ≡ handOut (recordOf n c) s l
-            → shows (kept x store m k) shown time ≡ decodesIn s l n c shown time
-        unfolding decodesIn
-        decodes-number e = rw (le-leb (length s) 16777216 h, i, ← e, p, q)
+-- ---- the conversion
 
-module _ (l : List ℕ) (n : List ℤ) (c : List Float) (k : ℕ) (a : List ℕ) (w h : ℕ) where
-  pub converts-2 : isRecord n c ≡ false → converts 2 a ≡ convertsIn l n c k a w h
+module _ (l : List ℕ) (x : Memory) (k : ℕ) (a : List ℕ) (w h : ℕ) where
+  pub converts-2 : isRecord x ≡ false → converts 2 a ≡ convertsIn l x k a w h
   unfolding convertsIn
   converts-2 e = rw e
 
-  pub converts-record : {x : Converted} {area : List ℕ} {r : ℕ} → isRecord n c ≡ true → Conversion.area x area ≡ Conversion.converted (recordOf n c) l k a w h
-      → r ≡ convertedNumber x → converts r area ≡ convertsIn l n c k a w h
+  pub converts-record : {y : Converted} {area : List ℕ} {r : ℕ} → isRecord x ≡ true → Conversion.area y area ≡ Conversion.converted (recordOf x) l k a w h
+      → r ≡ convertedNumber y → converts r area ≡ convertsIn l x k a w h
   unfolding convertsIn
   converts-record i e o = rw (i, ← e, o)

@@ -1,8 +1,4 @@
 pub mod Answers
-pub mod Begins
-pub mod Copies
-pub mod Crossing
-pub mod Elements
-pub mod Lengths
+pub mod Copying
 pub mod RoundTrip
 pub mod Seen

@@ -2,18 +2,24 @@
 use mathlib.Core.Path.{_≡_, refl, ap}
 use mathlib.Core.Bool.{true, false}
 use mathlib.Core.List.{List}
-use Prim.Native.Nat.{_≤_}
+use Prim.Native.Nat.{ℕ, _≤_, _<_}
 use native.Mathlib.Omega.{arith}
+use borrow.Author.Tests.{le-leb, lt-leb}
 use lib.Ieee.{binary64, ofBits, ofInt}
-use lib.IntN.{ℤ}
-use lib.ListN.{replicate}
+use lib.ListN.{length, replicate}
 use Rattle.prediction.specs.declared.planes.Plane.{Plane}
 use Rattle.prediction.specs.declared.planes.Plane.the-variants.{Y, Cr, Cb}
 use Rattle.prediction.specs.Planes.{blockSize}
-use Rattle.decoder.specs.Record.{noTime, fresh}
-use Rattle.decoder.specs.Possible.{possible}
-use Rattle.mpeg1.specs.Memory.{recordOf, isRecord}
-use Rattle.mpeg1.specs.Views.{still, seen}
+use Rattle.decoder.specs.declared.record.Sequence.{Sequence}
+use Rattle.decoder.specs.declared.record.Decoder.{Decoder}
+use Rattle.decoder.specs.Record.{noTime, freshSequence, freshPicture, fresh}
+use Rattle.decoder.specs.Possible.{possibleSequence, possible}
+use Rattle.decoder.proofs.Fits.{fit-of}
+use Rattle.decoder.proofs.Starts.{fresh-starts}
+use Rattle.decoder.proofs.Converting.{size-few}
+use Rattle.mpeg1.specs.Memory.{number}
+use Rattle.mpeg1.specs.Calls.{still}
+use Rattle.mpeg1.specs.Views.{Few, sequenceSeen, seen, numberSeen}
 
 -- the constant 0.0
 pub zero-is : ofBits binary64 0 ≡ noTime
@@ -23,18 +29,60 @@ zero-is = refl
 pub still-is : replicate 4 (ofBits binary64 0) ≡ still
 still-is = ap (replicate 4) zero-is
 
-module _ (n : List ℤ) where
-  pub seen-none : isRecord n still ≡ false → fresh ≡ seen n
-  unfolding seen
-  seen-none e = rw e
+-- ---- the sequence
 
-  pub seen-impossible : isRecord n still ≡ true → possible (recordOf n still) ≡ false → fresh ≡ seen n
-  unfolding seen
-  seen-impossible e p = rw (e, p)
+-- a record with a sequence, all else fresh
+abbrev around : Sequence → Decoder
+around q = record {
+  reader = record { at = record { 0 = 0 } };
+  sequence = q;
+  picture = freshPicture;
+  clock = record { framerate = noTime; «pixel_aspect_ratio» = noTime; time = noTime; «last_frame_time» = noTime };
+  «has_reference_frame» = false;
+  «frames_decoded» = 0;
+  stop = 0;
+}
 
-  pub seen-is : isRecord n still ≡ true → possible (recordOf n still) ≡ true → recordOf n still ≡ seen n
+around-possible : (q : Sequence) → possibleSequence q ≡ true → possible (around q) ≡ true
+unfolding possible fresh
+around-possible q e = rw (e, fresh-starts .picture)
+
+pub few : {q : Sequence} → possibleSequence q ≡ true → Few q
+few {q} e = let f = fit-of (around-possible q e) in record { across = f .across; size = size-few f }
+
+pub few-fresh : Few freshSequence
+few-fresh = record { across = omega arith; size = omega arith }
+
+module _ (n : List ℕ) where
+  pub seen-short : length n < 21 → freshSequence ≡ seen n
   unfolding seen
-  seen-is e p = rw (e, p)
+  seen-short h = rw (lt-leb 21 (length n) h)
+
+  module _ (h : 21 ≤ length n) where
+    pub seen-flag : 1 < number n 1 → freshSequence ≡ seen n
+    unfolding seen
+    seen-flag f = rw (le-leb 21 (length n) h, lt-leb (number n 1) 1 f)
+
+    module _ (f : number n 1 ≤ 1) where
+      pub seen-impossible : possibleSequence (sequenceSeen n) ≡ false → freshSequence ≡ seen n
+      unfolding seen
+      seen-impossible e = rw (le-leb 21 (length n) h, le-leb (number n 1) 1 f, e)
+
+      pub seen-is : possibleSequence (sequenceSeen n) ≡ true → sequenceSeen n ≡ seen n
+      unfolding seen
+      seen-is e = rw (le-leb 21 (length n) h, le-leb (number n 1) 1 f, e)
+
+  -- ---- a number
+
+  module _ (k m : ℕ) where
+    pub number-short : length n < 21 → 0 ≡ numberSeen n k m
+    number-short h = rw (lt-leb 21 (length n) h)
+
+    pub number-more : 21 ≤ length n → m < number n k → 0 ≡ numberSeen n k m
+    number-more h q = rw (le-leb 21 (length n) h, lt-leb (number n k) m q)
+
+    pub number-is : 21 ≤ length n → number n k ≤ m → number n k ≡ numberSeen n k m
+    number-is h q = rw (le-leb 21 (length n) h, le-leb (number n k) m q)
 
 pub block-most : (p : Plane) → blockSize p ≤ 16
 block-most Y = omega arith

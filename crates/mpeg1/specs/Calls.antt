@@ -1,11 +1,12 @@
 -- The calls of `decoder` on memory that a host owns. An answer is 0 or the number of a refusal (RULES Q).
-use mathlib.Core.Bool.{Bool, not, _&&_}
+use mathlib.Core.Path.{_≡_}
+use mathlib.Core.Bool.{not}
 use mathlib.Core.List.{List}
 use Prim.Native.Nat.{ℕ}
 use lib.Dec.{leb}
 use lib.Ieee.{Float}
 use lib.IntN.{ℤ}
-use lib.ListN.{length}
+use lib.ListN.{length, replicate}
 use Rattle.bits.specs.Programs.{if_then_else_}
 use Rattle.decoder.specs.declared.answers.Opening.{Opening}
 use Rattle.decoder.specs.declared.answers.Opening.the-variants as O
@@ -13,21 +14,20 @@ use Rattle.decoder.specs.declared.answers.Outcome.{Outcome}
 use Rattle.decoder.specs.declared.answers.Outcome.the-variants as H
 use Rattle.decoder.specs.declared.answers.Converted.{Converted}
 use Rattle.decoder.specs.declared.answers.Converted.the-variants as C
-use Rattle.decoder.specs.Record.{Left}
+use Rattle.decoder.specs.Record.{Left, noTime}
 use Rattle.decoder.specs.Opening.{opening}
 use Rattle.decoder.specs.HandOut.{handOut}
 use Rattle.decoder.specs.Conversion as Conversion
-use Rattle.mpeg1.specs.Memory.{numbersOf, clockOf, over, recordOf, isRecord}
+use Rattle.mpeg1.specs.Memory.{Memory, memory, written, recordOf, roomy, isRecord, Holds}
 
 -- what a call leaves: its answer and all of the memory that a host has lent
 pub record Kept : Type 0 where
   pub answer : ℕ
   pub store : List ℕ
-  pub numbers : List ℤ
-  pub clock : List Float
+  pub memory : Memory
 
-abbrev pub kept : ℕ → List ℕ → List ℤ → List Float → Kept
-kept answer store numbers clock = record { answer = answer; store = store; numbers = numbers; clock = clock }
+abbrev pub kept : ℕ → List ℕ → Memory → Kept
+kept answer store x = record { answer = answer; store = store; memory = x }
 
 -- beside it the number of a picture's store, and its time
 pub record Shows : Type 0 where
@@ -45,31 +45,41 @@ openingNumber x = elim x [ O.Ready ↦ 0 | O.Refused n ↦ n ]
 abbrev pub convertedNumber : Converted → ℕ
 convertedNumber x = elim x [ C.Written ↦ 0 | C.Refused n ↦ n ]
 
--- is there room for a record?
-abbrev pub roomy : List ℤ → List Float → Bool
-roomy n c = leb 222 (length n) && leb 4 (length c)
-
 -- the record that a call of `decoder` leaves, over the beginning of the memory
-abbrev pub saved : {A : Type 0} → ℕ → Left A → List ℤ → List Float → Kept
-saved answer x n c = kept answer (x .store) (over (numbersOf (x .decoder)) n) (over (clockOf (x .decoder)) c)
+abbrev pub saved : {A : Type 0} → ℕ → Left A → Memory → Kept
+saved answer y x = kept answer (y .store) (written (y .decoder) x)
 
 -- RULES O: opening; 2 where there is no room for the record, which a refused opening gives too
-unfoldable pub opensIn : List ℕ → List ℕ → List ℤ → List Float → Kept
-opensIn s l n c = if not (roomy n c) then kept 2 l n c else saved (openingNumber (opening s l .answer)) (opening s l) n c
+unfoldable pub opensIn : List ℕ → List ℕ → Memory → Kept
+opensIn s l x = if not (roomy x) then kept 2 l x else saved (openingNumber (opening s l .answer)) (opening s l) x
+
+-- what a hand-out leaves where the memory holds a record
+pub record HandsOut (answer : Outcome) (store : List ℕ) (z : Memory) (y : Left Outcome) (x : Memory) : Type 0 where
+  pub answered : answer ≡ y .answer
+  pub stored : store ≡ y .store
+  pub wrote : z ≡ written (y .decoder) x
+  pub holds : Holds z (y .decoder)
 
 -- RULES 8.9: a picture's store and time, or those from before
-abbrev pub handedOut : Left Outcome → List ℤ → List Float → ℕ → Float → Shows
-handedOut x n c k t = elim (x .answer) [
-  | H.Picture p ↦ shows (saved 0 x n c) (p .store) (p .time)
-  | H.Refused m ↦ shows (saved m x n c) k t
+abbrev pub handedOut : Left Outcome → Memory → ℕ → Float → Shows
+handedOut y x k t = elim (y .answer) [
+  | H.Picture p ↦ shows (saved 0 y x) (p .store) (p .time)
+  | H.Refused m ↦ shows (saved m y x) k t
 ]
 
 -- RULES Q: question 1, then whether the memory holds a record, which is part of question 2, and the hand-out of that record
-unfoldable pub decodesIn : List ℕ → List ℕ → List ℤ → List Float → ℕ → Float → Shows
-decodesIn s l n c k t =
-    if not (leb (length s) 16777216) then shows (kept 1 l n c) k t
-    else (if not (isRecord n c) then shows (kept 2 l n c) k t
-    else handedOut (handOut (recordOf n c) s l) n c k t)
+unfoldable pub decodesIn : List ℕ → List ℕ → Memory → ℕ → Float → Shows
+decodesIn s l x k t =
+    if not (leb (length s) 16777216) then shows (kept 1 l x) k t
+    else (if not (isRecord x) then shows (kept 2 l x) k t
+    else handedOut (handOut (recordOf x) s l) x k t)
+
+-- a conversion reads no clock, so a host lends none: the record has one of 0.0
+abbrev pub still : List Float
+still = replicate 4 noTime
+
+abbrev pub unclocked : List ℕ → List ℤ → List ℕ → Memory
+unclocked n i m = memory n i m still
 
 -- what a conversion leaves: its answer and the whole area
 pub record Converts : Type 0 where
@@ -80,7 +90,7 @@ abbrev pub converts : ℕ → List ℕ → Converts
 converts answer area = record { answer = answer; area = area }
 
 -- RULES Q: the conversion: 2 where the memory holds no record
-unfoldable pub convertsIn : List ℕ → List ℤ → List Float → ℕ → List ℕ → ℕ → ℕ → Converts
-convertsIn l n c k a w h =
-    if not (isRecord n c) then converts 2 a
-    else (let x = Conversion.converted (recordOf n c) l k a w h in converts (convertedNumber (x .answer)) (x .area))
+unfoldable pub convertsIn : List ℕ → Memory → ℕ → List ℕ → ℕ → ℕ → Converts
+convertsIn l x k a w h =
+    if not (isRecord x) then converts 2 a
+    else (let y = Conversion.converted (recordOf x) l k a w h in converts (convertedNumber (y .answer)) (y .area))

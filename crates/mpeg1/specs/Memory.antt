@@ -1,95 +1,120 @@
--- The record in memory that a host owns: 222 numbers and four floats.
+-- The record in memory that a host owns: four parts, each of its fields' own type.
 use mathlib.Core.Path.{_≡_}
-use mathlib.Core.Bool.{Bool, true, false, _&&_}
-use mathlib.Core.List.{List, [], _∷_, _++_, map}
-use Prim.Native.Nat.{ℕ, _+_}
-use lib.Dec.{leb}
+use mathlib.Core.Bool.{Bool, true, cond, _&&_}
+use mathlib.Core.List.{List, [], _∷_, _++_}
+use Prim.Native.Nat.{ℕ, _+_, _≤_}
+use lib.Dec.{eqb, leb}
 use lib.Ieee.{Float, nan}
 use lib.IntN.{ℤ, pos}
 use lib.ListN.{length, getD, drop}
 use borrow.Rule.Slice.PartMut.{midOf}
-use Rattle.bits.specs.Programs.{eqZ}
 use Rattle.picture.specs.declared.state.Motion.{Motion}
 use Rattle.picture.specs.declared.state.Picture.{Picture}
 use Rattle.decoder.specs.declared.record.Clock.{Clock}
 use Rattle.decoder.specs.declared.record.Sequence.{Sequence}
 use Rattle.decoder.specs.declared.record.Decoder.{Decoder}
 use Rattle.decoder.specs.Record.{place}
-use Rattle.mpeg1.specs.Fields.{flag, size, flagOf, sizeOf, naturalOf, integerOf}
+
+pub record Memory : Type 0 where
+  pub numbers : List ℕ
+  pub integers : List ℤ
+  pub matrices : List ℕ
+  pub clock : List Float
+
+abbrev pub memory : List ℕ → List ℤ → List ℕ → List Float → Memory
+memory n i m c = record { numbers = n; integers = i; matrices = m; clock = c }
+
+-- ---- what is written
+
+-- a flag is 0 or 1
+abbrev pub flag : Bool → ℕ
+flag x = cond x 1 0
 
 -- the numbers of a record, part by part
-abbrev pub headNumbers : ℕ → Sequence → List ℤ
+abbrev pub headNumbers : ℕ → Sequence → List ℕ
 headNumbers at q =
-    size at ∷ flag (q .«has_sequence_header») ∷ size (q .width) ∷ size (q .height) ∷ size (q .sizes .«mb_width») ∷ size (q .sizes .«mb_height»)
-    ∷ size (q .sizes .«mb_size») ∷ []
+    at ∷ flag (q .«has_sequence_header») ∷ q .width ∷ q .height ∷ q .sizes .«mb_width» ∷ q .sizes .«mb_height» ∷ q .sizes .«mb_size» ∷ []
 
-abbrev pub sequenceNumbers : ℕ → Sequence → List ℤ
-sequenceNumbers at q = headNumbers at q ++ map pos (q .matrices .«intra_quant_matrix») ++ map pos (q .matrices .«non_intra_quant_matrix»)
+abbrev pub stateNumbers : Picture → List ℕ
+stateNumbers p = p .«picture_type» ∷ p .stores .cur ∷ p .stores .fwd ∷ p .stores .bwd ∷ p .slice .«quantizer_scale» ∷ []
 
-abbrev pub motionNumbers : Motion → List ℤ
-motionNumbers m = flag (m .«full_px») ∷ flag (m .«is_set») ∷ pos (m .«r_size») ∷ m .h ∷ m .v ∷ []
+abbrev pub motionNumbers : Motion → List ℕ
+motionNumbers m = flag (m .«full_px») ∷ flag (m .«is_set») ∷ m .«r_size» ∷ []
 
-abbrev pub stateNumbers : Picture → List ℤ
-stateNumbers p =
-    pos (p .«picture_type») ∷ p .«start_code» ∷ size (p .stores .cur) ∷ size (p .stores .fwd) ∷ size (p .stores .bwd)
-    ∷ pos (p .slice .«quantizer_scale») ∷ p .slice .«macroblock_address» ∷ []
+abbrev pub lastNumbers : Bool → ℕ → ℕ → List ℕ
+lastNumbers held handed stop = flag held ∷ handed ∷ stop ∷ []
 
-abbrev pub pictureNumbers : Picture → List ℤ
-pictureNumbers p =
-    stateNumbers p ++ motionNumbers (p .slice .«motion_forward») ++ motionNumbers (p .slice .«motion_backward»)
-    ++ p .slice .«dc_predictor» ++ p .slice .«block_data»
+-- which field each number is, each integer, each byte and each float
+abbrev pub numbersOf : Decoder → List ℕ
+numbersOf d =
+    headNumbers (place d) (d .sequence) ++ stateNumbers (d .picture) ++ motionNumbers (d .picture .slice .«motion_forward»)
+    ++ motionNumbers (d .picture .slice .«motion_backward») ++ lastNumbers (d .«has_reference_frame») (d .«frames_decoded») (d .stop)
 
-abbrev pub lastNumbers : Bool → ℕ → ℕ → List ℤ
-lastNumbers held handed stop = flag held ∷ pos handed ∷ pos stop ∷ []
+abbrev pub headIntegers : Picture → List ℤ
+headIntegers p =
+    p .«start_code» ∷ p .slice .«macroblock_address» ∷ p .slice .«motion_forward» .h ∷ p .slice .«motion_forward» .v
+    ∷ p .slice .«motion_backward» .h ∷ p .slice .«motion_backward» .v ∷ []
 
--- which field each number is, and each float
-unfoldable pub numbersOf : Decoder → List ℤ
-numbersOf d = sequenceNumbers (place d) (d .sequence) ++ pictureNumbers (d .picture) ++ lastNumbers (d .«has_reference_frame») (d .«frames_decoded») (d .stop)
+abbrev pub integersOf : Picture → List ℤ
+integersOf p = headIntegers p ++ p .slice .«dc_predictor» ++ p .slice .«block_data»
 
-unfoldable pub clockOf : Decoder → List Float
-clockOf d = d .clock .framerate ∷ d .clock .«pixel_aspect_ratio» ∷ d .clock .time ∷ d .clock .«last_frame_time» ∷ []
+abbrev pub matricesOf : Sequence → List ℕ
+matricesOf q = q .matrices .«intra_quant_matrix» ++ q .matrices .«non_intra_quant_matrix»
 
--- a record written over the beginning of a memory: what lies behind it stays
+abbrev pub clockOf : Clock → List Float
+clockOf c = c .framerate ∷ c .«pixel_aspect_ratio» ∷ c .time ∷ c .«last_frame_time» ∷ []
+
+-- a part written over the beginning of a memory: what lies behind it stays
 abbrev pub over : {A : Type 0} → List A → List A → List A
 over x l = x ++ drop (length x) l
 
--- what is read of a memory
-abbrev pub number : List ℤ → ℕ → ℤ
-number n k = getD n k (pos 0)
+unfoldable pub written : Decoder → Memory → Memory
+written d x =
+    memory (over (numbersOf d) (x .numbers)) (over (integersOf (d .picture)) (x .integers)) (over (matricesOf (d .sequence)) (x .matrices))
+    (over (clockOf (d .clock)) (x .clock))
 
-abbrev pub motionIn : List ℤ → ℕ → Motion
-motionIn n k = record {
+-- ---- what is read
+
+abbrev pub number : List ℕ → ℕ → ℕ
+number n k = getD n k 0
+
+abbrev pub integer : List ℤ → ℕ → ℤ
+integer i k = getD i k (pos 0)
+
+abbrev pub flagOf : ℕ → Bool
+flagOf x = eqb x 1
+
+-- a motion, of the numbers from k on and the integers from j on
+abbrev pub motionIn : List ℕ → ℕ → List ℤ → ℕ → Motion
+motionIn n k i j = record {
   «full_px» = flagOf (number n k);
   «is_set» = flagOf (number n (k + 1));
-  «r_size» = naturalOf 4294967295 (number n (k + 2));
-  h = integerOf (number n (k + 3));
-  v = integerOf (number n (k + 4));
+  «r_size» = number n (k + 2);
+  h = integer i j;
+  v = integer i (j + 1);
 }
 
-abbrev pub sequenceIn : List ℤ → Sequence
-sequenceIn n = record {
+abbrev pub sequenceIn : List ℕ → List ℕ → Sequence
+sequenceIn n m = record {
   «has_sequence_header» = flagOf (number n 1);
-  width = sizeOf (number n 2);
-  height = sizeOf (number n 3);
-  sizes = record { «mb_width» = sizeOf (number n 4); «mb_height» = sizeOf (number n 5); «mb_size» = sizeOf (number n 6) };
-  matrices = record {
-    «intra_quant_matrix» = map (naturalOf 255) (midOf 7 64 n);
-    «non_intra_quant_matrix» = map (naturalOf 255) (midOf 71 64 n);
-  };
+  width = number n 2;
+  height = number n 3;
+  sizes = record { «mb_width» = number n 4; «mb_height» = number n 5; «mb_size» = number n 6 };
+  matrices = record { «intra_quant_matrix» = midOf 0 64 m; «non_intra_quant_matrix» = midOf 64 64 m };
 }
 
-abbrev pub pictureIn : List ℤ → Picture
-pictureIn n = record {
-  «picture_type» = naturalOf 4294967295 (number n 135);
-  «start_code» = integerOf (number n 136);
-  stores = record { cur = sizeOf (number n 137); fwd = sizeOf (number n 138); bwd = sizeOf (number n 139) };
+abbrev pub pictureIn : List ℕ → List ℤ → Picture
+pictureIn n i = record {
+  «picture_type» = number n 7;
+  «start_code» = integer i 0;
+  stores = record { cur = number n 8; fwd = number n 9; bwd = number n 10 };
   slice = record {
-    «quantizer_scale» = naturalOf 4294967295 (number n 140);
-    «macroblock_address» = integerOf (number n 141);
-    «motion_forward» = motionIn n 142;
-    «motion_backward» = motionIn n 147;
-    «dc_predictor» = map integerOf (midOf 152 3 n);
-    «block_data» = map integerOf (midOf 155 64 n);
+    «quantizer_scale» = number n 11;
+    «macroblock_address» = integer i 1;
+    «motion_forward» = motionIn n 12 i 2;
+    «motion_backward» = motionIn n 15 i 4;
+    «dc_predictor» = midOf 6 3 i;
+    «block_data» = midOf 9 64 i;
   };
 }
 
@@ -102,28 +127,55 @@ clockIn c = record {
 }
 
 -- the record read of a memory
-unfoldable pub recordOf : List ℤ → List Float → Decoder
-recordOf n c = record {
-  reader = record { at = record { 0 = sizeOf (number n 0) } };
-  sequence = sequenceIn n;
-  picture = pictureIn n;
-  clock = clockIn c;
-  «has_reference_frame» = flagOf (number n 219);
-  «frames_decoded» = naturalOf 4294967295 (number n 220);
-  stop = naturalOf 4294967295 (number n 221);
+unfoldable pub recordOf : Memory → Decoder
+recordOf x = let n = x .numbers in record {
+  reader = record { at = record { 0 = number n 0 } };
+  sequence = sequenceIn n (x .matrices);
+  picture = pictureIn n (x .integers);
+  clock = clockIn (x .clock);
+  «has_reference_frame» = flagOf (number n 18);
+  «frames_decoded» = number n 19;
+  stop = number n 20;
 }
 
--- does a list begin with another?
-unfoldable pub begins : List ℤ → List ℤ → Bool
-begins [] l = true
-begins (a ∷ x) [] = false
-begins (a ∷ x) (b ∷ l) = eqZ a b && begins x l
+-- ---- does a memory hold a record?
 
--- a memory holds a record where that, written again, gives the same numbers: each is a value of its field's type
-unfoldable pub isRecord : List ℤ → List Float → Bool
-isRecord n c = leb 222 (length n) && leb 4 (length c) && begins (numbersOf (recordOf n c)) n
+-- is there room for one?
+abbrev pub roomy : Memory → Bool
+roomy x = leb 21 (length (x .numbers)) && leb 73 (length (x .integers)) && leb 128 (length (x .matrices)) && leb 4 (length (x .clock))
+
+-- each flag is 0 or 1
+abbrev pub flagsIn : List ℕ → Bool
+flagsIn n =
+    leb (number n 1) 1 && leb (number n 12) 1 && leb (number n 13) 1 && leb (number n 15) 1 && leb (number n 16) 1 && leb (number n 18) 1
+
+-- each number of 32 bits is one
+abbrev pub shortsIn : List ℕ → Bool
+shortsIn n =
+    leb (number n 7) 4294967295 && leb (number n 11) 4294967295 && leb (number n 14) 4294967295 && leb (number n 17) 4294967295
+    && leb (number n 19) 4294967295 && leb (number n 20) 4294967295
+
+-- every other number, integer, byte and float is a value of its field's type
+unfoldable pub isRecord : Memory → Bool
+isRecord x = roomy x && flagsIn (x .numbers) && shortsIn (x .numbers)
 
 -- it holds the record d
-pub record Holds (n : List ℤ) (c : List Float) (d : Decoder) : Type 0 where
-  pub is : isRecord n c ≡ true
-  pub record-is : recordOf n c ≡ d
+pub record Holds (x : Memory) (d : Decoder) : Type 0 where
+  pub is : isRecord x ≡ true
+  pub record-is : recordOf x ≡ d
+
+-- the same question, as a reader of the parts needs it
+pub record Shorts (n : List ℕ) : Type 0 where
+  pub long : 21 ≤ length n
+  pub type : number n 7 ≤ 4294967295
+  pub scale : number n 11 ≤ 4294967295
+  pub forward : number n 14 ≤ 4294967295
+  pub backward : number n 17 ≤ 4294967295
+  pub handed : number n 19 ≤ 4294967295
+  pub stop : number n 20 ≤ 4294967295
+
+pub record Readable (x : Memory) : Type 0 where
+  pub numbers : Shorts (x .numbers)
+  pub integers : 73 ≤ length (x .integers)
+  pub matrices : 128 ≤ length (x .matrices)
+  pub clock : 4 ≤ length (x .clock)

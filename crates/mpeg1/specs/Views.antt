@@ -1,41 +1,56 @@
 -- What a host reads of a record, and the sizes that it needs.
 use mathlib.Core.Bool.{cond, _&&_}
 use mathlib.Core.List.{List}
-use Prim.Native.Nat.{ℕ, _*_}
+use Prim.Native.Nat.{ℕ, _*_, _/_, _≤_}
 use lib.Dec.{eqb, leb}
 use lib.Ieee.{Float, nan}
-use lib.IntN.{ℤ}
 use lib.ListN.{length, getD, replicate}
 use Rattle.bits.specs.Programs.{if_then_else_}
 use Rattle.prediction.specs.declared.planes.Plane.{Plane}
 use Rattle.prediction.specs.declared.planes.Plane.the-variants.{Y, Cr, Cb}
 use Rattle.prediction.specs.Planes.{blockSize, planeLength, planeStart}
-use Rattle.decoder.specs.declared.record.Decoder.{Decoder}
-use Rattle.decoder.specs.Record.{noTime, fresh}
-use Rattle.decoder.specs.Possible.{sizesOf, possible}
-use Rattle.mpeg1.specs.Memory.{recordOf, isRecord}
+use Rattle.decoder.specs.declared.record.Sequence.{Sequence}
+use Rattle.decoder.specs.Record.{noTime, freshSequence}
+use Rattle.decoder.specs.Possible.{sizesOf, possibleSequence}
+use Rattle.mpeg1.specs.Memory.{number, sequenceIn}
 
--- a clock of 0.0, for a record of which only the numbers are looked at
-abbrev pub still : List Float
-still = replicate 4 noTime
+-- what numbers 1 to 6 say of the sequence; no view reads a matrix
+abbrev pub sequenceSeen : List ℕ → Sequence
+sequenceSeen n = sequenceIn n (replicate 128 0)
 
--- RULES Q2: the record of these numbers, if it is possible; else the fresh one, whose sizes and type are 0
-unfoldable pub seen : List ℤ → Decoder
-seen n = if isRecord n still then (if possible (recordOf n still) then recordOf n still else fresh) else fresh
+-- RULES Q2: that, if it is possible; else the fresh one, whose sizes are 0
+unfoldable pub seen : List ℕ → Sequence
+seen n = if leb 21 (length n) && leb (number n 1) 1 then (if possibleSequence (sequenceSeen n) then sequenceSeen n else freshSequence) else freshSequence
+
+-- the macroblocks of a picture are few
+pub record Few (q : Sequence) : Type 0 where
+  pub across : q .sizes .«mb_width» ≤ 256
+  pub size : q .sizes .«mb_size» ≤ 65536
+
+-- number k if it is at most m, else 0
+abbrev pub numberSeen : List ℕ → ℕ → ℕ → ℕ
+numberSeen n k m = if leb 21 (length n) && leb (number n k) m then number n k else 0
+
+-- RULES Q2: the type read last, and the whole bytes read so far
+abbrev pub typeSeen : List ℕ → ℕ
+typeSeen n = numberSeen n 7 7
+
+abbrev pub bytesRead : List ℕ → ℕ
+bytesRead n = numberSeen n 0 134217728 / 8
 
 -- the plane of a number: Y, Cr, Cb
 abbrev pub planeNumber : ℕ → Plane
 planeNumber p = cond (eqb p 0) Y (cond (eqb p 1) Cr Cb)
 
 -- RULES 6.11: bytes in a row of a plane; bytes of a plane; where the plane of the store number k begins. 0 for another number of a plane or a store
-abbrev pub rowBytes : List ℤ → ℕ → ℕ
-rowBytes n p = if leb p 2 then seen n .sequence .sizes .«mb_width» * blockSize (planeNumber p) else 0
+abbrev pub rowBytes : List ℕ → ℕ → ℕ
+rowBytes n p = if leb p 2 then seen n .sizes .«mb_width» * blockSize (planeNumber p) else 0
 
-abbrev pub planeBytes : List ℤ → ℕ → ℕ
-planeBytes n p = if leb p 2 then planeLength (planeNumber p) (seen n .sequence .sizes .«mb_size») else 0
+abbrev pub planeBytes : List ℕ → ℕ → ℕ
+planeBytes n p = if leb p 2 then planeLength (planeNumber p) (seen n .sizes .«mb_size») else 0
 
-abbrev pub planeBegin : List ℤ → ℕ → ℕ → ℕ
-planeBegin n k p = if leb k 2 && leb p 2 then planeStart k (planeNumber p) (seen n .sequence .sizes .«mb_size») else 0
+abbrev pub planeBegin : List ℕ → ℕ → ℕ → ℕ
+planeBegin n k p = if leb k 2 && leb p 2 then planeStart k (planeNumber p) (seen n .sizes .«mb_size») else 0
 
 -- number k of a clock; 0.0 where the memory is too short
 abbrev pub clockNumber : List Float → ℕ → Float

@@ -1,4 +1,5 @@
 // The three calls. Stream, store and record lie in the host's memory.
+use crate::reading::has_room;
 use crate::reading::is_record;
 use crate::reading::record_of;
 use crate::writing::save;
@@ -12,8 +13,8 @@ ghost use lib.Dec.{leb};
 ghost use lib.ListN.{length};
 ghost use Rattle.decoder.specs.Opening as Open;
 ghost use Rattle.decoder.specs.HandOut as Out;
-ghost use Rattle.mpeg1.specs.Memory.{recordOf, isRecord, Holds};
-ghost use Rattle.mpeg1.specs.Calls.{kept, shows, roomy, openingNumber, convertedNumber, opensIn, decodesIn, converts, convertsIn};
+ghost use Rattle.mpeg1.specs.Memory.{memory, roomy, recordOf, isRecord, Holds};
+ghost use Rattle.mpeg1.specs.Calls.{kept, shows, openingNumber, convertedNumber, opensIn, HandsOut, decodesIn, unclocked, converts, convertsIn};
 
 fn opening_number(x: Opening) -> u32
     ensures { λ r. ⌜ r ≡ openingNumber x ⌝ }
@@ -38,21 +39,45 @@ fn converted_number(x: Converted) -> u32
 pub extern "C" fn mpeg1_open(
     stream: &[u8],
     store: &mut [u8],
-    numbers: &mut [i64],
+    numbers: &mut [usize],
+    integers: &mut [i32],
+    matrices: &mut [u8],
     clock: &mut [f64],
 ) -> u32
-    ensures left { λ r. ⌜ kept r (now (store .exit)) (now (numbers .exit)) (now (clock .exit))
-        ≡ opensIn (now (stream .entry)) (now (store .entry)) (now (numbers .entry)) (now (clock .entry)) ⌝ }
-    ensures held { λ r. ⌜ (roomy (now (numbers .entry)) (now (clock .entry)) ≡ true
-        → Holds (now (numbers .exit)) (now (clock .exit)) (Open.opening (now (stream .entry)) (now (store .entry)) .decoder)) ⌝ }
+    ensures left { λ r. ⌜ kept r (now (store .exit)) (memory (now (numbers .exit)) (now (integers .exit)) (now (matrices .exit)) (now (clock .exit)))
+        ≡ opensIn (now (stream .entry)) (now (store .entry))
+        (memory (now (numbers .entry)) (now (integers .entry)) (now (matrices .entry)) (now (clock .entry))) ⌝ }
+    ensures held { λ r. ⌜ (roomy (memory (now (numbers .entry)) (now (integers .entry)) (now (matrices .entry)) (now (clock .entry))) ≡ true
+        → Holds (memory (now (numbers .exit)) (now (integers .exit)) (now (matrices .exit)) (now (clock .exit)))
+        (Open.opening (now (stream .entry)) (now (store .entry)) .decoder)) ⌝ }
 {
-    if !((222 <= numbers.len()) & (4 <= clock.len())) {
+    if !has_room(numbers, integers, matrices, clock) {
         return 2;
     }
     let opened = Decoder::open(stream, store);
     let answer = opened.answer;
-    save(opened.decoder, numbers, clock);
+    save(opened.decoder, numbers, integers, matrices, clock);
     opening_number(answer)
+}
+
+// RULES 8: the hand-out of the record that the memory holds.
+fn hand_out(
+    stream: &[u8],
+    store: &mut [u8],
+    numbers: &mut [usize],
+    integers: &mut [i32],
+    matrices: &mut [u8],
+    clock: &mut [f64],
+) -> Outcome
+    requires { ⌜ isRecord (memory (now numbers) (now integers) (now matrices) (now clock)) ≡ true ⌝ }
+    ensures { λ r. ⌜ HandsOut r (now (store .exit)) (memory (now (numbers .exit)) (now (integers .exit)) (now (matrices .exit)) (now (clock .exit)))
+        (Out.handOut (recordOf (memory (now (numbers .entry)) (now (integers .entry)) (now (matrices .entry)) (now (clock .entry))))
+        (now (stream .entry)) (now (store .entry)))
+        (memory (now (numbers .entry)) (now (integers .entry)) (now (matrices .entry)) (now (clock .entry))) ⌝ }
+{
+    let handed = record_of(numbers, integers, matrices, clock).decode(stream, store);
+    save(handed.decoder, numbers, integers, matrices, clock);
+    handed.outcome
 }
 
 // RULES 8: 0 with the picture's store and time, or 1 to 9.
@@ -60,26 +85,30 @@ pub extern "C" fn mpeg1_open(
 pub extern "C" fn mpeg1_decode(
     stream: &[u8],
     store: &mut [u8],
-    numbers: &mut [i64],
+    numbers: &mut [usize],
+    integers: &mut [i32],
+    matrices: &mut [u8],
     clock: &mut [f64],
     shown: &mut usize,
     time: &mut f64,
 ) -> u32
-    ensures left { λ r. ⌜ shows (kept r (now (store .exit)) (now (numbers .exit)) (now (clock .exit))) (now (shown .exit)) (now (time .exit))
-        ≡ decodesIn (now (stream .entry)) (now (store .entry)) (now (numbers .entry)) (now (clock .entry)) (now (shown .entry)) (now (time .entry)) ⌝ }
-    ensures held { λ r. ⌜ (isRecord (now (numbers .entry)) (now (clock .entry)) ≡ true → leb (length (now (stream .entry))) 16777216 ≡ true
-        → Holds (now (numbers .exit)) (now (clock .exit))
-        (Out.handOut (recordOf (now (numbers .entry)) (now (clock .entry))) (now (stream .entry)) (now (store .entry)) .decoder)) ⌝ }
+    ensures left { λ r. ⌜ shows (kept r (now (store .exit))
+        (memory (now (numbers .exit)) (now (integers .exit)) (now (matrices .exit)) (now (clock .exit)))) (now (shown .exit)) (now (time .exit))
+        ≡ decodesIn (now (stream .entry)) (now (store .entry))
+        (memory (now (numbers .entry)) (now (integers .entry)) (now (matrices .entry)) (now (clock .entry))) (now (shown .entry)) (now (time .entry)) ⌝ }
+    ensures held { λ r. ⌜ (isRecord (memory (now (numbers .entry)) (now (integers .entry)) (now (matrices .entry)) (now (clock .entry))) ≡ true
+        → leb (length (now (stream .entry))) 16777216 ≡ true
+        → Holds (memory (now (numbers .exit)) (now (integers .exit)) (now (matrices .exit)) (now (clock .exit)))
+        (Out.handOut (recordOf (memory (now (numbers .entry)) (now (integers .entry)) (now (matrices .entry)) (now (clock .entry))))
+        (now (stream .entry)) (now (store .entry)) .decoder)) ⌝ }
 {
     if 16777216 < stream.len() {
         return 1;
     }
-    if !is_record(numbers, clock) {
+    if !is_record(numbers, integers, matrices, clock) {
         return 2;
     }
-    let handed = record_of(numbers, clock).decode(stream, store);
-    save(handed.decoder, numbers, clock);
-    let outcome = handed.outcome;
+    let outcome = hand_out(stream, store, numbers, integers, matrices, clock);
     match outcome {
         Outcome::Picture(p) => {
             *shown = p.store;
@@ -94,20 +123,23 @@ pub extern "C" fn mpeg1_decode(
 #[no_mangle]
 pub extern "C" fn mpeg1_write_rgb_scaled(
     store: &[u8],
-    numbers: &[i64],
-    clock: &[f64],
+    numbers: &[usize],
+    integers: &[i32],
+    matrices: &[u8],
     index: usize,
     area: &mut [u32],
     width: usize,
     height: usize,
 ) -> u32
     ensures { λ r. ⌜ converts r (now (area .exit))
-        ≡ convertsIn (now (store .entry)) (now (numbers .entry)) (now (clock .entry)) index (now (area .entry)) width height ⌝ }
+        ≡ convertsIn (now (store .entry)) (unclocked (now (numbers .entry)) (now (integers .entry)) (now (matrices .entry)))
+        index (now (area .entry)) width height ⌝ }
 {
-    if !is_record(numbers, clock) {
+    let still = [0.0f64; 4];
+    if !is_record(numbers, integers, matrices, &still) {
         return 2;
     }
-    let d = record_of(numbers, clock);
+    let d = record_of(numbers, integers, matrices, &still);
     let answer = d.write_rgb_scaled(store, index, area, width, height);
     converted_number(answer)
 }

@@ -1,6 +1,6 @@
-// The calls of `decoder` for C and Rust hosts. The record crosses as numbers and floats in memory that the host owns.
+// The calls of `decoder` for C and Rust hosts. The record crosses in memory that the host owns, each field in its own type.
 mod calls;
-mod fields;
+mod copies;
 mod reading;
 mod views;
 mod writing;

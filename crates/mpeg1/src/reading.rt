@@ -1,10 +1,6 @@
 // The record read of memory.
-use crate::fields::byte_of;
-use crate::fields::flag_of;
-use crate::fields::integer_of;
-use crate::fields::natural_of;
-use crate::fields::size_of;
-use crate::writing::numbers_of;
+use crate::copies::put_bytes;
+use crate::copies::put_integers;
 use bits::position::BitPosition;
 use bits::reader::Reader;
 use decoder::record::Clock;
@@ -17,58 +13,49 @@ use picture::state::Sizes;
 use picture::state::Slice;
 use picture::state::Stores;
 ghost use mathlib.Core.Path.{_≡_};
-ghost use mathlib.Core.List.{map};
 ghost use Prim.Native.Nat.{_+_, _≤_};
 ghost use borrow.Rule.Slice.PartMut.{midOf};
 ghost use lib.ListN.{length};
-ghost use Rattle.mpeg1.specs.Fields.{naturalOf, integerOf};
-ghost use Rattle.mpeg1.specs.Memory.{motionIn, sequenceIn, pictureIn, clockIn, recordOf, begins, isRecord};
+ghost use Rattle.mpeg1.specs.Memory.{memory, number, motionIn, sequenceIn, pictureIn, clockIn, recordOf, flagsIn, shortsIn, roomy, isRecord};
+ghost use Rattle.mpeg1.specs.Memory.{Shorts, Readable};
 
-fn bytes_at(numbers: &[i64], at: usize) -> [u8; 64]
-    requires { ⌜ at + 64 ≤ length (now numbers) ⌝ }
-    ensures { λ r. ⌜ r ≡ map (naturalOf 255) (midOf at 64 (now (numbers .entry))) ⌝ }
-{
-    let mut values = [0u8; 64];
-    let mut i = 0;
-    while i < 64 {
-        values[i] = byte_of(numbers[at + i]);
-        i += 1;
-    }
-    values
-}
-
-fn integers_at(numbers: &[i64], at: usize) -> [i32; 64]
-    requires { ⌜ at + 64 ≤ length (now numbers) ⌝ }
-    ensures { λ r. ⌜ r ≡ map integerOf (midOf at 64 (now (numbers .entry))) ⌝ }
+fn block_in(integers: &[i32]) -> [i32; 64]
+    requires { ⌜ 73 ≤ length (now integers) ⌝ }
+    ensures { λ r. ⌜ r ≡ midOf 9 64 (now (integers .entry)) ⌝ }
 {
     let mut values = [0i32; 64];
-    let mut i = 0;
-    while i < 64 {
-        values[i] = integer_of(numbers[at + i]);
-        i += 1;
-    }
+    put_integers(&mut values, 0, &integers[9..73]);
     values
 }
 
-fn three_at(numbers: &[i64], at: usize) -> [i32; 3]
-    requires { ⌜ at + 3 ≤ length (now numbers) ⌝ }
-    ensures { λ r. ⌜ r ≡ map integerOf (midOf at 3 (now (numbers .entry))) ⌝ }
+fn predictors_in(integers: &[i32]) -> [i32; 3]
+    requires { ⌜ 73 ≤ length (now integers) ⌝ }
+    ensures { λ r. ⌜ r ≡ midOf 6 3 (now (integers .entry)) ⌝ }
 {
-    let a = integer_of(numbers[at]);
-    let b = integer_of(numbers[at + 1]);
-    let c = integer_of(numbers[at + 2]);
-    [a, b, c]
+    let mut values = [0i32; 3];
+    put_integers(&mut values, 0, &integers[6..9]);
+    values
 }
 
-fn motion_at(numbers: &[i64], at: usize) -> Motion
-    requires { ⌜ at + 5 ≤ length (now numbers) ⌝ }
-    ensures { λ r. ⌜ r ≡ motionIn (now (numbers .entry)) at ⌝ }
+fn matrix_in(matrices: &[u8], at: usize) -> [u8; 64]
+    requires { ⌜ at + 64 ≤ length (now matrices) ⌝ }
+    ensures { λ r. ⌜ r ≡ midOf at 64 (now (matrices .entry)) ⌝ }
 {
-    let full_px = flag_of(numbers[at]);
-    let is_set = flag_of(numbers[at + 1]);
-    let r_size = natural_of(numbers[at + 2]);
-    let h = integer_of(numbers[at + 3]);
-    let v = integer_of(numbers[at + 4]);
+    let end = at + 64;
+    let mut values = [0u8; 64];
+    put_bytes(&mut values, 0, &matrices[at..end]);
+    values
+}
+
+fn motion_in(numbers: &[usize], at: usize, integers: &[i32], from: usize) -> Motion
+    requires { ⌜ (at + 3 ≤ length (now numbers)) × (number (now numbers) (at + 2) ≤ 4294967295) × (from + 2 ≤ length (now integers)) ⌝ }
+    ensures { λ r. ⌜ r ≡ motionIn (now (numbers .entry)) at (now (integers .entry)) from ⌝ }
+{
+    let full_px = numbers[at] == 1;
+    let is_set = numbers[at + 1] == 1;
+    let r_size = numbers[at + 2] as u32;
+    let h = integers[from];
+    let v = integers[from + 1];
     Motion {
         full_px,
         is_set,
@@ -78,23 +65,23 @@ fn motion_at(numbers: &[i64], at: usize) -> Motion
     }
 }
 
-fn sequence_in(numbers: &[i64]) -> Sequence
-    requires { ⌜ 222 ≤ length (now numbers) ⌝ }
-    ensures { λ r. ⌜ r ≡ sequenceIn (now (numbers .entry)) ⌝ }
+pub fn sequence_in(numbers: &[usize], matrices: &[u8]) -> Sequence
+    requires { ⌜ (21 ≤ length (now numbers)) × (128 ≤ length (now matrices)) ⌝ }
+    ensures { λ r. ⌜ r ≡ sequenceIn (now (numbers .entry)) (now (matrices .entry)) ⌝ }
 {
-    let has_sequence_header = flag_of(numbers[1]);
-    let width = size_of(numbers[2]);
-    let height = size_of(numbers[3]);
-    let mb_width = size_of(numbers[4]);
-    let mb_height = size_of(numbers[5]);
-    let mb_size = size_of(numbers[6]);
+    let has_sequence_header = numbers[1] == 1;
+    let width = numbers[2];
+    let height = numbers[3];
+    let mb_width = numbers[4];
+    let mb_height = numbers[5];
+    let mb_size = numbers[6];
     let sizes = Sizes {
         mb_width,
         mb_height,
         mb_size,
     };
-    let intra_quant_matrix = bytes_at(numbers, 7);
-    let non_intra_quant_matrix = bytes_at(numbers, 71);
+    let intra_quant_matrix = matrix_in(matrices, 0);
+    let non_intra_quant_matrix = matrix_in(matrices, 64);
     let matrices = Matrices {
         intra_quant_matrix,
         non_intra_quant_matrix,
@@ -108,22 +95,22 @@ fn sequence_in(numbers: &[i64]) -> Sequence
     }
 }
 
-fn picture_in(numbers: &[i64]) -> Picture
-    requires { ⌜ 222 ≤ length (now numbers) ⌝ }
-    ensures { λ r. ⌜ r ≡ pictureIn (now (numbers .entry)) ⌝ }
+fn picture_in(numbers: &[usize], integers: &[i32]) -> Picture
+    requires { ⌜ Shorts (now numbers) × (73 ≤ length (now integers)) ⌝ }
+    ensures { λ r. ⌜ r ≡ pictureIn (now (numbers .entry)) (now (integers .entry)) ⌝ }
 {
-    let picture_type = natural_of(numbers[135]);
-    let start_code = integer_of(numbers[136]);
-    let cur = size_of(numbers[137]);
-    let fwd = size_of(numbers[138]);
-    let bwd = size_of(numbers[139]);
+    let picture_type = numbers[7] as u32;
+    let start_code = integers[0];
+    let cur = numbers[8];
+    let fwd = numbers[9];
+    let bwd = numbers[10];
     let stores = Stores { cur, fwd, bwd };
-    let quantizer_scale = natural_of(numbers[140]);
-    let macroblock_address = integer_of(numbers[141]);
-    let motion_forward = motion_at(numbers, 142);
-    let motion_backward = motion_at(numbers, 147);
-    let dc_predictor = three_at(numbers, 152);
-    let block_data = integers_at(numbers, 155);
+    let quantizer_scale = numbers[11] as u32;
+    let macroblock_address = integers[1];
+    let motion_forward = motion_in(numbers, 12, integers, 2);
+    let motion_backward = motion_in(numbers, 15, integers, 4);
+    let dc_predictor = predictors_in(integers);
+    let block_data = block_in(integers);
     let slice = Slice {
         quantizer_scale,
         macroblock_address,
@@ -156,19 +143,19 @@ fn clock_in(clock: &[f64]) -> Clock
     }
 }
 
-pub fn record_of(numbers: &[i64], clock: &[f64]) -> Decoder
-    requires { ⌜ (222 ≤ length (now numbers)) × (4 ≤ length (now clock)) ⌝ }
-    ensures { λ r. ⌜ r ≡ recordOf (now (numbers .entry)) (now (clock .entry)) ⌝ }
+pub fn record_of(numbers: &[usize], integers: &[i32], matrices: &[u8], clock: &[f64]) -> Decoder
+    requires { ⌜ Readable (memory (now numbers) (now integers) (now matrices) (now clock)) ⌝ }
+    ensures { λ r. ⌜ r ≡ recordOf (memory (now (numbers .entry)) (now (integers .entry)) (now (matrices .entry)) (now (clock .entry))) ⌝ }
 {
-    let at = size_of(numbers[0]);
+    let at = numbers[0];
     let reader = Reader {
         at: BitPosition(at),
     };
-    let sequence = sequence_in(numbers);
-    let picture = picture_in(numbers);
-    let has_reference_frame = flag_of(numbers[219]);
-    let frames_decoded = natural_of(numbers[220]);
-    let stop = natural_of(numbers[221]);
+    let sequence = sequence_in(numbers, matrices);
+    let picture = picture_in(numbers, integers);
+    let has_reference_frame = numbers[18] == 1;
+    let frames_decoded = numbers[19] as u32;
+    let stop = numbers[20] as u32;
     Decoder {
         reader,
         sequence,
@@ -180,30 +167,42 @@ pub fn record_of(numbers: &[i64], clock: &[f64]) -> Decoder
     }
 }
 
-// Does the memory begin with the values?
-fn begins_with(numbers: &[i64], values: &[i64]) -> bool
-    requires { ⌜ length (now values) ≤ length (now numbers) ⌝ }
-    ensures { λ r. ⌜ r ≡ begins (now (values .entry)) (now (numbers .entry)) ⌝ }
+// Is there room for a record?
+pub fn has_room(numbers: &[usize], integers: &[i32], matrices: &[u8], clock: &[f64]) -> bool
+    ensures { λ r. ⌜ r ≡ roomy (memory (now (numbers .entry)) (now (integers .entry)) (now (matrices .entry)) (now (clock .entry))) ⌝ }
 {
-    let mut i = 0;
-    while i < values.len() {
-        if values[i] != numbers[i] {
-            return false;
-        }
-        i += 1;
-    }
-    true
+    (21 <= numbers.len()) & (73 <= integers.len()) & (128 <= matrices.len()) & (4 <= clock.len())
 }
 
-pub fn is_record(numbers: &[i64], clock: &[f64]) -> bool
-    ensures { λ r. ⌜ r ≡ isRecord (now (numbers .entry)) (now (clock .entry)) ⌝ }
+fn has_flags(numbers: &[usize]) -> bool
+    requires { ⌜ 21 ≤ length (now numbers) ⌝ }
+    ensures { λ r. ⌜ r ≡ flagsIn (now (numbers .entry)) ⌝ }
 {
-    if numbers.len() < 222 {
+    (numbers[1] <= 1)
+        & (numbers[12] <= 1)
+        & (numbers[13] <= 1)
+        & (numbers[15] <= 1)
+        & (numbers[16] <= 1)
+        & (numbers[18] <= 1)
+}
+
+fn has_shorts(numbers: &[usize]) -> bool
+    requires { ⌜ 21 ≤ length (now numbers) ⌝ }
+    ensures { λ r. ⌜ r ≡ shortsIn (now (numbers .entry)) ⌝ }
+{
+    (numbers[7] <= 4294967295)
+        & (numbers[11] <= 4294967295)
+        & (numbers[14] <= 4294967295)
+        & (numbers[17] <= 4294967295)
+        & (numbers[19] <= 4294967295)
+        & (numbers[20] <= 4294967295)
+}
+
+pub fn is_record(numbers: &[usize], integers: &[i32], matrices: &[u8], clock: &[f64]) -> bool
+    ensures { λ r. ⌜ r ≡ isRecord (memory (now (numbers .entry)) (now (integers .entry)) (now (matrices .entry)) (now (clock .entry))) ⌝ }
+{
+    if !has_room(numbers, integers, matrices, clock) {
         return false;
     }
-    if clock.len() < 4 {
-        return false;
-    }
-    let n = numbers_of(record_of(numbers, clock));
-    begins_with(numbers, &n)
+    has_flags(numbers) & has_shorts(numbers)
 }

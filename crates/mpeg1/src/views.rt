@@ -1,30 +1,56 @@
 // What a host reads of a record, and the sizes that it needs, so that none counts fields or repeats the layout of a store.
-use crate::reading::is_record;
-use crate::reading::record_of;
-use decoder::possible::possible;
+use crate::reading::sequence_in;
+use decoder::possible::possible_sequence;
 use decoder::possible::sizes_of;
-use decoder::record::Decoder;
+use decoder::record::Sequence;
 use decoder::record::fresh;
 use prediction::planes::Plane;
 use prediction::planes::block_size;
 use prediction::planes::plane_length;
 use prediction::planes::plane_start;
 ghost use mathlib.Core.Path.{_≡_};
-ghost use Rattle.decoder.specs.Fit.{Fit};
+ghost use Prim.Native.Nat.{_<_, _≤_};
+ghost use Rattle.decoder.specs.Record.{freshSequence};
 ghost use Rattle.mpeg1.specs.Views as View;
 
-fn seen(numbers: &[i64]) -> Decoder
-    ensures { λ r. ⌜ (r ≡ View.seen (now (numbers .entry))) × Fit r ⌝ }
+fn fresh_sequence() -> Sequence
+    ensures { λ r. ⌜ r ≡ freshSequence ⌝ }
 {
-    let still = [0.0f64; 4];
-    if !is_record(numbers, &still) {
-        return fresh();
+    let d = fresh();
+    d.sequence
+}
+
+fn seen(numbers: &[usize]) -> Sequence
+    ensures { λ r. ⌜ (r ≡ View.seen (now (numbers .entry))) × View.Few r ⌝ }
+{
+    if numbers.len() < 21 {
+        return fresh_sequence();
     }
-    let d = record_of(numbers, &still);
-    if !possible(d) {
-        return fresh();
+    if 1 < numbers[1] {
+        return fresh_sequence();
     }
-    d
+    let none = [0u8; 128];
+    let q = sequence_in(numbers, &none);
+    if !possible_sequence(q) {
+        return fresh_sequence();
+    }
+    q
+}
+
+// Number k, if it is at most m.
+fn number_seen(numbers: &[usize], k: usize, m: usize) -> usize
+    requires { ⌜ k < 21 ⌝ }
+    ensures { λ r. ⌜ r ≡ View.numberSeen (now (numbers .entry)) k m ⌝ }
+    ensures { λ r. ⌜ r ≤ m ⌝ }
+{
+    if numbers.len() < 21 {
+        return 0;
+    }
+    let x = numbers[k];
+    if m < x {
+        return 0;
+    }
+    x
 }
 
 fn plane_number(plane: usize) -> Plane
@@ -41,9 +67,23 @@ fn plane_number(plane: usize) -> Plane
 
 #[no_mangle]
 pub extern "C" fn mpeg1_record_numbers() -> usize
-    ensures { λ r. ⌜ r ≡ 222 ⌝ }
+    ensures { λ r. ⌜ r ≡ 21 ⌝ }
 {
-    222
+    21
+}
+
+#[no_mangle]
+pub extern "C" fn mpeg1_record_integers() -> usize
+    ensures { λ r. ⌜ r ≡ 73 ⌝ }
+{
+    73
+}
+
+#[no_mangle]
+pub extern "C" fn mpeg1_record_matrices() -> usize
+    ensures { λ r. ⌜ r ≡ 128 ⌝ }
+{
+    128
 }
 
 #[no_mangle]
@@ -66,28 +106,35 @@ pub extern "C" fn mpeg1_store_bytes(width: usize, height: usize) -> usize
 }
 
 #[no_mangle]
-pub extern "C" fn mpeg1_width(numbers: &[i64]) -> usize
-    ensures { λ r. ⌜ r ≡ View.seen (now (numbers .entry)) .sequence .width ⌝ }
+pub extern "C" fn mpeg1_width(numbers: &[usize]) -> usize
+    ensures { λ r. ⌜ r ≡ View.seen (now (numbers .entry)) .width ⌝ }
 {
-    let d = seen(numbers);
-    d.sequence.width
+    let q = seen(numbers);
+    q.width
 }
 
 #[no_mangle]
-pub extern "C" fn mpeg1_height(numbers: &[i64]) -> usize
-    ensures { λ r. ⌜ r ≡ View.seen (now (numbers .entry)) .sequence .height ⌝ }
+pub extern "C" fn mpeg1_height(numbers: &[usize]) -> usize
+    ensures { λ r. ⌜ r ≡ View.seen (now (numbers .entry)) .height ⌝ }
 {
-    let d = seen(numbers);
-    d.sequence.height
+    let q = seen(numbers);
+    q.height
 }
 
 // The type read last: 1 I, 2 P, 3 B.
 #[no_mangle]
-pub extern "C" fn mpeg1_picture_type(numbers: &[i64]) -> u32
-    ensures { λ r. ⌜ r ≡ View.seen (now (numbers .entry)) .picture .«picture_type» ⌝ }
+pub extern "C" fn mpeg1_picture_type(numbers: &[usize]) -> u32
+    ensures { λ r. ⌜ r ≡ View.typeSeen (now (numbers .entry)) ⌝ }
 {
-    let d = seen(numbers);
-    d.picture.picture_type
+    number_seen(numbers, 7, 7) as u32
+}
+
+// The place in the stream, in whole bytes.
+#[no_mangle]
+pub extern "C" fn mpeg1_position(numbers: &[usize]) -> usize
+    ensures { λ r. ⌜ r ≡ View.bytesRead (now (numbers .entry)) ⌝ }
+{
+    number_seen(numbers, 0, 134217728) / 8
 }
 
 #[no_mangle]
@@ -112,37 +159,37 @@ pub extern "C" fn mpeg1_pixel_aspect_ratio(clock: &[f64]) -> f64
 
 // Planes: 0 Y, 1 Cr, 2 Cb.
 #[no_mangle]
-pub extern "C" fn mpeg1_row_bytes(numbers: &[i64], plane: usize) -> usize
+pub extern "C" fn mpeg1_row_bytes(numbers: &[usize], plane: usize) -> usize
     ensures { λ r. ⌜ r ≡ View.rowBytes (now (numbers .entry)) plane ⌝ }
 {
     if 2 < plane {
         return 0;
     }
-    let d = seen(numbers);
-    let across = d.sequence.sizes.mb_width;
+    let q = seen(numbers);
+    let across = q.sizes.mb_width;
     across * block_size(plane_number(plane))
 }
 
 #[no_mangle]
-pub extern "C" fn mpeg1_plane_bytes(numbers: &[i64], plane: usize) -> usize
+pub extern "C" fn mpeg1_plane_bytes(numbers: &[usize], plane: usize) -> usize
     ensures { λ r. ⌜ r ≡ View.planeBytes (now (numbers .entry)) plane ⌝ }
 {
     if 2 < plane {
         return 0;
     }
-    let d = seen(numbers);
-    let n = d.sequence.sizes.mb_size;
+    let q = seen(numbers);
+    let n = q.sizes.mb_size;
     plane_length(plane_number(plane), n)
 }
 
 #[no_mangle]
-pub extern "C" fn mpeg1_plane_start(numbers: &[i64], index: usize, plane: usize) -> usize
+pub extern "C" fn mpeg1_plane_start(numbers: &[usize], index: usize, plane: usize) -> usize
     ensures { λ r. ⌜ r ≡ View.planeBegin (now (numbers .entry)) index plane ⌝ }
 {
     if !((index <= 2) & (plane <= 2)) {
         return 0;
     }
-    let d = seen(numbers);
-    let n = d.sequence.sizes.mb_size;
+    let q = seen(numbers);
+    let n = q.sizes.mb_size;
     plane_start(index, plane_number(plane), n)
 }

@@ -1,163 +1,127 @@
 // The record written into memory.
-use crate::fields::byte;
-use crate::fields::flag;
-use crate::fields::integer;
-use crate::fields::natural;
-use crate::fields::size;
+use crate::copies::put_bytes;
+use crate::copies::put_integers;
+use decoder::record::Clock;
 use decoder::record::Decoder;
 use decoder::record::Sequence;
 use picture::state::Motion;
 use picture::state::Picture;
 ghost use mathlib.Core.Path.{_≡_};
-ghost use mathlib.Core.List.{map};
-ghost use Prim.Native.Nat.{_+_, _^_, _≤_, _<_};
+ghost use mathlib.Core.Bool.{true};
+ghost use Prim.Native.Nat.{_+_, _≤_};
 ghost use borrow.Rule.Slice.PartMut.{putMid};
-ghost use lib.IntN.{pos};
 ghost use lib.ListN.{length};
-ghost use Rattle.mpeg1.specs.Types.{TypedSequence, TypedPicture, Typed};
-ghost use Rattle.mpeg1.specs.Memory.{headNumbers, sequenceNumbers, motionNumbers, stateNumbers, pictureNumbers, lastNumbers, numbersOf, clockOf, over};
+ghost use Rattle.mpeg1.specs.Memory.{memory, flag, headNumbers, stateNumbers, motionNumbers, lastNumbers, numbersOf};
+ghost use Rattle.mpeg1.specs.Memory.{headIntegers, integersOf, matricesOf, clockOf, over, written, roomy, Holds};
+ghost use Rattle.mpeg1.specs.Types.{TypedSequence, TypedPicture};
 
-// The values, in the place of as many numbers from `at` on: of three types.
-fn put(numbers: &mut [i64], at: usize, values: &[i64])
-    requires { ⌜ at + length (now values) ≤ length (now numbers) ⌝ }
-    ensures { λ r. ⌜ now (numbers .exit) ≡ putMid at (length (now (values .entry))) (now (numbers .entry)) (now (values .entry)) ⌝ }
+fn flag(x: bool) -> usize
+    ensures { λ r. ⌜ r ≡ flag x ⌝ }
 {
-    let mut i = 0;
-    while i < values.len() {
-        numbers[at + i] = values[i];
-        i += 1;
-    }
+    if x { 1 } else { 0 }
 }
 
-fn put_bytes(numbers: &mut [i64], at: usize, values: &[u8])
-    requires { ⌜ at + length (now values) ≤ length (now numbers) ⌝ }
-    ensures { λ r. ⌜ now (numbers .exit) ≡ putMid at (length (now (values .entry))) (now (numbers .entry)) (map pos (now (values .entry))) ⌝ }
-{
-    let mut i = 0;
-    while i < values.len() {
-        numbers[at + i] = byte(values[i]);
-        i += 1;
-    }
-}
-
-fn put_integers(numbers: &mut [i64], at: usize, values: &[i32])
-    requires { ⌜ at + length (now values) ≤ length (now numbers) ⌝ }
-    ensures { λ r. ⌜ now (numbers .exit) ≡ putMid at (length (now (values .entry))) (now (numbers .entry)) (now (values .entry)) ⌝ }
-{
-    let mut i = 0;
-    while i < values.len() {
-        numbers[at + i] = integer(values[i]);
-        i += 1;
-    }
-}
-
-fn head_numbers(place: usize, q: Sequence) -> [i64; 7]
-    ensures { λ r. ⌜ r ≡ headNumbers place q ⌝ }
+fn put_head(numbers: &mut [usize], place: usize, q: Sequence)
+    requires { ⌜ 21 ≤ length (now numbers) ⌝ }
+    ensures { λ r. ⌜ now (numbers .exit) ≡ putMid 0 7 (now (numbers .entry)) (headNumbers place q) ⌝ }
 {
     let s = q.sizes;
-    let at = size(place);
     let header = flag(q.has_sequence_header);
-    let width = size(q.width);
-    let height = size(q.height);
-    let mb_width = size(s.mb_width);
-    let mb_height = size(s.mb_height);
-    let mb_size = size(s.mb_size);
-    [at, header, width, height, mb_width, mb_height, mb_size]
+    numbers[0] = place;
+    numbers[1] = header;
+    numbers[2] = q.width;
+    numbers[3] = q.height;
+    numbers[4] = s.mb_width;
+    numbers[5] = s.mb_height;
+    numbers[6] = s.mb_size;
 }
 
-fn state_numbers(p: Picture) -> [i64; 7]
-    ensures { λ r. ⌜ r ≡ stateNumbers p ⌝ }
+fn put_state(numbers: &mut [usize], p: Picture)
+    requires { ⌜ 21 ≤ length (now numbers) ⌝ }
+    ensures { λ r. ⌜ now (numbers .exit) ≡ putMid 7 5 (now (numbers .entry)) (stateNumbers p) ⌝ }
 {
     let t = p.stores;
     let s = p.slice;
-    let kind = natural(p.picture_type);
-    let code = integer(p.start_code);
-    let cur = size(t.cur);
-    let fwd = size(t.fwd);
-    let bwd = size(t.bwd);
-    let scale = natural(s.quantizer_scale);
-    let address = integer(s.macroblock_address);
-    [kind, code, cur, fwd, bwd, scale, address]
+    numbers[7] = p.picture_type as usize;
+    numbers[8] = t.cur;
+    numbers[9] = t.fwd;
+    numbers[10] = t.bwd;
+    numbers[11] = s.quantizer_scale as usize;
 }
 
-fn motion_numbers(m: Motion) -> [i64; 5]
-    ensures { λ r. ⌜ r ≡ motionNumbers m ⌝ }
+fn put_motion(numbers: &mut [usize], at: usize, m: Motion)
+    requires { ⌜ at + 3 ≤ length (now numbers) ⌝ }
+    ensures { λ r. ⌜ now (numbers .exit) ≡ putMid at 3 (now (numbers .entry)) (motionNumbers m) ⌝ }
 {
     let full_px = flag(m.full_px);
     let is_set = flag(m.is_set);
-    let r_size = natural(m.r_size);
-    let h = integer(m.h);
-    let v = integer(m.v);
-    [full_px, is_set, r_size, h, v]
+    numbers[at] = full_px;
+    numbers[at + 1] = is_set;
+    numbers[at + 2] = m.r_size as usize;
 }
 
-fn last_numbers(held: bool, handed: u32, stop: u32) -> [i64; 3]
-    ensures { λ r. ⌜ r ≡ lastNumbers held handed stop ⌝ }
-    ensures { λ r. ⌜ (handed < 2 ^ 32) × (stop < 2 ^ 32) ⌝ }
+fn put_last(numbers: &mut [usize], held: bool, handed: u32, stop: u32)
+    requires { ⌜ 21 ≤ length (now numbers) ⌝ }
+    ensures { λ r. ⌜ now (numbers .exit) ≡ putMid 18 3 (now (numbers .entry)) (lastNumbers held handed stop) ⌝ }
 {
     let first = flag(held);
-    let second = natural(handed);
-    let third = natural(stop);
-    [first, second, third]
+    numbers[18] = first;
+    numbers[19] = handed as usize;
+    numbers[20] = stop as usize;
 }
 
-fn put_sequence(numbers: &mut [i64], place: usize, q: Sequence)
-    requires { ⌜ 135 ≤ length (now numbers) ⌝ }
-    ensures { λ r. ⌜ now (numbers .exit) ≡ putMid 0 135 (now (numbers .entry)) (sequenceNumbers place q) ⌝ }
-    ensures { λ r. ⌜ TypedSequence q ⌝ }
+fn put_numbers(numbers: &mut [usize], d: Decoder)
+    requires { ⌜ 21 ≤ length (now numbers) ⌝ }
+    ensures { λ r. ⌜ now (numbers .exit) ≡ over (numbersOf d) (now (numbers .entry)) ⌝ }
 {
-    let m = q.matrices;
-    let intra = m.intra_quant_matrix;
-    let non_intra = m.non_intra_quant_matrix;
-    let head = head_numbers(place, q);
-    put(numbers, 0, &head);
-    put_bytes(numbers, 7, &intra);
-    put_bytes(numbers, 71, &non_intra);
+    let p = d.picture;
+    let s = p.slice;
+    put_head(numbers, d.reader.at.0, d.sequence);
+    put_state(numbers, p);
+    put_motion(numbers, 12, s.motion_forward);
+    put_motion(numbers, 15, s.motion_backward);
+    put_last(numbers, d.has_reference_frame, d.frames_decoded, d.stop);
 }
 
-fn put_picture(numbers: &mut [i64], p: Picture)
-    requires { ⌜ 219 ≤ length (now numbers) ⌝ }
-    ensures { λ r. ⌜ now (numbers .exit) ≡ putMid 135 84 (now (numbers .entry)) (pictureNumbers p) ⌝ }
+fn head_integers(p: Picture) -> [i32; 6]
+    ensures { λ r. ⌜ r ≡ headIntegers p ⌝ }
+{
+    let s = p.slice;
+    let f = s.motion_forward;
+    let b = s.motion_backward;
+    [p.start_code, s.macroblock_address, f.h, f.v, b.h, b.v]
+}
+
+fn put_picture(integers: &mut [i32], p: Picture)
+    requires { ⌜ 73 ≤ length (now integers) ⌝ }
+    ensures { λ r. ⌜ now (integers .exit) ≡ over (integersOf p) (now (integers .entry)) ⌝ }
     ensures { λ r. ⌜ TypedPicture p ⌝ }
 {
     let s = p.slice;
     let predictors = s.dc_predictor;
     let left = s.block_data;
-    let state = state_numbers(p);
-    let forward = motion_numbers(s.motion_forward);
-    let backward = motion_numbers(s.motion_backward);
-    put(numbers, 135, &state);
-    put(numbers, 142, &forward);
-    put(numbers, 147, &backward);
-    put_integers(numbers, 152, &predictors);
-    put_integers(numbers, 155, &left);
+    let head = head_integers(p);
+    put_integers(integers, 0, &head);
+    put_integers(integers, 6, &predictors);
+    put_integers(integers, 9, &left);
 }
 
-// Which field each number is.
-fn put_record(numbers: &mut [i64], d: Decoder)
-    requires { ⌜ 222 ≤ length (now numbers) ⌝ }
-    ensures { λ r. ⌜ now (numbers .exit) ≡ over (numbersOf d) (now (numbers .entry)) ⌝ }
-    ensures { λ r. ⌜ Typed d ⌝ }
+fn put_matrices(matrices: &mut [u8], q: Sequence)
+    requires { ⌜ 128 ≤ length (now matrices) ⌝ }
+    ensures { λ r. ⌜ now (matrices .exit) ≡ over (matricesOf q) (now (matrices .entry)) ⌝ }
+    ensures { λ r. ⌜ TypedSequence q ⌝ }
 {
-    let last = last_numbers(d.has_reference_frame, d.frames_decoded, d.stop);
-    put_sequence(numbers, d.reader.at.0, d.sequence);
-    put_picture(numbers, d.picture);
-    put(numbers, 219, &last);
+    let m = q.matrices;
+    let intra = m.intra_quant_matrix;
+    let non_intra = m.non_intra_quant_matrix;
+    put_bytes(matrices, 0, &intra);
+    put_bytes(matrices, 64, &non_intra);
 }
 
-pub fn numbers_of(d: Decoder) -> [i64; 222]
-    ensures { λ r. ⌜ r ≡ numbersOf d ⌝ }
-{
-    let mut n = [0i64; 222];
-    put_record(&mut n, d);
-    n
-}
-
-fn put_clock(clock: &mut [f64], d: Decoder)
+fn put_clock(clock: &mut [f64], c: Clock)
     requires { ⌜ 4 ≤ length (now clock) ⌝ }
-    ensures { λ r. ⌜ now (clock .exit) ≡ over (clockOf d) (now (clock .entry)) ⌝ }
+    ensures { λ r. ⌜ now (clock .exit) ≡ over (clockOf c) (now (clock .entry)) ⌝ }
 {
-    let c = d.clock;
     clock[0] = c.framerate;
     clock[1] = c.pixel_aspect_ratio;
     clock[2] = c.time;
@@ -165,11 +129,20 @@ fn put_clock(clock: &mut [f64], d: Decoder)
 }
 
 // The record, over the beginning of a memory.
-pub fn save(d: Decoder, numbers: &mut [i64], clock: &mut [f64])
-    requires { ⌜ (222 ≤ length (now numbers)) × (4 ≤ length (now clock)) ⌝ }
-    ensures { λ r. ⌜ (now (numbers .exit) ≡ over (numbersOf d) (now (numbers .entry))) × (now (clock .exit) ≡ over (clockOf d) (now (clock .entry))) ⌝ }
-    ensures { λ r. ⌜ Typed d ⌝ }
+pub fn save(
+    d: Decoder,
+    numbers: &mut [usize],
+    integers: &mut [i32],
+    matrices: &mut [u8],
+    clock: &mut [f64],
+)
+    requires { ⌜ roomy (memory (now numbers) (now integers) (now matrices) (now clock)) ≡ true ⌝ }
+    ensures { λ r. ⌜ memory (now (numbers .exit)) (now (integers .exit)) (now (matrices .exit)) (now (clock .exit))
+        ≡ written d (memory (now (numbers .entry)) (now (integers .entry)) (now (matrices .entry)) (now (clock .entry))) ⌝ }
+    ensures { λ r. ⌜ Holds (memory (now (numbers .exit)) (now (integers .exit)) (now (matrices .exit)) (now (clock .exit))) d ⌝ }
 {
-    put_record(numbers, d);
-    put_clock(clock, d);
+    put_numbers(numbers, d);
+    put_picture(integers, d.picture);
+    put_matrices(matrices, d.sequence);
+    put_clock(clock, d.clock);
 }

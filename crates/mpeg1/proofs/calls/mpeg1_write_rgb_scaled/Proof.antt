@@ -1,51 +1,64 @@
 use mathlib.Core.Bool.{true}
+use mathlib.Core.List.{List}
 use mathlib.Core.Path.{_≡_, sym, ap, _∙_}
 use borrow.Author.Needs.{needs}
 use borrow.Author.Tests.{not-true, not-false}
 use denote.Ref.{now}
+use lib.Ieee.{Float}
+use lib.Ieee.{binary64, ofBits}
+use lib.ListN.{replicate}
 use Rattle.decoder.specs.Conversion as Conversion
-use Rattle.mpeg1.specs.Memory.{isRecord}
-use Rattle.mpeg1.proofs.Answers.{record-room, converts-2, converts-record}
+use Rattle.mpeg1.specs.Memory.{Memory, memory, recordOf, isRecord}
+use Rattle.mpeg1.specs.Calls.{still}
+use Rattle.mpeg1.proofs.Answers.{readable, converts-2, converts-record}
+use Rattle.mpeg1.proofs.Seen.{still-is}
 use Rattle.mpeg1.proofs.calls.mpeg1_write_rgb_scaled.Statement.{statement}
 use Rattle.mpeg1.proofs.calls.mpeg1_write_rgb_scaled.Tie as tie
 
+-- the memory that is lent, with a clock
+abbrev lent : tie.Start → List Float → Memory
+lent s k = memory (now (s .args .numbers)) (now (s .args .integers)) (now (s .args .matrices)) k
+
 -- the question, and the entry
 abbrev entry : tie.After-is-record → tie.Start
-entry c = c .before .before .before .before
+entry c = c .before .before .before .before .before .before
 
--- behind it
-is : (c : tie.Else1) → let s = entry (c .before) in isRecord (now (s .args .numbers)) (now (s .args .clock)) ≡ true
-is c = sym (c .before .is-record .ensures) ∙ not-false (c .before .is-record .result) (c .if1 .left)
+record-test : (c : tie.After-is-record) → c .is-record .result ≡ isRecord (lent (entry c) still)
+record-test c = c .is-record .ensures ∙ ap (λ z. isRecord (lent (entry c) z)) still-is
 
 returns : tie.Need-returns
 returns c =
     let s = entry (c .before) in
-    converts-2 (now (s .args .store)) (now (s .args .numbers)) (now (s .args .clock)) (s .args .index) (now (s .args .area)) (s .args .width) (s .args .height)
-    (sym (c .before .is-record .ensures) ∙ not-true (c .before .is-record .result) (c .if1 .taken))
+    converts-2 (now (s .args .store)) (lent s still) (s .args .index) (now (s .args .area)) (s .args .width) (s .args .height)
+    (sym (record-test (c .before)) ∙ not-true (c .before .is-record .result) (c .if1 .taken))
 
 record-of-requires : tie.Need-record-of-requires
 record-of-requires c κs =
-    let s = entry (c .before) in
-    record-room (now (s .args .numbers)) (now (s .args .clock)) (is c)
+    let e = c .before in
+    readable (lent (entry (e .before)) (replicate 4 (ofBits binary64 0)))
+    (sym (e .before .is-record .ensures) ∙ not-false (e .before .is-record .result) (e .if1 .left))
 
 returns-2 : tie.Need-returns-2
 returns-2 c =
     let x = c .before .before .before in
-    let e = x .before .before .before in
+    let r = x .before .before in
+    let e = r .before .before in
     let s = entry (e .before) in
-    converts-record (now (s .args .store)) (now (s .args .numbers)) (now (s .args .clock)) (s .args .index) (now (s .args .area))
-    (s .args .width) (s .args .height) (is e)
+    converts-record (now (s .args .store)) (lent s still) (s .args .index) (now (s .args .area)) (s .args .width) (s .args .height)
+    (sym (record-test (e .before)) ∙ not-false (e .before .is-record .result) (e .if1 .left))
     (x .write-rgb-scaled .ensures
     ∙ ap (λ d. Conversion.converted d (now (s .args .store)) (s .args .index) (now (s .args .area)) (s .args .width) (s .args .height))
-    (x .before .before .record-of .ensures))
+    (r .record-of .ensures ∙ ap (λ z. recordOf (lent s z)) still-is))
     (c .converted-number .ensures)
 
 pub mpeg1-write-rgb-scaled-spec : {M : Type 1} → statement M
 mpeg1-write-rgb-scaled-spec =
     tie.close
     (tie.spec
+    (λ c. search needs)
     (λ c κs. search needs)
     returns
+    (λ c. search needs)
     record-of-requires
     (λ c κs. search needs)
     (λ c κs. search needs)

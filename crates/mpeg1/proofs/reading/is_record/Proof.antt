@@ -1,40 +1,35 @@
-use mathlib.Core.Path.{ap, _∙_}
+use mathlib.Core.Bool.{true, _&&_}
+use mathlib.Core.Path.{_≡_, sym, ap₂, _∙_}
 use borrow.Author.Needs.{needs}
-use borrow.Author.Tests.{le-leb, lt-leb}
+use borrow.Author.Tests.{not-true, not-false}
 use denote.Ref.{now}
-use lib.ListN.{length}
-use Rattle.mpeg1.specs.Memory.{numbersOf, begins, isRecord}
+use Rattle.mpeg1.specs.Memory.{Memory, memory, roomy, isRecord}
+use Rattle.mpeg1.proofs.Answers.{room}
 use Rattle.mpeg1.proofs.reading.is_record.Statement.{statement}
 use Rattle.mpeg1.proofs.reading.is_record.Tie as tie
 
+-- the memory that was asked for
+abbrev lent : tie.After-has-room → Memory
+lent c =
+    let s = c .before .before .before .before in
+    memory (now (s .args .numbers)) (now (s .args .integers)) (now (s .args .matrices)) (now (s .args .clock))
+
+roomy-is : (c : tie.Else1) → roomy (lent (c .before)) ≡ true
+roomy-is c = sym (c .before .has-room .ensures) ∙ not-false (c .before .has-room .result) (c .if1 .left)
+
 returns : tie.Need-returns
 unfolding isRecord
-returns c = rw (lt-leb 222 (length (now (c .before .before .args .numbers))) (c .if1 .taken))
+returns c = rw (sym (c .before .has-room .ensures) ∙ not-true (c .before .has-room .result) (c .if1 .taken))
+
+has-flags-requires : tie.Need-has-flags-requires
+has-flags-requires c κs = room (lent (c .before)) (roomy-is c) .numbers
+
+has-shorts-requires : tie.Need-has-shorts-requires
+has-shorts-requires c κs = room (lent (c .before .before)) (roomy-is (c .before)) .numbers
 
 returns-2 : tie.Need-returns-2
 unfolding isRecord
-returns-2 c =
-    let s = c .before .before .before in
-    rw (le-leb 222 (length (now (s .args .numbers))) (c .before .if1 .left), lt-leb 4 (length (now (s .args .clock))) (c .if2 .taken))
-
-returns-3 : tie.Need-returns-3
-unfolding isRecord
-returns-3 c =
-    let q = c .before .before .before .before in
-    let s = q .before .before .before in
-    rw (le-leb 222 (length (now (s .args .numbers))) (q .before .if1 .left), le-leb 4 (length (now (s .args .clock))) (q .if2 .left))
-    (c .begins-with .ensures
-    ∙ ap (λ z. begins z (now (s .args .numbers)))
-    (c .before .before .numbers-of .ensures ∙ ap numbersOf (c .before .before .before .record-of .ensures)))
+returns-2 c = rw (roomy-is (c .before .before)) (ap₂ _&&_ (c .before .has-flags .ensures) (c .has-shorts .ensures))
 
 pub is-record-spec : {M : Type 1} → statement M
-is-record-spec =
-    tie.close
-    (tie.spec
-    returns
-    returns-2
-    (λ c κs. search needs)
-    (λ c κs. search needs)
-    (λ c. search needs)
-    (λ c κs. search needs)
-    returns-3)
+is-record-spec = tie.close (tie.spec (λ c κs. search needs) returns has-flags-requires has-shorts-requires returns-2)

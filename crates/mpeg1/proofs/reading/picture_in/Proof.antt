@@ -1,36 +1,26 @@
-use borrow.Author.Needs.{needs}
-use denote.Ref.{now}
-use Rattle.mpeg1.specs.Fields.{sizeOf, naturalOf}
-use Rattle.mpeg1.specs.Memory.{number}
-use Rattle.mpeg1.proofs.Crossing.{as-read, as-read-integer}
+use borrow.Author.Needs.{sfits-of, needs}
+use mir.Facts.{toZ-ofZ}
+use mir.Syntax.{w32}
 use Rattle.mpeg1.proofs.reading.picture_in.Statement.{statement}
 use Rattle.mpeg1.proofs.reading.picture_in.Tie as tie
 
+-- where the two integers are read
+abbrev at-address : tie.After-block-in → tie.After-macroblock-address
+at-address c = c .before .before .before .before
+
+abbrev at-code : tie.After-macroblock-address → tie.After-start-code
+at-code c = c .before .before .before .before .before
+
 returns : tie.Need-returns
 returns c =
-    let x0 = c .before in
-    let x1 = x0 .before in
-    let x2 = x1 .before in
-    let x3 = x2 .before in
-    let x4 = x3 .before .before in
-    let x5 = x4 .before .before in
-    let x6 = x5 .before .before in
-    let x7 = x6 .before .before in
-    let x8 = x7 .before .before in
-    let x9 = x8 .before .before in
-    let s = x9 .before .before in
+    let a = at-address c in
     rw (
-      as-read (naturalOf 4294967295) (number (now (s .args .numbers)) 135) (x9 .before .natural-of-arg .given) (x9 .natural-of .ensures),
-      as-read-integer (number (now (s .args .numbers)) 136) (x8 .before .integer-of-arg .given) (x8 .integer-of .ok) (x8 .integer-of .ensures),
-      as-read sizeOf (number (now (s .args .numbers)) 137) (x7 .before .size-of-arg .given) (x7 .size-of .ensures),
-      as-read sizeOf (number (now (s .args .numbers)) 138) (x6 .before .size-of-arg2 .given) (x6 .size-of2 .ensures),
-      as-read sizeOf (number (now (s .args .numbers)) 139) (x5 .before .size-of-arg3 .given) (x5 .size-of3 .ensures),
-      as-read (naturalOf 4294967295) (number (now (s .args .numbers)) 140) (x4 .before .natural-of-arg2 .given) (x4 .natural-of2 .ensures),
-      as-read-integer (number (now (s .args .numbers)) 141) (x3 .before .integer-of-arg2 .given) (x3 .integer-of2 .ok) (x3 .integer-of2 .ensures),
-      x2 .motion-at .ensures,
-      x1 .motion-at2 .ensures,
-      x0 .three-at .ensures,
-      c .integers-at .ensures,
+      toZ-ofZ {w = w32} (sfits-of (at-code a .start-code .given)),
+      toZ-ofZ {w = w32} (sfits-of (a .macroblock-address .given)),
+      c .before .before .before .motion-in .ensures,
+      c .before .before .motion-in2 .ensures,
+      c .before .predictors-in .ensures,
+      c .block-in .ensures,
     )
 
 pub picture-in-spec : {M : Type 1} → statement M
@@ -38,19 +28,14 @@ picture-in-spec =
     tie.close
     (tie.spec
     (λ c. search needs)
-    (λ c κs. search needs)
     (λ c. search needs)
-    (λ c κs. search needs)
     (λ c. search needs)
-    (λ c κs. search needs)
     (λ c. search needs)
-    (λ c κs. search needs)
     (λ c. search needs)
-    (λ c κs. search needs)
     (λ c. search needs)
-    (λ c κs. search needs)
     (λ c. search needs)
-    (λ c κs. search needs)
+    (λ c. search needs)
+    (λ c. search needs)
     (λ c κs. search needs)
     (λ c κs. search needs)
     (λ c κs. search needs)

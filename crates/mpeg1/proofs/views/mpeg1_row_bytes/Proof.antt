@@ -10,7 +10,7 @@ use Rattle.mpeg1.proofs.views.mpeg1_row_bytes.Statement.{statement}
 use Rattle.mpeg1.proofs.views.mpeg1_row_bytes.Tie as tie
 
 returns : tie.Need-returns
-returns c = rw (lt-leb (c .before .args .plane) 2 (c .if1 .taken))
+returns c = rw (lt-leb (c .before .before .args .plane) 2 (c .if1 .taken))
 
 mul-result : tie.Need-mul-result
 mul-result c =
@@ -19,9 +19,9 @@ mul-result c =
 
 returns-2 : tie.Need-returns-2
 returns-2 c =
-    let s = c .before .before .before .before in
-    rw (le-leb (s .args .plane) 2 (c .before .before .before .if1 .left))
-    (ap₂ (λ d k. d .sequence .sizes .«mb_width» * k) (c .before .before .seen .ensures .0)
+    let e = c .before .before .before in
+    rw (le-leb (e .before .before .args .plane) 2 (e .if1 .left))
+    (ap₂ (λ q k. q .sizes .«mb_width» * k) (c .before .before .seen .ensures .0)
     (c .block-size .ensures ∙ ap blockSize (c .before .plane-number .ensures)))
 
 pub mpeg1-row-bytes-spec : {M : Type 1} → statement M

@@ -1,0 +1,63 @@
+use mathlib.Core.Path.{_≡_, ap, subst, _∙_}
+use borrow.Author.Needs.{needs}
+use denote.Ref.{now}
+use Rattle.decoder.specs.declared.record.Decoder.{Decoder}
+use Rattle.decoder.specs.HandOut.{handOut}
+use Rattle.decoder.specs.Record.{left}
+use Rattle.mpeg1.specs.Memory.{Memory, memory, written, recordOf, Holds}
+use Rattle.mpeg1.proofs.Answers.{record-roomy, readable}
+use Rattle.mpeg1.proofs.calls.hand_out.Statement.{statement}
+use Rattle.mpeg1.proofs.calls.hand_out.Tie as tie
+
+-- the memory that is lent
+abbrev lent : tie.Start → Memory
+lent s = memory (now (s .args .numbers)) (now (s .args .integers)) (now (s .args .matrices)) (now (s .args .clock))
+
+-- the calls, from the last one back to the entry
+abbrev at-save : tie.After-slice-known8 → tie.After-save
+at-save c = c .before .before .before .before .before .before .before
+
+abbrev at-decode : tie.After-save-arg4 → tie.After-decode
+at-decode c = c .before .before .before .before .before .before
+
+abbrev entry : tie.After-record-of-arg4 → tie.Start
+entry c = c .before .before .before .before .before .before .before .before .before
+
+record-of-requires : tie.Need-record-of-requires
+record-of-requires c κs = let s = entry c in readable (lent s) (s .pre)
+
+save-requires : tie.Need-save-requires
+save-requires c κs = let s = entry (at-decode c .before .before .before) in record-roomy (lent s) (s .pre)
+
+returns : tie.Need-returns
+returns c =
+    let w = at-save c in
+    let d = at-decode (w .before) in
+    let r = d .before .before in
+    let s = entry (r .before) in
+    let stream = now (s .args .stream) in
+    let store = now (s .args .store) in
+    let gives : left (d .decode .result .outcome) (d .decode .result .decoder) (d .decode .last .1 .1 .0) ≡ handOut (recordOf (lent s)) stream store =
+    d .decode .ensures ∙ ap (λ z. handOut z stream store) (r .record-of .ensures) in
+    let same = ap (λ y. y .decoder) gives in
+    let x = w .save .ensures in
+    record {
+      answered = ap (λ y. y .answer) gives;
+      stored = ap (λ y. y .store) gives;
+      wrote = x .0 ∙ ap (λ z. written z (lent s)) same;
+      holds = subst (λ (z : Decoder). Holds (memory (w .save .last .1 .0) (w .save .last .1 .1 .0) (w .save .last .1 .1 .1 .0) (w .save .last .1 .1 .1 .1 .0)) z) same (x .1);
+    }
+
+pub hand-out-spec : {M : Type 1} → statement M
+hand-out-spec =
+    tie.close
+    (tie.spec
+    record-of-requires
+    (λ c κs. search needs)
+    save-requires
+    (λ c. search needs)
+    (λ c. search needs)
+    (λ c. search needs)
+    (λ c. search needs)
+    (λ c. search needs)
+    returns)
