@@ -1,6 +1,6 @@
 -- The ways through the definitions of the calls, one for each answer.
 use mathlib.Core.Path.{_≡_}
-use mathlib.Core.Bool.{true, false, _&&_}
+use mathlib.Core.Bool.{true, false}
 use mathlib.Core.List.{List, [], _∷_}
 use Prim.Native.Nat.{ℕ, _≤_, _<_}
 use borrow.Author.Tests.{leb-true, le-leb, lt-leb}
@@ -18,7 +18,7 @@ use Rattle.decoder.specs.Record.{left}
 use Rattle.decoder.specs.Opening.{opening}
 use Rattle.decoder.specs.HandOut.{handOut}
 use Rattle.decoder.specs.Conversion as Conversion
-use Rattle.mpeg1.specs.Memory.{Memory, number, written, recordOf, roomy, flagsIn, shortsIn, isRecord, Readable}
+use Rattle.mpeg1.specs.Memory.{Memory, number, written, recordOf, roomy, atMost, flagsIn, shortsIn, inRange, isRecord, Readable}
 use Rattle.mpeg1.specs.Calls.{kept, shows, openingNumber, opensIn, HandsOut, decodesIn, convertedNumber, converts, convertsIn}
 
 -- ---- room for a record, and a record
@@ -38,17 +38,18 @@ module _ (x : Memory) where
   -- a memory that holds a record has room for it
   pub record-roomy : isRecord x ≡ true → roomy x ≡ true
   unfolding isRecord
-  record-roomy e = each (roomy x) (flagsIn (x .numbers) ∷ shortsIn (x .numbers) ∷ []) e 0
+  record-roomy e = both (roomy x) (inRange (x .numbers)) e .0
 
   pub readable : isRecord x ≡ true → Readable x
   unfolding isRecord
   readable e =
       let n = x .numbers in
-      let p = each (roomy x) (flagsIn n ∷ shortsIn n ∷ []) e in
-      let r = room (p 0) in
+      let p = both (roomy x) (inRange n) e in
+      let r = room (p .0) in
+      let q = both (atMost 1 (flagsIn n)) (atMost 4294967295 (shortsIn n)) (p .1) in
       let h = each (leb (number n 7) 4294967295)
       (leb (number n 11) 4294967295 ∷ leb (number n 14) 4294967295 ∷ leb (number n 17) 4294967295 ∷ leb (number n 19) 4294967295
-      ∷ leb (number n 20) 4294967295 ∷ []) (p 2) in
+      ∷ leb (number n 20) 4294967295 ∷ []) (q .1) in
       record {
         numbers = record {
           long = r .numbers;

@@ -2,13 +2,13 @@
 use mathlib.Core.Path.{_≡_, refl, sym, ap, ap₂, _∙_}
 use mathlib.Core.List.{List, [], _∷_, _++_, append-nil, append-assoc}
 use mathlib.Core.Logic.{inl, inr}
-use Prim.Native.Nat.{ℕ, _+_, _-_, _≤_, _<_}
+use Prim.Native.Nat.{ℕ, suc, _+_, _-_, _≤_, _<_}
 use native.Mathlib.Decide.{decLt}
 use native.Mathlib.Nat.{add-zero}
 use native.Mathlib.Omega.{arith}
-use borrow.Rule.Slice.PartMut.{putMid, postOf}
+use borrow.Rule.Slice.PartMut.{putMid, midOf, postOf}
 use lib.ListN.{length, getD, set, take, drop, length-set, length-append, length-drop, drop-of-length-le}
-use lib.Seq.{ext-getD, take-at, drop-at, drop-drop, length-take-le}
+use lib.Seq.{ext-getD, drop-cons, take-at, drop-at, drop-drop, length-take-le}
 use Rattle.laws.specs.Stores.{storeRow}
 use Rattle.mpeg1.specs.Memory.{over}
 use Rattle.laws.proofs.Lists.{put-in, put-before, put-after, row-on, row-in, row-out, length-row}
@@ -48,6 +48,16 @@ module _ {A : Type 0} where
   -- all of a list is replaced
   pub filled : (l ys : List A) {now : List A} → now ≡ putMid 0 (length ys) l ys → length l ≤ length ys → now ≡ ys
   filled l ys e h = e ∙ ap (λ (z : List A). ys ++ z) (drop-of-length-le l {i = length ys} h) ∙ append-nil ys
+
+-- three elements of a list
+pub three-of : {A : Type 0} (at : ℕ) (l : List A) (d : A) → at + 3 ≤ length l
+    → midOf at 3 l ≡ getD l at d ∷ getD l (at + 1) d ∷ getD l (at + 2) d ∷ []
+three-of {A} at l d h =
+    let e : suc at ≡ at + 1 = omega arith in
+    let f : suc (at + 1) ≡ at + 2 = omega arith in
+    ap (take 3) (drop-cons l at d (omega arith))
+    ∙ ap (λ (z : List A). getD l at d ∷ take 2 z) (ap (λ (n : ℕ). drop n l) e ∙ drop-cons l (at + 1) d (omega arith))
+    ∙ ap (λ (z : List A). getD l at d ∷ getD l (at + 1) d ∷ take 1 z) (ap (λ (n : ℕ). drop n l) f ∙ drop-cons l (at + 2) d (omega arith))
 
 -- i of the values v are copied to l, from `at` on
 pub record Copied {A : Type 0} (l : List A) (at : ℕ) (v : List A) (d : A) (now : List A) (i : ℕ) : Type 0 where

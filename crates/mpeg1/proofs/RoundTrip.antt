@@ -41,7 +41,7 @@ module _ {A : Type 0} (x y t : List A) (k m : ℕ) (a : length x ≡ k) (b : len
 
 -- the memory is written part by part
 pub wrote-all : (d : Decoder) (x : Memory) {n m : List ℕ} {i : List ℤ} {c : List Float} → n ≡ over (numbersOf d) (x .numbers)
-    → i ≡ over (integersOf (d .picture)) (x .integers) → m ≡ over (matricesOf (d .sequence)) (x .matrices) → c ≡ over (clockOf (d .clock)) (x .clock)
+    → i ≡ over (integersOf (d .picture)) (x .integers) → m ≡ over (matricesOf (d .sequence .matrices)) (x .matrices) → c ≡ over (clockOf (d .clock)) (x .clock)
     → memory n i m c ≡ written d x
 unfolding written
 wrote-all d x p q r s = rw (p, q, r, s)
@@ -51,15 +51,15 @@ module _ (d : Decoder) (f : Typed d) (x : Memory) where
   behind = drop (length (integersOf (d .picture))) (x .integers)
 
   abbrev rest : List ℕ
-  rest = drop (length (matricesOf (d .sequence))) (x .matrices)
+  rest = drop (length (matricesOf (d .sequence .matrices))) (x .matrices)
 
-  sequence-back : sequenceIn (over (numbersOf d) (x .numbers)) (over (matricesOf (d .sequence)) (x .matrices)) ≡ d .sequence
+  sequence-back : sequenceIn (over (numbersOf d) (x .numbers)) (over (matricesOf (d .sequence .matrices)) (x .matrices)) ≡ d .sequence
   sequence-back =
       let q = d .sequence .matrices in
       rw (
         flag-back (d .sequence .«has_sequence_header»),
-        first-back (q .«intra_quant_matrix») (q .«non_intra_quant_matrix») rest 64 64 (f .sequence .intra) (f .sequence .other),
-        second-back (q .«intra_quant_matrix») (q .«non_intra_quant_matrix») rest 64 64 (f .sequence .intra) (f .sequence .other),
+        first-back (q .«intra_quant_matrix») (q .«non_intra_quant_matrix») rest 64 64 (f .matrices .intra) (f .matrices .other),
+        second-back (q .«intra_quant_matrix») (q .«non_intra_quant_matrix») rest 64 64 (f .matrices .intra) (f .matrices .other),
       )
 
   picture-back : pictureIn (over (numbersOf d) (x .numbers)) (over (integersOf (d .picture)) (x .integers)) ≡ d .picture
@@ -88,8 +88,8 @@ module _ (d : Decoder) (f : Typed d) (x : Memory) where
         le-leb 4 (length (over (clockOf (d .clock)) (x .clock))) (omega arith),
         le-leb 73 (length (over (integersOf (d .picture)) (x .integers)))
             (omega (arith, two-long (s .«dc_predictor») (s .«block_data») behind 3 64 (f .picture .predictors) (f .picture .left) 67 refl)),
-        le-leb 128 (length (over (matricesOf (d .sequence)) (x .matrices)))
-            (two-long (q .«intra_quant_matrix») (q .«non_intra_quant_matrix») rest 64 64 (f .sequence .intra) (f .sequence .other) 128 refl),
+        le-leb 128 (length (over (matricesOf (d .sequence .matrices)) (x .matrices)))
+            (two-long (q .«intra_quant_matrix») (q .«non_intra_quant_matrix») rest 64 64 (f .matrices .intra) (f .matrices .other) 128 refl),
         flag-is (d .sequence .«has_sequence_header»),
         flag-is (s .«motion_forward» .«full_px»),
         flag-is (s .«motion_forward» .«is_set»),

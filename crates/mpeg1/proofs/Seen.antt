@@ -12,7 +12,7 @@ use Rattle.prediction.specs.declared.planes.Plane.the-variants.{Y, Cr, Cb}
 use Rattle.prediction.specs.Planes.{blockSize}
 use Rattle.decoder.specs.declared.record.Sequence.{Sequence}
 use Rattle.decoder.specs.declared.record.Decoder.{Decoder}
-use Rattle.decoder.specs.Record.{noTime, freshSequence, freshPicture, fresh}
+use Rattle.decoder.specs.Record.{noTime, freshSequence, fresh}
 use Rattle.decoder.specs.Possible.{possibleSequence, possible}
 use Rattle.decoder.proofs.Fits.{fit-of}
 use Rattle.decoder.proofs.Starts.{fresh-starts}
@@ -34,13 +34,13 @@ still-is = ap (replicate 4) zero-is
 -- a record with a sequence, all else fresh
 abbrev around : Sequence → Decoder
 around q = record {
-  reader = record { at = record { 0 = 0 } };
+  reader = fresh .reader;
   sequence = q;
-  picture = freshPicture;
-  clock = record { framerate = noTime; «pixel_aspect_ratio» = noTime; time = noTime; «last_frame_time» = noTime };
-  «has_reference_frame» = false;
-  «frames_decoded» = 0;
-  stop = 0;
+  picture = fresh .picture;
+  clock = fresh .clock;
+  «has_reference_frame» = fresh .«has_reference_frame»;
+  «frames_decoded» = fresh .«frames_decoded»;
+  stop = fresh .stop;
 }
 
 around-possible : (q : Sequence) → possibleSequence q ≡ true → possible (around q) ≡ true

@@ -8,6 +8,7 @@ use lib.Ieee.{Float, nan}
 use lib.IntN.{ℤ, pos}
 use lib.ListN.{length, getD, drop}
 use borrow.Rule.Slice.PartMut.{midOf}
+use Rattle.picture.specs.declared.state.Matrices.{Matrices}
 use Rattle.picture.specs.declared.state.Motion.{Motion}
 use Rattle.picture.specs.declared.state.Picture.{Picture}
 use Rattle.decoder.specs.declared.record.Clock.{Clock}
@@ -26,7 +27,7 @@ memory n i m c = record { numbers = n; integers = i; matrices = m; clock = c }
 
 -- ---- what is written
 
--- a flag is 0 or 1
+-- a flag as a number
 abbrev pub flag : Bool → ℕ
 flag x = cond x 1 0
 
@@ -58,8 +59,8 @@ headIntegers p =
 abbrev pub integersOf : Picture → List ℤ
 integersOf p = headIntegers p ++ p .slice .«dc_predictor» ++ p .slice .«block_data»
 
-abbrev pub matricesOf : Sequence → List ℕ
-matricesOf q = q .matrices .«intra_quant_matrix» ++ q .matrices .«non_intra_quant_matrix»
+abbrev pub matricesOf : Matrices → List ℕ
+matricesOf m = m .«intra_quant_matrix» ++ m .«non_intra_quant_matrix»
 
 abbrev pub clockOf : Clock → List Float
 clockOf c = c .framerate ∷ c .«pixel_aspect_ratio» ∷ c .time ∷ c .«last_frame_time» ∷ []
@@ -70,7 +71,7 @@ over x l = x ++ drop (length x) l
 
 unfoldable pub written : Decoder → Memory → Memory
 written d x =
-    memory (over (numbersOf d) (x .numbers)) (over (integersOf (d .picture)) (x .integers)) (over (matricesOf (d .sequence)) (x .matrices))
+    memory (over (numbersOf d) (x .numbers)) (over (integersOf (d .picture)) (x .integers)) (over (matricesOf (d .sequence .matrices)) (x .matrices))
     (over (clockOf (d .clock)) (x .clock))
 
 -- ---- what is read
@@ -144,27 +145,32 @@ recordOf x = let n = x .numbers in record {
 abbrev pub roomy : Memory → Bool
 roomy x = leb 21 (length (x .numbers)) && leb 73 (length (x .integers)) && leb 128 (length (x .matrices)) && leb 4 (length (x .clock))
 
--- each flag is 0 or 1
-abbrev pub flagsIn : List ℕ → Bool
-flagsIn n =
-    leb (number n 1) 1 && leb (number n 12) 1 && leb (number n 13) 1 && leb (number n 15) 1 && leb (number n 16) 1 && leb (number n 18) 1
+-- are six numbers at most m?
+abbrev pub atMost : ℕ → List ℕ → Bool
+atMost m x =
+    leb (number x 0) m && leb (number x 1) m && leb (number x 2) m && leb (number x 3) m && leb (number x 4) m && leb (number x 5) m
 
--- each number of 32 bits is one
-abbrev pub shortsIn : List ℕ → Bool
-shortsIn n =
-    leb (number n 7) 4294967295 && leb (number n 11) 4294967295 && leb (number n 14) 4294967295 && leb (number n 17) 4294967295
-    && leb (number n 19) 4294967295 && leb (number n 20) 4294967295
+-- the flags, and the numbers of 32 bits
+abbrev pub flagsIn : List ℕ → List ℕ
+flagsIn n = number n 1 ∷ number n 12 ∷ number n 13 ∷ number n 15 ∷ number n 16 ∷ number n 18 ∷ []
 
--- every other number, integer, byte and float is a value of its field's type
+abbrev pub shortsIn : List ℕ → List ℕ
+shortsIn n = number n 7 ∷ number n 11 ∷ number n 14 ∷ number n 17 ∷ number n 19 ∷ number n 20 ∷ []
+
+-- each flag is 0 or 1, and each number of 32 bits is one
+abbrev pub inRange : List ℕ → Bool
+inRange n = atMost 1 (flagsIn n) && atMost 4294967295 (shortsIn n)
+
+-- every other element is a value of its field's type
 unfoldable pub isRecord : Memory → Bool
-isRecord x = roomy x && flagsIn (x .numbers) && shortsIn (x .numbers)
+isRecord x = roomy x && inRange (x .numbers)
 
 -- it holds the record d
 pub record Holds (x : Memory) (d : Decoder) : Type 0 where
   pub is : isRecord x ≡ true
   pub record-is : recordOf x ≡ d
 
--- the same question, as a reader of the parts needs it
+-- what reading asks of a memory
 pub record Shorts (n : List ℕ) : Type 0 where
   pub long : 21 ≤ length n
   pub type : number n 7 ≤ 4294967295

@@ -2,14 +2,14 @@
 use mathlib.Core.Path.{_≡_}
 use Prim.Native.Nat.{_≤_}
 use lib.ListN.{length}
+use Rattle.picture.specs.declared.state.Matrices.{Matrices}
 use Rattle.picture.specs.declared.state.Picture.{Picture}
-use Rattle.decoder.specs.declared.record.Sequence.{Sequence}
 use Rattle.decoder.specs.declared.record.Decoder.{Decoder}
 
 -- [u8; 64]
-pub record TypedSequence (q : Sequence) : Type 0 where
-  pub intra : length (q .matrices .«intra_quant_matrix») ≡ 64
-  pub other : length (q .matrices .«non_intra_quant_matrix») ≡ 64
+pub record TypedMatrices (m : Matrices) : Type 0 where
+  pub intra : length (m .«intra_quant_matrix») ≡ 64
+  pub other : length (m .«non_intra_quant_matrix») ≡ 64
 
 -- [i32; 3], [i32; 64] and u32
 pub record TypedPicture (p : Picture) : Type 0 where
@@ -21,7 +21,7 @@ pub record TypedPicture (p : Picture) : Type 0 where
   pub backward : p .slice .«motion_backward» .«r_size» ≤ 4294967295
 
 pub record Typed (d : Decoder) : Type 0 where
-  pub sequence : TypedSequence (d .sequence)
+  pub matrices : TypedMatrices (d .sequence .matrices)
   pub picture : TypedPicture (d .picture)
   pub handed : d .«frames_decoded» ≤ 4294967295
   pub stop : d .stop ≤ 4294967295

@@ -4,7 +4,7 @@ ghost use Prim.Native.Nat.{_+_, _≤_};
 ghost use borrow.Rule.Slice.PartMut.{putMid};
 ghost use lib.ListN.{length};
 
-pub fn put_integers(integers: &mut [i32], at: usize, values: &[i32])
+pub fn copy_integers(integers: &mut [i32], at: usize, values: &[i32])
     requires { ⌜ at + length (now values) ≤ length (now integers) ⌝ }
     ensures { λ r. ⌜ now (integers .exit) ≡ putMid at (length (now (values .entry))) (now (integers .entry)) (now (values .entry)) ⌝ }
 {
@@ -15,7 +15,7 @@ pub fn put_integers(integers: &mut [i32], at: usize, values: &[i32])
     }
 }
 
-pub fn put_bytes(bytes: &mut [u8], at: usize, values: &[u8])
+pub fn copy_bytes(bytes: &mut [u8], at: usize, values: &[u8])
     requires { ⌜ at + length (now values) ≤ length (now bytes) ⌝ }
     ensures { λ r. ⌜ now (bytes .exit) ≡ putMid at (length (now (values .entry))) (now (bytes .entry)) (now (values .entry)) ⌝ }
 {

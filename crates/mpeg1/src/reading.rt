@@ -1,6 +1,6 @@
 // The record read of memory.
-use crate::copies::put_bytes;
-use crate::copies::put_integers;
+use crate::copies::copy_bytes;
+use crate::copies::copy_integers;
 use bits::position::BitPosition;
 use bits::reader::Reader;
 use decoder::record::Clock;
@@ -16,7 +16,7 @@ ghost use mathlib.Core.Path.{_≡_};
 ghost use Prim.Native.Nat.{_+_, _≤_};
 ghost use borrow.Rule.Slice.PartMut.{midOf};
 ghost use lib.ListN.{length};
-ghost use Rattle.mpeg1.specs.Memory.{memory, number, motionIn, sequenceIn, pictureIn, clockIn, recordOf, flagsIn, shortsIn, roomy, isRecord};
+ghost use Rattle.mpeg1.specs.Memory.{memory, number, motionIn, sequenceIn, pictureIn, clockIn, recordOf, atMost, inRange, roomy, isRecord};
 ghost use Rattle.mpeg1.specs.Memory.{Shorts, Readable};
 
 fn block_in(integers: &[i32]) -> [i32; 64]
@@ -24,7 +24,7 @@ fn block_in(integers: &[i32]) -> [i32; 64]
     ensures { λ r. ⌜ r ≡ midOf 9 64 (now (integers .entry)) ⌝ }
 {
     let mut values = [0i32; 64];
-    put_integers(&mut values, 0, &integers[9..73]);
+    copy_integers(&mut values, 0, &integers[9..73]);
     values
 }
 
@@ -32,9 +32,10 @@ fn predictors_in(integers: &[i32]) -> [i32; 3]
     requires { ⌜ 73 ≤ length (now integers) ⌝ }
     ensures { λ r. ⌜ r ≡ midOf 6 3 (now (integers .entry)) ⌝ }
 {
-    let mut values = [0i32; 3];
-    put_integers(&mut values, 0, &integers[6..9]);
-    values
+    let y = integers[6];
+    let cr = integers[7];
+    let cb = integers[8];
+    [y, cr, cb]
 }
 
 fn matrix_in(matrices: &[u8], at: usize) -> [u8; 64]
@@ -43,7 +44,7 @@ fn matrix_in(matrices: &[u8], at: usize) -> [u8; 64]
 {
     let end = at + 64;
     let mut values = [0u8; 64];
-    put_bytes(&mut values, 0, &matrices[at..end]);
+    copy_bytes(&mut values, 0, &matrices[at..end]);
     values
 }
 
@@ -174,28 +175,39 @@ pub fn has_room(numbers: &[usize], integers: &[i32], matrices: &[u8], clock: &[f
     (21 <= numbers.len()) & (73 <= integers.len()) & (128 <= matrices.len()) & (4 <= clock.len())
 }
 
-fn has_flags(numbers: &[usize]) -> bool
-    requires { ⌜ 21 ≤ length (now numbers) ⌝ }
-    ensures { λ r. ⌜ r ≡ flagsIn (now (numbers .entry)) ⌝ }
+fn at_most(most: usize, x: [usize; 6]) -> bool
+    ensures { λ r. ⌜ r ≡ atMost most x ⌝ }
 {
-    (numbers[1] <= 1)
-        & (numbers[12] <= 1)
-        & (numbers[13] <= 1)
-        & (numbers[15] <= 1)
-        & (numbers[16] <= 1)
-        & (numbers[18] <= 1)
+    (x[0] <= most)
+        & (x[1] <= most)
+        & (x[2] <= most)
+        & (x[3] <= most)
+        & (x[4] <= most)
+        & (x[5] <= most)
 }
 
-fn has_shorts(numbers: &[usize]) -> bool
+// Is each flag 0 or 1, and each number of 32 bits one?
+fn in_range(numbers: &[usize]) -> bool
     requires { ⌜ 21 ≤ length (now numbers) ⌝ }
-    ensures { λ r. ⌜ r ≡ shortsIn (now (numbers .entry)) ⌝ }
+    ensures { λ r. ⌜ r ≡ inRange (now (numbers .entry)) ⌝ }
 {
-    (numbers[7] <= 4294967295)
-        & (numbers[11] <= 4294967295)
-        & (numbers[14] <= 4294967295)
-        & (numbers[17] <= 4294967295)
-        & (numbers[19] <= 4294967295)
-        & (numbers[20] <= 4294967295)
+    let flags = [
+        numbers[1],
+        numbers[12],
+        numbers[13],
+        numbers[15],
+        numbers[16],
+        numbers[18],
+    ];
+    let shorts = [
+        numbers[7],
+        numbers[11],
+        numbers[14],
+        numbers[17],
+        numbers[19],
+        numbers[20],
+    ];
+    at_most(1, flags) & at_most(4294967295, shorts)
 }
 
 pub fn is_record(numbers: &[usize], integers: &[i32], matrices: &[u8], clock: &[f64]) -> bool
@@ -204,5 +216,5 @@ pub fn is_record(numbers: &[usize], integers: &[i32], matrices: &[u8], clock: &[
     if !has_room(numbers, integers, matrices, clock) {
         return false;
     }
-    has_flags(numbers) & has_shorts(numbers)
+    in_range(numbers)
 }

@@ -53,6 +53,16 @@ fn number_seen(numbers: &[usize], k: usize, m: usize) -> usize
     x
 }
 
+fn clock_number(clock: &[f64], k: usize) -> f64
+    requires { ⌜ k < 4 ⌝ }
+    ensures { λ r. ⌜ r ≡ View.clockNumber (now (clock .entry)) k ⌝ }
+{
+    if clock.len() < 4 {
+        return 0.0;
+    }
+    clock[k]
+}
+
 fn plane_number(plane: usize) -> Plane
     ensures { λ r. ⌜ r ≡ View.planeNumber plane ⌝ }
 {
@@ -141,20 +151,14 @@ pub extern "C" fn mpeg1_position(numbers: &[usize]) -> usize
 pub extern "C" fn mpeg1_frame_rate(clock: &[f64]) -> f64
     ensures { λ r. ⌜ r ≡ View.clockNumber (now (clock .entry)) 0 ⌝ }
 {
-    if clock.len() < 4 {
-        return 0.0;
-    }
-    clock[0]
+    clock_number(clock, 0)
 }
 
 #[no_mangle]
 pub extern "C" fn mpeg1_pixel_aspect_ratio(clock: &[f64]) -> f64
     ensures { λ r. ⌜ r ≡ View.clockNumber (now (clock .entry)) 1 ⌝ }
 {
-    if clock.len() < 4 {
-        return 0.0;
-    }
-    clock[1]
+    clock_number(clock, 1)
 }
 
 // Planes: 0 Y, 1 Cr, 2 Cb.

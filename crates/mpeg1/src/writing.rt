@@ -1,9 +1,10 @@
 // The record written into memory.
-use crate::copies::put_bytes;
-use crate::copies::put_integers;
+use crate::copies::copy_bytes;
+use crate::copies::copy_integers;
 use decoder::record::Clock;
 use decoder::record::Decoder;
 use decoder::record::Sequence;
+use picture::state::Matrices;
 use picture::state::Motion;
 use picture::state::Picture;
 ghost use mathlib.Core.Path.{_≡_};
@@ -13,7 +14,7 @@ ghost use borrow.Rule.Slice.PartMut.{putMid};
 ghost use lib.ListN.{length};
 ghost use Rattle.mpeg1.specs.Memory.{memory, flag, headNumbers, stateNumbers, motionNumbers, lastNumbers, numbersOf};
 ghost use Rattle.mpeg1.specs.Memory.{headIntegers, integersOf, matricesOf, clockOf, over, written, roomy, Holds};
-ghost use Rattle.mpeg1.specs.Types.{TypedSequence, TypedPicture};
+ghost use Rattle.mpeg1.specs.Types.{TypedMatrices, TypedPicture};
 
 fn flag(x: bool) -> usize
     ensures { λ r. ⌜ r ≡ flag x ⌝ }
@@ -92,7 +93,7 @@ fn head_integers(p: Picture) -> [i32; 6]
     [p.start_code, s.macroblock_address, f.h, f.v, b.h, b.v]
 }
 
-fn put_picture(integers: &mut [i32], p: Picture)
+fn put_integers(integers: &mut [i32], p: Picture)
     requires { ⌜ 73 ≤ length (now integers) ⌝ }
     ensures { λ r. ⌜ now (integers .exit) ≡ over (integersOf p) (now (integers .entry)) ⌝ }
     ensures { λ r. ⌜ TypedPicture p ⌝ }
@@ -101,21 +102,20 @@ fn put_picture(integers: &mut [i32], p: Picture)
     let predictors = s.dc_predictor;
     let left = s.block_data;
     let head = head_integers(p);
-    put_integers(integers, 0, &head);
-    put_integers(integers, 6, &predictors);
-    put_integers(integers, 9, &left);
+    copy_integers(integers, 0, &head);
+    copy_integers(integers, 6, &predictors);
+    copy_integers(integers, 9, &left);
 }
 
-fn put_matrices(matrices: &mut [u8], q: Sequence)
+fn put_matrices(matrices: &mut [u8], m: Matrices)
     requires { ⌜ 128 ≤ length (now matrices) ⌝ }
-    ensures { λ r. ⌜ now (matrices .exit) ≡ over (matricesOf q) (now (matrices .entry)) ⌝ }
-    ensures { λ r. ⌜ TypedSequence q ⌝ }
+    ensures { λ r. ⌜ now (matrices .exit) ≡ over (matricesOf m) (now (matrices .entry)) ⌝ }
+    ensures { λ r. ⌜ TypedMatrices m ⌝ }
 {
-    let m = q.matrices;
     let intra = m.intra_quant_matrix;
     let non_intra = m.non_intra_quant_matrix;
-    put_bytes(matrices, 0, &intra);
-    put_bytes(matrices, 64, &non_intra);
+    copy_bytes(matrices, 0, &intra);
+    copy_bytes(matrices, 64, &non_intra);
 }
 
 fn put_clock(clock: &mut [f64], c: Clock)
@@ -142,7 +142,7 @@ pub fn save(
     ensures { λ r. ⌜ Holds (memory (now (numbers .exit)) (now (integers .exit)) (now (matrices .exit)) (now (clock .exit))) d ⌝ }
 {
     put_numbers(numbers, d);
-    put_picture(integers, d.picture);
-    put_matrices(matrices, d.sequence);
+    put_integers(integers, d.picture);
+    put_matrices(matrices, d.sequence.matrices);
     put_clock(clock, d.clock);
 }

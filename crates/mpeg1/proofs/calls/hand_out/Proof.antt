@@ -23,6 +23,10 @@ at-decode c = c .before .before .before .before .before .before
 abbrev entry : tie.After-record-of-arg4 → tie.Start
 entry c = c .before .before .before .before .before .before .before .before .before
 
+-- the memory that `save` has written
+abbrev saved-in : tie.After-save → Memory
+saved-in w = memory (w .save .last .1 .0) (w .save .last .1 .1 .0) (w .save .last .1 .1 .1 .0) (w .save .last .1 .1 .1 .1 .0)
+
 record-of-requires : tie.Need-record-of-requires
 record-of-requires c κs = let s = entry c in readable (lent s) (s .pre)
 
@@ -31,12 +35,8 @@ save-requires c κs = let s = entry (at-decode c .before .before .before) in rec
 
 returns : tie.Need-returns
 returns c =
-    let w = at-save c in
-    let d = at-decode (w .before) in
-    let r = d .before .before in
-    let s = entry (r .before) in
-    let stream = now (s .args .stream) in
-    let store = now (s .args .store) in
+    let w = at-save c in let d = at-decode (w .before) in let r = d .before .before in let s = entry (r .before) in
+    let stream = now (s .args .stream) in let store = now (s .args .store) in
     let gives : left (d .decode .result .outcome) (d .decode .result .decoder) (d .decode .last .1 .1 .0) ≡ handOut (recordOf (lent s)) stream store =
     d .decode .ensures ∙ ap (λ z. handOut z stream store) (r .record-of .ensures) in
     let same = ap (λ y. y .decoder) gives in
@@ -45,19 +45,10 @@ returns c =
       answered = ap (λ y. y .answer) gives;
       stored = ap (λ y. y .store) gives;
       wrote = x .0 ∙ ap (λ z. written z (lent s)) same;
-      holds = subst (λ (z : Decoder). Holds (memory (w .save .last .1 .0) (w .save .last .1 .1 .0) (w .save .last .1 .1 .1 .0) (w .save .last .1 .1 .1 .1 .0)) z) same (x .1);
+      holds = subst (λ (z : Decoder). Holds (saved-in w) z) same (x .1);
     }
 
 pub hand-out-spec : {M : Type 1} → statement M
 hand-out-spec =
-    tie.close
-    (tie.spec
-    record-of-requires
-    (λ c κs. search needs)
-    save-requires
-    (λ c. search needs)
-    (λ c. search needs)
-    (λ c. search needs)
-    (λ c. search needs)
-    (λ c. search needs)
-    returns)
+    tie.close (tie.spec record-of-requires (λ c κs. search needs) save-requires (λ c. search needs) (λ c. search needs) (λ c. search needs)
+    (λ c. search needs) (λ c. search needs) returns)

@@ -45,49 +45,35 @@ returns-2 c =
       λ i h. absurd (false≢true (sym e ∙ i)),
     )
 
+-- the hand-out, and what it leaves
+module _ (c : tie.After-slice-known8) where
+  abbrev gave : tie.After-hand-out
+  gave = at-hand-out c
+
+  abbrev ready : tie.Else2
+  ready = asked (gave .before)
+
+  abbrev start : tie.Start
+  start = entry (ready .before)
+
 returns-3 : tie.Need-returns-3
 returns-3 c =
-    let o = at-hand-out (c .before .before .before) in
-    let q = asked (o .before) in
-    let s = entry (q .before) in (
-      decodes-picture (now (s .args .stream)) (now (s .args .store)) (lent s) (now (s .args .shown)) (now (s .args .time)) (small (q .before) .if1 .left)
-          (is q) (o .hand-out .ensures) (c .before .outcome .given .1),
-      λ i h. o .hand-out .ensures .holds,
+    let p = c .before .before .before in let s = start p in let o = gave p .hand-out .ensures in (
+      decodes-picture (now (s .args .stream)) (now (s .args .store)) (lent s) (now (s .args .shown)) (now (s .args .time))
+          (small (ready p .before) .if1 .left) (is (ready p)) o (c .before .outcome .given .1),
+      λ i h. o .holds,
     )
 
 returns-4 : tie.Need-returns-4
 returns-4 c =
-    let o = at-hand-out (c .before .before .before) in
-    let q = asked (o .before) in
-    let s = entry (q .before) in (
-      decodes-number (now (s .args .stream)) (now (s .args .store)) (lent s) (now (s .args .shown)) (now (s .args .time)) (small (q .before) .if1 .left)
-          (is q) (o .hand-out .ensures) (c .before .outcome2 .given .1),
-      λ i h. o .hand-out .ensures .holds,
+    let p = c .before .before .before in let s = start p in let o = gave p .hand-out .ensures in (
+      decodes-number (now (s .args .stream)) (now (s .args .store)) (lent s) (now (s .args .shown)) (now (s .args .time))
+          (small (ready p .before) .if1 .left) (is (ready p)) o (c .before .outcome2 .given .1),
+      λ i h. o .holds,
     )
 
 pub mpeg1-decode-spec : {M : Type 1} → statement M
 mpeg1-decode-spec =
-    tie.close
-    (tie.spec
-    returns
-    (λ c κs. search needs)
-    (λ c. search needs)
-    (λ c. search needs)
-    (λ c. search needs)
-    (λ c. search needs)
-    returns-2
-    (λ c κs. is (asked c))
-    (λ c. search needs)
-    (λ c. search needs)
-    (λ c. search needs)
-    (λ c. search needs)
-    (λ c. search needs)
-    (λ c. search needs)
-    (λ c. search needs)
-    returns-3
-    (λ c. search needs)
-    (λ c. search needs)
-    (λ c. search needs)
-    (λ c. search needs)
-    (λ c. search needs)
-    returns-4)
+    tie.close (tie.spec returns (λ c κs. search needs) (λ c. search needs) (λ c. search needs) (λ c. search needs) (λ c. search needs) returns-2
+    (λ c κs. is (asked c)) (λ c. search needs) (λ c. search needs) (λ c. search needs) (λ c. search needs) (λ c. search needs) (λ c. search needs)
+    (λ c. search needs) returns-3 (λ c. search needs) (λ c. search needs) (λ c. search needs) (λ c. search needs) (λ c. search needs) returns-4)

@@ -38,10 +38,7 @@ save-requires c κs = roomy-is (at-open c .before .before)
 
 returns-2 : tie.Need-returns-2
 returns-2 c =
-    let w = at-save c in
-    let o = at-open (w .before) in
-    let q = o .before .before in
-    let s = entry (q .before) in
+    let w = at-save c in let o = at-open (w .before) in let q = o .before .before in let s = entry (q .before) in
     let x = w .save .ensures in (
       opens (now (s .args .stream)) (now (s .args .store)) (lent s) (roomy-is q) (o .«open» .ensures) (c .opening-number .ensures) (x .0),
       λ h. subst (λ (z : Decoder). Holds (memory (w .save .last .1 .0) (w .save .last .1 .1 .0) (w .save .last .1 .1 .1 .0) (w .save .last .1 .1 .1 .1 .0)) z)
@@ -50,20 +47,6 @@ returns-2 c =
 
 pub mpeg1-open-spec : {M : Type 1} → statement M
 mpeg1-open-spec =
-    tie.close
-    (tie.spec
-    (λ c κs. search needs)
-    (λ c. search needs)
-    (λ c. search needs)
-    (λ c. search needs)
-    (λ c. search needs)
-    returns
-    (λ c κs. search needs)
-    save-requires
-    (λ c κs. search needs)
-    (λ c. search needs)
-    (λ c. search needs)
-    (λ c. search needs)
-    (λ c. search needs)
-    (λ c. search needs)
-    returns-2)
+    tie.close (tie.spec (λ c κs. search needs) (λ c. search needs) (λ c. search needs) (λ c. search needs) (λ c. search needs) returns
+    (λ c κs. search needs) save-requires (λ c κs. search needs) (λ c. search needs) (λ c. search needs) (λ c. search needs) (λ c. search needs)
+    (λ c. search needs) returns-2)

@@ -53,14 +53,5 @@ returns-2 c =
 
 pub mpeg1-write-rgb-scaled-spec : {M : Type 1} → statement M
 mpeg1-write-rgb-scaled-spec =
-    tie.close
-    (tie.spec
-    (λ c. search needs)
-    (λ c κs. search needs)
-    returns
-    (λ c. search needs)
-    record-of-requires
-    (λ c κs. search needs)
-    (λ c κs. search needs)
-    (λ c. search needs)
-    returns-2)
+    tie.close (tie.spec (λ c. search needs) (λ c κs. search needs) returns (λ c. search needs) record-of-requires (λ c κs. search needs)
+    (λ c κs. search needs) (λ c. search needs) returns-2)

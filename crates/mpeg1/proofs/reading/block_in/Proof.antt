@@ -13,7 +13,7 @@ returns : tie.Need-returns
 returns c =
     let s = c .before .before .before .before in
     let l = now (s .args .integers) in
-    filled (replicate 64 (pos 0)) (midOf 9 64 l) (c .before .put-integers .ensures) (omega (arith, length-mid 9 64 l (omega (arith, s .pre))))
+    filled (replicate 64 (pos 0)) (midOf 9 64 l) (c .before .copy-integers .ensures) (omega (arith, length-mid 9 64 l (omega (arith, s .pre))))
 
 pub block-in-spec : {M : Type 1} → statement M
 block-in-spec = tie.close (tie.spec (λ c. search needs) (λ c. search needs) (λ c. search needs) (λ c. search needs) (λ c κs. search needs) returns)

@@ -1,5 +1,5 @@
-use mathlib.Core.Bool.{true, _&&_}
-use mathlib.Core.Path.{_≡_, sym, ap₂, _∙_}
+use mathlib.Core.Bool.{true}
+use mathlib.Core.Path.{_≡_, sym, _∙_}
 use borrow.Author.Needs.{needs}
 use borrow.Author.Tests.{not-true, not-false}
 use denote.Ref.{now}
@@ -14,6 +14,7 @@ lent c =
     let s = c .before .before .before .before in
     memory (now (s .args .numbers)) (now (s .args .integers)) (now (s .args .matrices)) (now (s .args .clock))
 
+-- behind the question
 roomy-is : (c : tie.Else1) → roomy (lent (c .before)) ≡ true
 roomy-is c = sym (c .before .has-room .ensures) ∙ not-false (c .before .has-room .result) (c .if1 .left)
 
@@ -21,15 +22,9 @@ returns : tie.Need-returns
 unfolding isRecord
 returns c = rw (sym (c .before .has-room .ensures) ∙ not-true (c .before .has-room .result) (c .if1 .taken))
 
-has-flags-requires : tie.Need-has-flags-requires
-has-flags-requires c κs = room (lent (c .before)) (roomy-is c) .numbers
-
-has-shorts-requires : tie.Need-has-shorts-requires
-has-shorts-requires c κs = room (lent (c .before .before)) (roomy-is (c .before)) .numbers
-
 returns-2 : tie.Need-returns-2
 unfolding isRecord
-returns-2 c = rw (roomy-is (c .before .before)) (ap₂ _&&_ (c .before .has-flags .ensures) (c .has-shorts .ensures))
+returns-2 c = rw (roomy-is (c .before)) (c .in-range .ensures)
 
 pub is-record-spec : {M : Type 1} → statement M
-is-record-spec = tie.close (tie.spec (λ c κs. search needs) returns has-flags-requires has-shorts-requires returns-2)
+is-record-spec = tie.close (tie.spec (λ c κs. search needs) returns (λ c κs. room (lent (c .before)) (roomy-is c) .numbers) returns-2)

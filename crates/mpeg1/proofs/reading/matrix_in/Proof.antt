@@ -18,17 +18,10 @@ returns c =
     let a = entry c .args .at in
     let l = now (entry c .args .matrices) in
     let e : a + 64 - a ≡ 64 = omega arith in
-    filled (replicate 64 0) (midOf a (a + 64 - a) l) (c .before .put-bytes .ensures)
+    filled (replicate 64 0) (midOf a (a + 64 - a) l) (c .before .copy-bytes .ensures)
     (omega (arith, length-mid a (a + 64 - a) l (omega (arith, entry c .pre)))) ∙ ap (λ n. midOf a n l) e
 
 pub matrix-in-spec : {M : Type 1} → statement M
 matrix-in-spec =
-    tie.close
-    (tie.spec
-    (λ c. search needs)
-    (λ c. search needs)
-    (λ c. search needs)
-    (λ c. search needs)
-    (λ c. search needs)
-    (λ c κs. search needs)
+    tie.close (tie.spec (λ c. search needs) (λ c. search needs) (λ c. search needs) (λ c. search needs) (λ c. search needs) (λ c κs. search needs)
     returns)

@@ -1,27 +1,15 @@
 use native.Mathlib.Omega.{arith}
 use borrow.Author.Needs.{needs}
-use borrow.Rule.Slice.PartMut.{midOf}
 use denote.Ref.{now}
 use lib.IntN.{pos}
-use lib.ListN.{replicate}
-use Rattle.laws.proofs.Lists.{length-mid}
-use Rattle.mpeg1.proofs.Copying.{filled}
+use Rattle.mpeg1.proofs.Copying.{three-of}
 use Rattle.mpeg1.proofs.reading.predictors_in.Statement.{statement}
 use Rattle.mpeg1.proofs.reading.predictors_in.Tie as tie
 
 returns : tie.Need-returns
 returns c =
-    let s = c .before .before .before .before in
-    let l = now (s .args .integers) in
-    filled (replicate 3 (pos 0)) (midOf 6 3 l) (c .before .put-integers .ensures) (omega (arith, length-mid 6 3 l (omega (arith, s .pre))))
+    let s = c .before .before .before in
+    rw (three-of 6 (now (s .args .integers)) (pos 0) (omega (arith, s .pre))) (search needs)
 
 pub predictors-in-spec : {M : Type 1} → statement M
-predictors-in-spec =
-    tie.close
-    (tie.spec
-    (λ c. search needs)
-    (λ c. search needs)
-    (λ c. search needs)
-    (λ c. search needs)
-    (λ c κs. search needs)
-    returns)
+predictors-in-spec = tie.close (tie.spec (λ c. search needs) (λ c. search needs) (λ c. search needs) returns)

@@ -17,10 +17,4 @@ returns-2 c =
 
 pub mpeg1-plane-bytes-spec : {M : Type 1} → statement M
 mpeg1-plane-bytes-spec =
-    tie.close
-    (tie.spec
-    returns
-    (λ c κs. search needs)
-    (λ c κs. search needs)
-    (λ c κs. c .before .seen .ensures .1 .size)
-    returns-2)
+    tie.close (tie.spec returns (λ c κs. search needs) (λ c κs. search needs) (λ c κs. c .before .seen .ensures .1 .size) returns-2)

@@ -16,11 +16,5 @@ returns c = stored 0 4 (now (c .args .clock)) (clockOf (c .args .c)) nan (omega 
 
 pub put-clock-spec : {M : Type 1} → statement M
 put-clock-spec =
-    tie.close
-    (tie.spec
-    (λ c. search needs)
-    (λ c. simp length-set (omega arith))
-    (λ c. simp length-set (omega arith))
-    (λ c. search needs)
-    (λ c. search needs)
-    returns)
+    tie.close (tie.spec (λ c. search needs) (λ c. simp length-set (omega arith)) (λ c. simp length-set (omega arith)) (λ c. search needs)
+    (λ c. search needs) returns)

@@ -9,28 +9,10 @@ use Rattle.mpeg1.proofs.Copying.{put-next}
 use Rattle.mpeg1.proofs.writing.put_numbers.Statement.{statement}
 use Rattle.mpeg1.proofs.writing.put_numbers.Tie as tie
 
--- the calls, from the last one back to the entry
-abbrev at-last : tie.After-slice-known6 → tie.After-put-last
-at-last c = c .before .before
-
-abbrev at-backward : tie.After-put-last → tie.After-put-motion2
-at-backward c = c .before .before .before .before
-
-abbrev at-forward : tie.After-put-motion2 → tie.After-put-motion
-at-forward c = c .before .before .before .before
-
-abbrev at-state : tie.After-put-motion → tie.After-put-state
-at-state c = c .before .before .before .before
-
-abbrev at-head : tie.After-put-state → tie.After-put-head
-at-head c = c .before .before .before .before
-
-abbrev entry : tie.After-put-head → tie.Start
-entry c = c .before .before .before .before .before
-
 returns : tie.Need-returns
 returns c =
-    let e = at-last c in let k = at-backward e in let f = at-forward k in let t = at-state f in let h = at-head t in let s = entry h in
+    let e = c .before .before in let k = e .before .before .before .before in let f = k .before .before .before .before in
+    let t = f .before .before .before .before in let h = t .before .before .before .before in let s = h .before .before .before .before .before in
     let d = s .args .d in
     let l = now (s .args .numbers) in
     let head = headNumbers (place d) (d .sequence) in
@@ -48,12 +30,5 @@ returns c =
 
 pub put-numbers-spec : {M : Type 1} → statement M
 put-numbers-spec =
-    tie.close
-    (tie.spec
-    (λ c κs. search needs)
-    (λ c κs. search needs)
-    (λ c κs. search needs)
-    (λ c κs. search needs)
-    (λ c κs. search needs)
-    (λ c. search needs)
-    returns)
+    tie.close (tie.spec (λ c κs. search needs) (λ c κs. search needs) (λ c κs. search needs) (λ c κs. search needs) (λ c κs. search needs)
+    (λ c. search needs) returns)

@@ -12,13 +12,6 @@ use Rattle.mpeg1.proofs.writing.save.Tie as tie
 abbrev lent : tie.Start → Memory
 lent s = memory (now (s .args .numbers)) (now (s .args .integers)) (now (s .args .matrices)) (now (s .args .clock))
 
--- the calls, from the last one back to the entry
-abbrev at-matrices : tie.After-put-clock → tie.After-put-matrices
-at-matrices c = c .before .before .before .before
-
-abbrev at-numbers : tie.After-put-picture → tie.After-put-numbers
-at-numbers c = c .before .before .before .before
-
 abbrev entry : tie.After-put-numbers → tie.Start
 entry c = c .before .before .before .before .before
 
@@ -32,35 +25,30 @@ stop s = search needs
 put-numbers-requires : tie.Need-put-numbers-requires
 put-numbers-requires c κs = let s = c .before .before .before .before in room (lent s) (s .pre) .numbers
 
-put-picture-requires : tie.Need-put-picture-requires
-put-picture-requires c κs = let s = entry (c .before .before .before) in room (lent s) (s .pre) .integers
+put-integers-requires : tie.Need-put-integers-requires
+put-integers-requires c κs = let s = entry (c .before .before .before) in room (lent s) (s .pre) .integers
 
 put-matrices-requires : tie.Need-put-matrices-requires
-put-matrices-requires c κs = let s = entry (at-numbers (c .before .before)) in room (lent s) (s .pre) .matrices
+put-matrices-requires c κs = let p = c .before .before in let s = entry (p .before .before .before .before) in room (lent s) (s .pre) .matrices
 
 put-clock-requires : tie.Need-put-clock-requires
-put-clock-requires c κs = let s = entry (at-numbers (c .before .before .before .before .before .before)) in room (lent s) (s .pre) .clock
+put-clock-requires c κs =
+    let m = c .before .before .before in let p = m .before .before .before in let s = entry (p .before .before .before .before) in
+    room (lent s) (s .pre) .clock
 
 returns : tie.Need-returns
 returns c =
-    let k = c .before .before in let m = at-matrices k in let p = m .before .before .before in let n = at-numbers p in let s = entry n in
-    let d = s .args .d in
-    let x = p .put-picture .ensures in
-    let y = m .put-matrices .ensures in
-    let wrote : memory (n .put-numbers .last .0) (p .put-picture .last .0) (m .put-matrices .last .0) (k .put-clock .last .0) ≡ written d (lent s) =
-    wrote-all d (lent s) (n .put-numbers .ensures) (x .0) (y .0) (k .put-clock .ensures) in
-    (wrote, subst (λ (z : Memory). Holds z d) (sym wrote) (held d (record { sequence = y .1; picture = x .1; handed = handed s; stop = stop s }) (lent s)))
+    let k = c .before .before in let m = k .before .before .before .before in let p = m .before .before .before in
+    let n = p .before .before .before .before in let s = entry n in let d = s .args .d in
+    let x = p .put-integers .ensures in let y = m .put-matrices .ensures in
+    let wrote : memory (n .put-numbers .last .0) (p .put-integers .last .0) (m .put-matrices .last .0) (k .put-clock .last .0) ≡ written d (lent s) =
+    wrote-all d (lent s) (n .put-numbers .ensures) (x .0) (y .0) (k .put-clock .ensures) in (
+      wrote,
+      subst (λ (z : Memory). Holds z d) (sym wrote)
+          (held d (record { matrices = y .1; picture = x .1; handed = handed s; stop = stop s }) (lent s)),
+    )
 
 pub save-spec : {M : Type 1} → statement M
 save-spec =
-    tie.close
-    (tie.spec
-    put-numbers-requires
-    put-picture-requires
-    put-matrices-requires
-    put-clock-requires
-    (λ c. search needs)
-    (λ c. search needs)
-    (λ c. search needs)
-    (λ c. search needs)
-    returns)
+    tie.close (tie.spec put-numbers-requires put-integers-requires put-matrices-requires put-clock-requires (λ c. search needs) (λ c. search needs)
+    (λ c. search needs) (λ c. search needs) returns)

@@ -3,8 +3,8 @@ use Prim.Native.Nat.{_-_}
 use native.Mathlib.Omega.{arith}
 use lib.ListN.{length}
 use Rattle.mpeg1.proofs.Copying.{Copied, copied-none, copied-on, copied-all}
-use Rattle.mpeg1.proofs.copies.put_bytes.Statement.{statement}
-use Rattle.mpeg1.proofs.copies.put_bytes.Tie as tie
+use Rattle.mpeg1.proofs.copies.copy_bytes.Statement.{statement}
+use Rattle.mpeg1.proofs.copies.copy_bytes.Tie as tie
 
 abbrev Inv-loop : tie.InvT-loop
 Inv-loop bytes₀ at values i₀ bytes i = Copied bytes₀ at values 0 bytes i
@@ -18,18 +18,7 @@ loop-again c = copied-on (c .before .before .loop .inv) (c .before .loop-test .t
 returns : tie.Need-returns Inv-loop μ-loop
 returns c = copied-all (c .before .loop .inv) (c .loop-test .left) (c .before .before .pre)
 
-pub put-bytes-spec : {M : Type 1} → statement M
-put-bytes-spec =
-    tie.close
-    (tie.spec
-    Inv-loop
-    μ-loop
-    (λ c. copied-none)
-    (λ c. omega arith)
-    (λ c. omega arith)
-    (λ c. omega arith)
-    (λ c. omega arith)
-    (λ c. omega arith)
-    loop-again
-    (λ c. c .before .loop .inv .long)
-    returns)
+pub copy-bytes-spec : {M : Type 1} → statement M
+copy-bytes-spec =
+    tie.close (tie.spec Inv-loop μ-loop (λ c. copied-none) (λ c. omega arith) (λ c. omega arith) (λ c. omega arith) (λ c. omega arith)
+    (λ c. omega arith) loop-again (λ c. c .before .loop .inv .long) returns)

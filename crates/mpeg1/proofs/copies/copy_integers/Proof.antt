@@ -6,8 +6,8 @@ use lib.ListN.{length}
 use mir.Facts.{toZ-ofZ}
 use mir.Syntax.{w32}
 use Rattle.mpeg1.proofs.Copying.{Copied, copied-none, copied-on, copied-all}
-use Rattle.mpeg1.proofs.copies.put_integers.Statement.{statement}
-use Rattle.mpeg1.proofs.copies.put_integers.Tie as tie
+use Rattle.mpeg1.proofs.copies.copy_integers.Statement.{statement}
+use Rattle.mpeg1.proofs.copies.copy_integers.Tie as tie
 
 abbrev Inv-loop : tie.InvT-loop
 Inv-loop integers₀ at values i₀ integers i = Copied integers₀ at values (pos 0) integers i
@@ -21,20 +21,7 @@ loop-again c = copied-on (c .before .before .loop .inv) (c .before .loop-test .t
 returns : tie.Need-returns Inv-loop μ-loop
 returns c = copied-all (c .before .loop .inv) (c .loop-test .left) (c .before .before .pre)
 
-pub put-integers-spec : {M : Type 1} → statement M
-put-integers-spec =
-    tie.close
-    (tie.spec
-    Inv-loop
-    μ-loop
-    (λ c. copied-none)
-    (λ c. omega arith)
-    (λ c. omega arith)
-    (λ c. omega arith)
-    (λ c. omega arith)
-    (λ c. omega arith)
-    (λ c. omega arith)
-    (λ c. omega arith)
-    loop-again
-    (λ c. c .before .loop .inv .long)
-    returns)
+pub copy-integers-spec : {M : Type 1} → statement M
+copy-integers-spec =
+    tie.close (tie.spec Inv-loop μ-loop (λ c. copied-none) (λ c. omega arith) (λ c. omega arith) (λ c. omega arith) (λ c. omega arith)
+    (λ c. omega arith) (λ c. omega arith) (λ c. omega arith) loop-again (λ c. c .before .loop .inv .long) returns)

@@ -3,8 +3,8 @@ use borrow.Author.Tests.{le-leb, lt-leb}
 use denote.Ref.{now}
 use lib.ListN.{length}
 use Rattle.mpeg1.proofs.Seen.{zero-is}
-use Rattle.mpeg1.proofs.views.mpeg1_frame_rate.Statement.{statement}
-use Rattle.mpeg1.proofs.views.mpeg1_frame_rate.Tie as tie
+use Rattle.mpeg1.proofs.views.clock_number.Statement.{statement}
+use Rattle.mpeg1.proofs.views.clock_number.Tie as tie
 
 returns : tie.Need-returns
 returns c = rw (lt-leb 4 (length (now (c .before .args .clock))) (c .if1 .taken)) zero-is
@@ -12,5 +12,5 @@ returns c = rw (lt-leb 4 (length (now (c .before .args .clock))) (c .if1 .taken)
 returns-2 : tie.Need-returns-2
 returns-2 c = rw (le-leb 4 (length (now (c .before .before .args .clock))) (c .before .if1 .left))
 
-pub mpeg1-frame-rate-spec : {M : Type 1} → statement M
-mpeg1-frame-rate-spec = tie.close (tie.spec returns (λ c. search needs) returns-2)
+pub clock-number-spec : {M : Type 1} → statement M
+clock-number-spec = tie.close (tie.spec returns (λ c. search needs) (λ c. search needs) returns-2)
