@@ -1,7 +1,8 @@
 // A case: what the calls begin with, and which calls are made. Both sides make them, and everything is compared after each.
 use crate::difference::{self, Difference};
 use crate::ours::{Lent, Ours, NOT_SHOWN, NO_TIME};
-use crate::record::{possible, Record, NUMBERS};
+use crate::random::Random;
+use crate::record::{Record, FLOATS, INTEGERS, MATRICES, NUMBERS};
 use crate::reference::{Answer, Reference};
 use crate::tally::{Call, Tally};
 use crate::views;
@@ -24,12 +25,25 @@ pub struct Case {
     pub most: usize,
     pub conversions: Vec<Conversion>,
     pub noise: u32,
-    // how many numbers and floats the memory for the record has
-    pub lent: [usize; 2],
+    // how many elements the parts of the record's memory have: numbers, integers, matrices, clock
+    pub lent: [usize; 4],
 }
 
 // Room for a record and no more.
-pub const ROOM: [usize; 2] = [NUMBERS, 4];
+pub const ROOM: [usize; 4] = [NUMBERS, INTEGERS, MATRICES, FLOATS];
+
+// A memory for the record of which one part lacks an element, or that has nothing, or other elements behind the record.
+pub fn other_room(random: &mut Random) -> [usize; 4] {
+    let mut lent = ROOM;
+    let part = random.below(4);
+    match random.below(6) {
+        0..=2 => lent[part] -= 1,
+        3 => return [0; 4],
+        4 => lent[part] += 1 + random.below(9),
+        _ => lent = lent.map(|length| length + random.below(9)),
+    }
+    lent
+}
 
 // One bit of ours that is turned over before comparing, so that a test can see that the comparison finds it.
 #[derive(Clone, Copy, PartialEq, Debug)]
@@ -39,6 +53,8 @@ pub enum Damage {
     Shown,
     Time,
     Number(usize),
+    Integer(usize),
+    Matrix(usize),
     Clock(usize),
     Store(usize),
     View(usize),
@@ -55,10 +71,6 @@ struct Run<'a> {
 }
 
 impl Case {
-    fn has_room(&self) -> bool {
-        self.lent[0] >= ROOM[0] && self.lent[1] >= ROOM[1]
-    }
-
     pub fn run(&self, tally: &mut Tally) -> Result<(), Difference> {
         self.run_damaged(tally, None)
     }
@@ -72,7 +84,7 @@ impl Case {
             Some(record) => (Reference::from(record, self.store.clone(), self.noise), None),
             None => {
                 let said = ours.open(&self.stream) ^ (damage == Some(Damage::Opening)) as u32;
-                let (reference, number) = match self.has_room() {
+                let (reference, number) = match self.lent.iter().zip(ROOM).all(|(&lent, room)| lent >= room) {
                     true => Reference::open(&self.stream, self.store.clone()),
                     false => (Reference::from(unset(), self.store.clone(), 0), 2),
                 };
@@ -81,8 +93,7 @@ impl Case {
                 (reference, Some(number))
             }
         };
-        let reference = if self.has_room() { reference } else { reference.without_room() };
-        let mut run = Run { case: self, tally, damage, ours, reference };
+        let mut run = Run { case: self, tally, damage, ours, reference: reference.in_memory(self.lent) };
         if opened.is_some() {
             run.compare("opening")?;
         }
@@ -92,7 +103,7 @@ impl Case {
 }
 
 fn unset() -> Record {
-    Record { numbers: [-3; NUMBERS], clock: [-3.5; 4] }
+    Record { numbers: [usize::MAX - 2; NUMBERS], integers: [-3; INTEGERS], matrices: [3; MATRICES], clock: [-3.5; FLOATS] }
 }
 
 impl Run<'_> {
@@ -126,7 +137,7 @@ impl Run<'_> {
             Answer::Picture { shown, time } => (shown, time),
             Answer::Number(_) => (NOT_SHOWN, NO_TIME),
         };
-        difference::values(&what, "store shown", self.ours.shown as i64, shown as i64)?;
+        difference::values(&what, "store shown", self.ours.shown, shown)?;
         difference::floats(&what, "time", self.ours.time, time)?;
         self.compare(&what)?;
         Ok(answer.number())
@@ -136,18 +147,19 @@ impl Run<'_> {
     fn compare(&mut self, what: &str) -> Result<(), Difference> {
         match self.damage {
             Some(Damage::Number(at)) => self.ours.numbers.all()[at] ^= 1,
+            Some(Damage::Integer(at)) => self.ours.integers.all()[at] ^= 1,
+            Some(Damage::Matrix(at)) => self.ours.matrices.all()[at] ^= 1,
             Some(Damage::Clock(at)) => flip(&mut self.ours.clock.all()[at]),
             Some(Damage::Store(at)) => self.ours.store.all()[at] ^= 1,
             _ => (),
         }
         difference::records(what, &mut self.ours, &self.reference.record)?;
         difference::stores(what, &mut self.ours, &self.reference.store)?;
-        let is_possible = self.case.lent[0] >= NUMBERS && possible(&self.reference.record);
         let turned = match self.damage {
             Some(Damage::View(view)) => Some(view),
             _ => None,
         };
-        views::compare(what, &mut self.ours, &self.reference.record, is_possible, turned)
+        views::compare(what, &mut self.ours, &self.reference.record, turned)
     }
 
     fn convert_after(&mut self, call: usize) -> Result<(), Difference> {

@@ -10,7 +10,7 @@ fn record(random: &mut Random) -> Record {
     (n[WIDTH], n[HEIGHT]) = match random.below(12) {
         0 => random.one_of(&[(4095, 1), (1, 4095), (2048, 16), (16, 2048), (4080, 3)]),
         1 => random.one_of(&[(1, 1), (16, 16), (17, 1), (1, 17), (15, 15), (2, 2)]),
-        _ => (1 + random.below(100) as i64, 1 + random.below(80) as i64),
+        _ => (1 + random.below(100), 1 + random.below(80)),
     };
     let (across, down) = (macroblocks_over(n[WIDTH]), macroblocks_over(n[HEIGHT]));
     n[HEADER] = 1;
@@ -18,8 +18,8 @@ fn record(random: &mut Random) -> Record {
     n[STOP] = random.one_of(&[0, 0, 0, 8, 9]);
     match random.below(40) {
         0 => n[HEADER] = 0,
-        1 => n[STOP] = random.one_of(&[1, 7, 10, -8]),
-        2 => n[MB_SIZE] += random.one_of(&[-1, 1]),
+        1 => n[STOP] = random.one_of(&[1, 7, 10, usize::MAX]),
+        2 => n[MB_SIZE] = random.one_of(&[n[MB_SIZE] - 1, n[MB_SIZE] + 1]),
         3 => {
             n[HEADER] = 0;
             n[MB_WIDTH..=MB_SIZE].fill(0);
@@ -29,13 +29,13 @@ fn record(random: &mut Random) -> Record {
     record
 }
 
-fn size(random: &mut Random, sample: i64) -> usize {
+fn size(random: &mut Random, sample: usize) -> usize {
     match random.below(16) {
         0 => 0,
         1 => 1,
         2 => random.one_of(&[2, 3, 5, 7, 255, 257]),
-        3 => sample as usize,
-        4 => (2 * sample as usize).min(300),
+        3 => sample,
+        4 => (2 * sample).min(300),
         5 => random.one_of(&[4095, 4096, 4096, 4097, 4097, 5000, usize::MAX]),
         _ => random.below(90),
     }
@@ -71,7 +71,7 @@ fn conversion(random: &mut Random, record: &Record) -> Conversion {
 
 pub fn case(random: &mut Random) -> Case {
     let record = record(random);
-    let needed = 1152 * (macroblocks_over(record.numbers[WIDTH]) * macroblocks_over(record.numbers[HEIGHT])) as usize;
+    let needed = 1152 * macroblocks_over(record.numbers[WIDTH]) * macroblocks_over(record.numbers[HEIGHT]);
     let length = match random.below(20) {
         0 => needed - 1,
         1 => random.below(needed),

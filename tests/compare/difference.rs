@@ -1,6 +1,6 @@
 // The first thing in which ours and the Rust differ, as a sentence.
 use crate::ours::{Lent, Ours, BEHIND};
-use crate::record::{name, Record};
+use crate::record::{float_name, integer_name, matrix_name, number_name, Record};
 
 pub struct Difference(pub String);
 
@@ -9,14 +9,10 @@ fn differ<T: std::fmt::Display>(what: &str, thing: &str, ours: T, rust: T) -> Re
 }
 
 pub fn answers(what: &str, ours: u32, rust: u32) -> Result<(), Difference> {
-    if ours == rust {
-        Ok(())
-    } else {
-        differ(what, "answer", ours, rust)
-    }
+    values(what, "answer", ours, rust)
 }
 
-pub fn values(what: &str, thing: &str, ours: i64, rust: i64) -> Result<(), Difference> {
+pub fn values<T: PartialEq + std::fmt::Display>(what: &str, thing: &str, ours: T, rust: T) -> Result<(), Difference> {
     if ours == rust {
         Ok(())
     } else {
@@ -40,18 +36,29 @@ fn guards<T: Copy + PartialEq>(what: &str, thing: &str, lent: &Lent<T>) -> Resul
     }
 }
 
-pub fn records(what: &str, ours: &mut Ours, rust: &Record) -> Result<(), Difference> {
-    guards(what, "numbers", &ours.numbers)?;
-    guards(what, "clock", &ours.clock)?;
-    let numbers = ours.numbers.inner();
-    if numbers != rust.numbers {
-        for (at, (&a, &b)) in numbers.iter().zip(rust.numbers.iter().chain(std::iter::repeat(&BEHIND))).enumerate() {
-            values(what, &name(at), a, b)?;
+// A part of the record's memory, with what lies behind the record.
+fn parts<T>(what: &str, name: fn(usize) -> String, ours: &[T], rust: &[T]) -> Result<(), Difference>
+where
+    T: Copy + PartialEq + std::fmt::Display + From<u8>,
+{
+    if ours != rust {
+        for (at, &element) in ours.iter().enumerate() {
+            values(what, &name(at), element, rust.get(at).copied().unwrap_or(T::from(BEHIND)))?;
         }
     }
-    let names = ["framerate", "pixel_aspect_ratio", "time of the next picture", "last_frame_time", "float behind the clock"];
-    for (at, (&a, &b)) in ours.clock.inner().iter().zip(rust.clock.iter().chain(std::iter::repeat(&(BEHIND as f64)))).enumerate() {
-        floats(what, names[at.min(4)], a, b)?;
+    Ok(())
+}
+
+pub fn records(what: &str, ours: &mut Ours, rust: &Record) -> Result<(), Difference> {
+    guards(what, "numbers", &ours.numbers)?;
+    guards(what, "integers", &ours.integers)?;
+    guards(what, "matrices", &ours.matrices)?;
+    guards(what, "clock", &ours.clock)?;
+    parts(what, number_name, ours.numbers.inner(), &rust.numbers)?;
+    parts(what, integer_name, ours.integers.inner(), &rust.integers)?;
+    parts(what, matrix_name, ours.matrices.inner(), &rust.matrices)?;
+    for (at, &float) in ours.clock.inner().iter().enumerate() {
+        floats(what, &float_name(at), float, rust.clock.get(at).copied().unwrap_or(BEHIND as f64))?;
     }
     Ok(())
 }

@@ -30,7 +30,7 @@ fn lengths(codes: &Codes, random: &mut Random) -> Vec<Case> {
 
 // A hand-out from places at and beyond the end of the longest stream, with a header or without.
 fn places(random: &mut Random) -> Vec<Case> {
-    let end = 8 * LONGEST as i64;
+    let end = 8 * LONGEST;
     let mut cases = Vec::new();
     for (length, place, header) in [(LONGEST, end, 1), (LONGEST, end - 40, 1), (LONGEST, end - 1, 0), (LONGEST, 0, 0), (LONGEST + 1, 0, 1)] {
         let mut record = Record::fresh();

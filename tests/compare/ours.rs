@@ -2,14 +2,31 @@
 use crate::record::Record;
 
 extern "C" {
-    fn mpeg1_open(stream: *const u8, n: usize, store: *mut u8, m: usize, numbers: *mut i64, nn: usize, clock: *mut f64, nc: usize) -> u32;
+    fn mpeg1_open(
+        stream: *const u8,
+        n: usize,
+        store: *mut u8,
+        m: usize,
+        numbers: *mut usize,
+        nn: usize,
+        integers: *mut i32,
+        ni: usize,
+        matrices: *mut u8,
+        nm: usize,
+        clock: *mut f64,
+        nc: usize,
+    ) -> u32;
     fn mpeg1_decode(
         stream: *const u8,
         n: usize,
         store: *mut u8,
         m: usize,
-        numbers: *mut i64,
+        numbers: *mut usize,
         nn: usize,
+        integers: *mut i32,
+        ni: usize,
+        matrices: *mut u8,
+        nm: usize,
         clock: *mut f64,
         nc: usize,
         shown: *mut usize,
@@ -18,10 +35,12 @@ extern "C" {
     fn mpeg1_write_rgb_scaled(
         store: *const u8,
         m: usize,
-        numbers: *const i64,
+        numbers: *const usize,
         nn: usize,
-        clock: *const f64,
-        nc: usize,
+        integers: *const i32,
+        ni: usize,
+        matrices: *const u8,
+        nm: usize,
         index: usize,
         area: *mut u32,
         na: usize,
@@ -31,7 +50,7 @@ extern "C" {
 }
 
 // How many values stand before and behind lent memory, which no call may change.
-const GUARD: usize = 16;
+pub const GUARD: usize = 16;
 
 // Values that are lent, between guards.
 pub struct Lent<T> {
@@ -45,12 +64,21 @@ impl<T: Copy + PartialEq> Lent<T> {
         Lent { values, guard }
     }
 
+    // So many of the values, or with others behind them.
+    fn resized(values: &[T], length: usize, behind: T, guard: T) -> Self {
+        let mut values = values.to_vec();
+        values.resize(length, behind);
+        Lent::new(&values, guard)
+    }
+
     fn len(&self) -> usize {
         self.values.len() - 2 * GUARD
     }
 
-    fn pointer(&mut self) -> *mut T {
-        self.all()[GUARD..].as_mut_ptr()
+    // Pointer and length, as a call takes them.
+    fn parts(&mut self) -> (*mut T, usize) {
+        let inner = self.inner();
+        (inner.as_mut_ptr(), inner.len())
     }
 
     // With the guards.
@@ -70,7 +98,9 @@ impl<T: Copy + PartialEq> Lent<T> {
 }
 
 pub struct Ours {
-    pub numbers: Lent<i64>,
+    pub numbers: Lent<usize>,
+    pub integers: Lent<i32>,
+    pub matrices: Lent<u8>,
     pub clock: Lent<f64>,
     pub store: Lent<u8>,
     // what a hand-out tells of a picture; before it these are values that no picture has
@@ -81,39 +111,38 @@ pub struct Ours {
 // What stands for no store and no time, and behind a record in memory that is longer.
 pub const NOT_SHOWN: usize = usize::MAX;
 pub const NO_TIME: f64 = -1.0;
-pub const BEHIND: i64 = 1234;
-
-// So many of the values, or with others behind them.
-fn resized<T: Copy>(values: &[T], length: usize, behind: T) -> Vec<T> {
-    let mut values = values.to_vec();
-    values.resize(length, behind);
-    values
-}
+pub const BEHIND: u8 = 123;
 
 impl Ours {
-    // The memory for the record has so many numbers and floats.
-    pub fn from(record: &Record, store: &[u8], lent: [usize; 2]) -> Self {
-        let numbers = Lent::new(&resized(&record.numbers, lent[0], BEHIND), -77);
-        let clock = Lent::new(&resized(&record.clock, lent[1], BEHIND as f64), -7.5);
-        Ours { numbers, clock, store: Lent::new(store, 0x5a), shown: NOT_SHOWN, time: NO_TIME }
+    // The parts of the memory for the record have so many elements.
+    pub fn from(record: &Record, store: &[u8], lent: [usize; 4]) -> Self {
+        Ours {
+            numbers: Lent::resized(&record.numbers, lent[0], BEHIND as usize, 77),
+            integers: Lent::resized(&record.integers, lent[1], BEHIND as i32, -77),
+            matrices: Lent::resized(&record.matrices, lent[2], BEHIND, 0xa5),
+            clock: Lent::resized(&record.clock, lent[3], BEHIND as f64, -7.5),
+            store: Lent::new(store, 0x5a),
+            shown: NOT_SHOWN,
+            time: NO_TIME,
+        }
     }
 
     pub fn open(&mut self, stream: &[u8]) -> u32 {
-        let (m, nn, nc) = (self.store.len(), self.numbers.len(), self.clock.len());
-        let (store, numbers, clock) = (self.store.pointer(), self.numbers.pointer(), self.clock.pointer());
-        unsafe { mpeg1_open(stream.as_ptr(), stream.len(), store, m, numbers, nn, clock, nc) }
+        let ((s, m), (n, nn), (i, ni)) = (self.store.parts(), self.numbers.parts(), self.integers.parts());
+        let ((q, nm), (c, nc)) = (self.matrices.parts(), self.clock.parts());
+        unsafe { mpeg1_open(stream.as_ptr(), stream.len(), s, m, n, nn, i, ni, q, nm, c, nc) }
     }
 
     pub fn hand_out(&mut self, stream: &[u8]) -> u32 {
-        let (m, nn, nc) = (self.store.len(), self.numbers.len(), self.clock.len());
-        let (store, numbers, clock) = (self.store.pointer(), self.numbers.pointer(), self.clock.pointer());
+        let ((s, m), (n, nn), (i, ni)) = (self.store.parts(), self.numbers.parts(), self.integers.parts());
+        let ((q, nm), (c, nc)) = (self.matrices.parts(), self.clock.parts());
         (self.shown, self.time) = (NOT_SHOWN, NO_TIME);
-        unsafe { mpeg1_decode(stream.as_ptr(), stream.len(), store, m, numbers, nn, clock, nc, &mut self.shown, &mut self.time) }
+        unsafe { mpeg1_decode(stream.as_ptr(), stream.len(), s, m, n, nn, i, ni, q, nm, c, nc, &mut self.shown, &mut self.time) }
     }
 
     pub fn convert(&mut self, index: usize, area: &mut Lent<u32>, width: usize, height: usize) -> u32 {
-        let (m, nn, nc, na) = (self.store.len(), self.numbers.len(), self.clock.len(), area.len());
-        let (store, numbers, clock) = (self.store.pointer(), self.numbers.pointer(), self.clock.pointer());
-        unsafe { mpeg1_write_rgb_scaled(store, m, numbers, nn, clock, nc, index, area.pointer(), na, width, height) }
+        let ((s, m), (n, nn), (i, ni)) = (self.store.parts(), self.numbers.parts(), self.integers.parts());
+        let ((q, nm), (a, na)) = (self.matrices.parts(), area.parts());
+        unsafe { mpeg1_write_rgb_scaled(s, m, n, nn, i, ni, q, nm, index, a, na, width, height) }
     }
 }

@@ -1,4 +1,5 @@
 // The three calls as docs/RULES.md has them: the questions 1 to 6, 10 and 11 are asked here, and the rest is left to the Rust.
+use crate::case::ROOM;
 use crate::record::*;
 use crate::rust::{asking, unchanged, Stopped};
 use std::cell::Cell;
@@ -51,14 +52,14 @@ pub struct Reference {
     // Decoders in the state of record and store, once there are any: the unchanged one and the copy that asks.
     videos: Option<(unchanged::video::Video, asking::video::Video)>,
     noise: u32,
-    // whether the memory that is lent has room for a record
-    roomy: bool,
+    // how many elements the parts of the record's memory have
+    lent: [usize; 4],
 }
 
 // The sequence header that a try at one finds: the number 3, 4 or 5, or width and height (RULES 1.9, 1.10, O.3, Q3 to Q5).
-fn header(record: &Record, stream: &[u8]) -> Result<(i64, i64), u32> {
-    let mut place = record.numbers[PLACE] as usize;
-    if record.numbers[START_CODE] != 0xb3 {
+fn header(record: &Record, stream: &[u8]) -> Result<(usize, usize), u32> {
+    let mut place = record.numbers[PLACE];
+    if record.integers[START_CODE] != 0xb3 {
         let mut from = place.div_ceil(8);
         loop {
             let found = (from..stream.len().saturating_sub(4)).find(|&at| stream[at..at + 3] == [0, 0, 1]).ok_or(3u32)?;
@@ -73,7 +74,7 @@ fn header(record: &Record, stream: &[u8]) -> Result<(i64, i64), u32> {
     if 8 * stream.len() < place + 1088 {
         return Err(4);
     }
-    let bit = |at: usize| (stream[at / 8] >> (7 - at % 8) & 1) as i64;
+    let bit = |at: usize| (stream[at / 8] >> (7 - at % 8) & 1) as usize;
     let twelve = |at: usize| (at..at + 12).fold(0, |number, at| number * 2 + bit(at));
     match (twelve(place), twelve(place + 12)) {
         (0, _) | (_, 0) => Err(5),
@@ -81,8 +82,8 @@ fn header(record: &Record, stream: &[u8]) -> Result<(i64, i64), u32> {
     }
 }
 
-fn store_needed((width, height): (i64, i64)) -> usize {
-    1152 * (macroblocks_over(width) * macroblocks_over(height)) as usize
+fn store_needed((width, height): (usize, usize)) -> usize {
+    1152 * macroblocks_over(width) * macroblocks_over(height)
 }
 
 // The bytes of store that the first header of a stream asks for, 0 where there is none.
@@ -93,12 +94,12 @@ pub fn store_for(stream: &[u8]) -> usize {
 impl Reference {
     // A record that is passed in. What `noise` holds goes to the fields of the Rust that no record has.
     pub fn from(record: Record, store: Vec<u8>, noise: u32) -> Self {
-        Reference { record, store, videos: None, noise, roomy: true }
+        Reference { record, store, videos: None, noise, lent: ROOM }
     }
 
     // Calls on a memory that is too short for a record change nothing.
-    pub fn without_room(mut self) -> Self {
-        self.roomy = false;
+    pub fn in_memory(mut self, lent: [usize; 4]) -> Self {
+        self.lent = lent;
         self
     }
 
@@ -126,8 +127,9 @@ impl Reference {
         video.put_stores(&mut self.store);
     }
 
-    fn is_possible(&self) -> bool {
-        self.roomy && possible(&self.record)
+    // RULES Q2, where a call is lent the first `parts` of the record's memory: a conversion has no clock.
+    fn is_possible(&self, parts: usize) -> bool {
+        (0..parts).all(|part| self.lent[part] >= ROOM[part]) && possible(&self.record)
     }
 
     // RULES Q, the order of a hand-out.
@@ -135,7 +137,7 @@ impl Reference {
         if stream.len() > LONGEST {
             return Answer::Number(1);
         }
-        if !self.is_possible() {
+        if !self.is_possible(4) {
             return Answer::Number(2);
         }
         if self.record.numbers[STOP] != 0 {
@@ -163,7 +165,7 @@ impl Reference {
         if let Err(number) = asked {
             assert!(number == 8 || given == Err(9), "where 9 is answered the Rust panics");
             asking.put_stores(&mut self.store);
-            self.record.numbers[STOP] = number as i64;
+            self.record.numbers[STOP] = number as usize;
             self.videos = None;
             return Answer::Number(number);
         }
@@ -179,7 +181,7 @@ impl Reference {
 
     // RULES Q, the order of a conversion.
     pub fn convert(&mut self, index: usize, area: &mut [u32], width: usize, height: usize) -> u32 {
-        if !self.is_possible() {
+        if !self.is_possible(3) {
             return 2;
         }
         if self.store.len() < 1152 * self.record.macroblocks() {

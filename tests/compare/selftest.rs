@@ -1,12 +1,10 @@
 // The comparison must be able to fail: one bit of ours is turned over before comparing, in each thing that is compared, and must be named.
 use crate::case::{Case, Conversion, Damage, ROOM};
 use crate::kept;
-use crate::record::{name, NUMBERS};
+use crate::ours::GUARD;
+use crate::record::*;
 use crate::tally::Tally;
 use crate::views::VIEWS;
-
-// What is lent has so many values before it that no call may change.
-const GUARD: usize = 16;
 
 // Each damage, and a word of the sentence that tells it.
 fn damages(store: usize, area: usize) -> Vec<(Damage, String)> {
@@ -18,8 +16,12 @@ fn damages(store: usize, area: usize) -> Vec<(Damage, String)> {
         (Damage::Conversion, "hand-outs: answer"),
         (Damage::Number(GUARD - 1), "numbers: ours has changed"),
         (Damage::Number(GUARD + NUMBERS), "numbers: ours has changed"),
+        (Damage::Integer(GUARD - 1), "integers: ours has changed"),
+        (Damage::Integer(GUARD + INTEGERS), "integers: ours has changed"),
+        (Damage::Matrix(GUARD - 1), "matrices: ours has changed"),
+        (Damage::Matrix(GUARD + MATRICES), "matrices: ours has changed"),
         (Damage::Clock(GUARD - 1), "clock: ours has changed"),
-        (Damage::Clock(GUARD + 4), "clock: ours has changed"),
+        (Damage::Clock(GUARD + FLOATS), "clock: ours has changed"),
         (Damage::Store(GUARD - 1), "store: ours has changed"),
         (Damage::Store(GUARD + store), "store: ours has changed"),
         (Damage::Pixel(GUARD - 1), "area: ours has changed"),
@@ -27,10 +29,12 @@ fn damages(store: usize, area: usize) -> Vec<(Damage, String)> {
     ]
     .map(|(damage, word)| (damage, word.to_string()))
     .to_vec();
-    let clock = ["framerate", "pixel_aspect_ratio", "time of the next picture", "last_frame_time"];
-    all.extend((0..4).map(|at| (Damage::Clock(GUARD + at), clock[at].to_string())));
     all.extend((0..VIEWS.len()).map(|view| (Damage::View(view), VIEWS[view].to_string())));
-    all.extend((0..NUMBERS).map(|at| (Damage::Number(GUARD + at), name(at))));
+    let named = |name: String| format!(": {name}: ours");
+    all.extend((0..NUMBERS).map(|at| (Damage::Number(GUARD + at), named(number_name(at)))));
+    all.extend((0..INTEGERS).map(|at| (Damage::Integer(GUARD + at), named(integer_name(at)))));
+    all.extend((0..MATRICES).map(|at| (Damage::Matrix(GUARD + at), named(matrix_name(at)))));
+    all.extend((0..FLOATS).map(|at| (Damage::Clock(GUARD + at), named(float_name(at)))));
     all.extend((0..store).map(|at| (Damage::Store(GUARD + at), format!("byte {at} of"))));
     all.extend((0..area).map(|at| (Damage::Pixel(GUARD + at), format!("pixel {at}:"))));
     all

@@ -1,36 +1,36 @@
 // Added to the Rust's decoder, in the same module: its state from a record and a store, and back.
 use crate::record::*;
 
-fn motion(n: &[i64]) -> Motion {
-    Motion { full_px: n[FULL] != 0, is_set: n[SET] != 0, r_size: n[R] as i32, h: n[H] as i32, v: n[V] as i32 }
+fn motion(n: &[usize], vector: &[i32]) -> Motion {
+    Motion { full_px: n[FULL] != 0, is_set: n[SET] != 0, r_size: n[R] as i32, h: vector[0], v: vector[1] }
 }
 
-fn motion_numbers(m: &Motion) -> [i64; 5] {
-    [m.full_px as i64, m.is_set as i64, m.r_size as i64, m.h as i64, m.v as i64]
+fn motion_numbers(m: &Motion) -> [usize; 3] {
+    [m.full_px as usize, m.is_set as usize, m.r_size as usize]
 }
 
 impl Video {
     // A decoder with the state of a record that is possible. `noise` sets the fields that no record has (RULES 7.21).
     pub fn from_record(record: &Record, stream: &[u8], store: &[u8], noise: u32) -> Self {
-        let n = &record.numbers;
+        let (n, i) = (&record.numbers, &record.integers);
         let mut video = Video::new(Vec::new());
-        video.buffer = Buffer::at(stream.to_vec(), n[PLACE] as usize);
+        video.buffer = Buffer::at(stream.to_vec(), n[PLACE]);
         video.has_sequence_header = n[HEADER] != 0;
-        [video.width, video.height] = [n[WIDTH] as usize, n[HEIGHT] as usize];
-        [video.mb_width, video.mb_height, video.mb_size] = [n[MB_WIDTH] as usize, n[MB_HEIGHT] as usize, n[MB_SIZE] as usize];
+        [video.width, video.height] = [n[WIDTH], n[HEIGHT]];
+        [video.mb_width, video.mb_height, video.mb_size] = [n[MB_WIDTH], n[MB_HEIGHT], n[MB_SIZE]];
         [video.luma_width, video.luma_height] = [video.mb_width * 16, video.mb_height * 16];
         [video.chroma_width, video.chroma_height] = [video.mb_width * 8, video.mb_height * 8];
-        video.intra_quant_matrix = std::array::from_fn(|k| n[INTRA + k] as u8);
-        video.non_intra_quant_matrix = std::array::from_fn(|k| n[NON_INTRA + k] as u8);
-        [video.picture_type, video.start_code] = [n[TYPE] as i32, n[START_CODE] as i32];
-        [video.cur, video.fwd, video.bwd] = [n[STORES] as usize, n[STORES + 1] as usize, n[STORES + 2] as usize];
-        [video.quantizer_scale, video.macroblock_address] = [n[SCALE] as i32, n[ADDRESS] as i32];
-        video.motion_forward = motion(&n[FORWARD..]);
-        video.motion_backward = motion(&n[BACKWARD..]);
-        video.dc_predictor = std::array::from_fn(|k| n[DC + k] as i32);
-        video.block_data = std::array::from_fn(|k| n[BLOCK + k] as i32);
+        video.intra_quant_matrix.copy_from_slice(&record.matrices[..NON_INTRA]);
+        video.non_intra_quant_matrix.copy_from_slice(&record.matrices[NON_INTRA..]);
+        [video.picture_type, video.start_code] = [n[TYPE] as i32, i[START_CODE]];
+        [video.cur, video.fwd, video.bwd] = [n[STORES], n[STORES + 1], n[STORES + 2]];
+        [video.quantizer_scale, video.macroblock_address] = [n[SCALE] as i32, i[ADDRESS]];
+        video.motion_forward = motion(&n[FORWARD..], &i[VECTORS..]);
+        video.motion_backward = motion(&n[BACKWARD..], &i[VECTORS + 2..]);
+        video.dc_predictor.copy_from_slice(&i[DC..BLOCK]);
+        video.block_data.copy_from_slice(&i[BLOCK..]);
         video.has_reference_frame = n[HELD] != 0;
-        video.frames_decoded = n[HANDED];
+        video.frames_decoded = n[HANDED] as i64;
         [video.framerate, video.pixel_aspect_ratio, video.time, video.last_frame_time] = record.clock;
         video.set_dead(noise);
         if video.has_sequence_header {
@@ -58,26 +58,24 @@ impl Video {
 
     pub fn record(&self) -> Record {
         let mut record = Record::fresh();
-        let n = &mut record.numbers;
-        n[PLACE] = self.buffer.place() as i64;
-        n[HEADER] = self.has_sequence_header as i64;
-        [n[WIDTH], n[HEIGHT]] = [self.width as i64, self.height as i64];
-        [n[MB_WIDTH], n[MB_HEIGHT], n[MB_SIZE]] = [self.mb_width as i64, self.mb_height as i64, self.mb_size as i64];
-        for k in 0..64 {
-            n[INTRA + k] = self.intra_quant_matrix[k] as i64;
-            n[NON_INTRA + k] = self.non_intra_quant_matrix[k] as i64;
-            n[BLOCK + k] = self.block_data[k] as i64;
-        }
-        [n[TYPE], n[START_CODE]] = [self.picture_type as i64, self.start_code as i64];
-        [n[STORES], n[STORES + 1], n[STORES + 2]] = [self.cur as i64, self.fwd as i64, self.bwd as i64];
-        [n[SCALE], n[ADDRESS]] = [self.quantizer_scale as i64, self.macroblock_address as i64];
-        n[FORWARD..FORWARD + 5].copy_from_slice(&motion_numbers(&self.motion_forward));
-        n[BACKWARD..BACKWARD + 5].copy_from_slice(&motion_numbers(&self.motion_backward));
-        for k in 0..3 {
-            n[DC + k] = self.dc_predictor[k] as i64;
-        }
-        n[HELD] = self.has_reference_frame as i64;
-        n[HANDED] = self.frames_decoded;
+        let (n, i) = (&mut record.numbers, &mut record.integers);
+        n[PLACE] = self.buffer.place();
+        n[HEADER] = self.has_sequence_header as usize;
+        [n[WIDTH], n[HEIGHT]] = [self.width, self.height];
+        [n[MB_WIDTH], n[MB_HEIGHT], n[MB_SIZE]] = [self.mb_width, self.mb_height, self.mb_size];
+        record.matrices[..NON_INTRA].copy_from_slice(&self.intra_quant_matrix);
+        record.matrices[NON_INTRA..].copy_from_slice(&self.non_intra_quant_matrix);
+        (n[TYPE], i[START_CODE]) = (self.picture_type as usize, self.start_code);
+        [n[STORES], n[STORES + 1], n[STORES + 2]] = [self.cur, self.fwd, self.bwd];
+        (n[SCALE], i[ADDRESS]) = (self.quantizer_scale as usize, self.macroblock_address);
+        n[FORWARD..FORWARD + 3].copy_from_slice(&motion_numbers(&self.motion_forward));
+        n[BACKWARD..BACKWARD + 3].copy_from_slice(&motion_numbers(&self.motion_backward));
+        [i[VECTORS], i[VECTORS + 1]] = [self.motion_forward.h, self.motion_forward.v];
+        [i[VECTORS + 2], i[VECTORS + 3]] = [self.motion_backward.h, self.motion_backward.v];
+        i[DC..BLOCK].copy_from_slice(&self.dc_predictor);
+        i[BLOCK..].copy_from_slice(&self.block_data);
+        n[HELD] = self.has_reference_frame as usize;
+        n[HANDED] = self.frames_decoded as usize;
         record.clock = [self.framerate, self.pixel_aspect_ratio, self.time, self.last_frame_time];
         record
     }

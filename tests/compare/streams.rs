@@ -1,5 +1,5 @@
 // Streams, each opened and then asked for its pictures: whole, cut after each byte, made by chance, damaged.
-use crate::case::{Case, Conversion, ROOM};
+use crate::case::{other_room, Case, Conversion, ROOM};
 use crate::codes::Codes;
 use crate::damage::damaged;
 use crate::made;
@@ -31,7 +31,7 @@ pub fn whole(stream: Vec<u8>, random: &mut Random) -> Case {
 }
 
 // The store that a stream is given: what its header asks for, now and then less or more.
-fn lent(stream: &[u8], random: &mut Random) -> Vec<u8> {
+fn store_lent(stream: &[u8], random: &mut Random) -> Vec<u8> {
     let needed = store_for(stream).min(1152 * 80);
     let length = match random.below(32) {
         0 => needed.saturating_sub(1),
@@ -44,9 +44,8 @@ fn lent(stream: &[u8], random: &mut Random) -> Vec<u8> {
 
 pub fn opened(stream: Vec<u8>, random: &mut Random) -> Case {
     let conversions = (0..(random.below(3) == 0) as usize).map(|_| any_conversion(random, 24)).collect();
-    let room = random.one_of(&[[221, 4], [222, 3], [300, 7], [0, 0]]);
-    let room = if random.below(200) == 0 { room } else { ROOM };
-    Case { begin: None, store: lent(&stream, random), stream, most: 40, conversions, noise: 0, lent: room }
+    let lent = if random.below(150) == 0 { other_room(random) } else { ROOM };
+    Case { begin: None, store: store_lent(&stream, random), stream, most: 40, conversions, noise: 0, lent }
 }
 
 // What random cases are made of: the codes, and streams of encoders.
