@@ -1,16 +1,26 @@
-/* A test: lists the pictures of streams as tests/streams/pictures.txt does, and puts calls that are refused: pictures FILE.. */
+/* A test: lists the pictures of streams as tests/streams/pictures.txt does, by the calls on parts of memory and by those on a struct, and puts
+   calls that are refused: pictures FILE.. */
 #include "mpeg1.h"
 #include <inttypes.h>
 #include <stdio.h>
 #include <stdlib.h>
 #include <string.h>
 
-enum { NUMBERS = 230, FLOATS = 6, AREA = 37 * 29, MOST = 1 << 24 };
+enum { NUMBERS, INTEGERS, MATRICES, CLOCK, PARTS, MORE = 5, AREA = 37 * 29, MOST = 1 << 24 };
 
-static int64_t numbers[NUMBERS], numbers_before[NUMBERS];
-static double clock_[FLOATS], clock_before[FLOATS];
-static uint32_t area[AREA];
-static size_t n, floats;
+/* The record's memory, with elements behind the record in each part. */
+static struct memory {
+    size_t numbers[21 + MORE];
+    int32_t integers[73 + MORE];
+    uint8_t matrices[128 + MORE];
+    double clock[4 + MORE];
+} m, before;
+static size_t count[PARTS];
+
+static mpeg1_record record;
+static uint8_t *stream, *store, *other_store;
+static size_t bytes, room;
+static uint32_t area[AREA], other_area[AREA];
 
 static void expect(int right, const char *what)
 {
@@ -20,88 +30,162 @@ static void expect(int right, const char *what)
     }
 }
 
-/* Is the record's memory as it was? The elements behind the record belong to it here. */
-static int kept(void)
-{
-    return !memcmp(numbers, numbers_before, sizeof numbers) && !memcmp(clock_, clock_before, sizeof clock_);
-}
-
-static void keep(void)
-{
-    memcpy(numbers_before, numbers, sizeof numbers);
-    memcpy(clock_before, clock_, sizeof clock_);
-}
-
 /* FNV-1a, 64 bits */
-static uint64_t checksum(const uint8_t *data, size_t bytes, uint64_t sum)
+static uint64_t checksum(const uint8_t *data, size_t length, uint64_t sum)
 {
-    for (size_t i = 0; i < bytes; i++)
+    for (size_t i = 0; i < length; i++)
         sum = (sum ^ data[i]) * UINT64_C(0x100000001b3);
     return sum;
 }
 
-/* Each of these is answered by 2, and writes nothing. */
-static void refusals(const uint8_t *stream, size_t bytes, uint8_t *store, size_t room, size_t *shown, double *time)
+/* The calls on parts of so many elements. */
+static uint32_t open_in(const size_t *n)
 {
-    static const struct { size_t place; int64_t value; } spoilt[] = {{1, 2}, {7, 256}, {142, -1}, {145, 1 << 20}, {155, INT64_MAX}, {221, 7}};
-    keep();
-    expect(mpeg1_open(stream, bytes, store, room, numbers, n - 1, clock_, floats) == 2 && kept(), "open, a number short");
-    expect(mpeg1_open(stream, bytes, store, room, numbers, n, clock_, floats - 1) == 2 && kept(), "open, a float short");
-    expect(mpeg1_decode(stream, bytes, store, room, numbers, n - 1, clock_, floats, shown, time) == 2 && kept(), "decode, a number short");
-    expect(mpeg1_decode(stream, bytes, store, room, numbers, n, clock_, floats - 1, shown, time) == 2 && kept(), "decode, a float short");
-    expect(mpeg1_write_rgb_scaled(store, room, numbers, n, clock_, floats, 3, area, AREA, 37, 29) == 10, "store 3");
-    expect(mpeg1_write_rgb_scaled(store, room, numbers, n, clock_, floats, 0, area, AREA - 1, 37, 29) == 11, "a small area");
-    expect(mpeg1_plane_start(numbers, n, 3, 0) == 0 && mpeg1_row_bytes(numbers, n, 3) == 0 && mpeg1_width(numbers, n - 1) == 0, "views");
-    for (size_t i = 0; i < sizeof spoilt / sizeof *spoilt; i++) {
-        int64_t was = numbers[spoilt[i].place];
-        numbers[spoilt[i].place] = spoilt[i].value;
-        keep();
-        expect(mpeg1_decode(stream, bytes, store, room, numbers, n, clock_, floats, shown, time) == 2 && kept(), "decode, no record");
-        expect(mpeg1_write_rgb_scaled(store, room, numbers, n, clock_, floats, 0, area, AREA, 37, 29) == 2, "conversion, no record");
-        expect(mpeg1_width(numbers, n) == 0, "width of no record");
-        numbers[spoilt[i].place] = was;
+    return mpeg1_open(stream, bytes, store, room, m.numbers, n[NUMBERS], m.integers, n[INTEGERS], m.matrices, n[MATRICES], m.clock, n[CLOCK]);
+}
+
+static uint32_t decode_in(const size_t *n, size_t *shown, double *time)
+{
+    return mpeg1_decode(stream, bytes, store, room, m.numbers, n[NUMBERS], m.integers, n[INTEGERS], m.matrices, n[MATRICES], m.clock, n[CLOCK],
+                        shown, time);
+}
+
+static uint32_t convert_in(const size_t *n, size_t index, size_t pixels)
+{
+    return mpeg1_write_rgb_scaled(store, room, m.numbers, n[NUMBERS], m.integers, n[INTEGERS], m.matrices, n[MATRICES], index, area, pixels, 37, 29);
+}
+
+static int kept(void)
+{
+    return !memcmp(&m, &before, sizeof m);
+}
+
+/* Each part with an element less: 2, and nothing is written. A conversion has no clock. */
+static void short_parts(size_t *shown, double *time)
+{
+    memcpy(&before, &m, sizeof m);
+    for (size_t part = 0; part < PARTS; part++) {
+        size_t n[PARTS];
+        memcpy(n, count, sizeof n);
+        n[part]--;
+        expect(open_in(n) == 2 && kept(), "open, a part is short");
+        expect(decode_in(n, shown, time) == 2 && kept(), "decode, a part is short");
+        if (part != CLOCK)
+            expect(convert_in(n, 0, AREA) == 2, "conversion, a part is short");
+    }
+    expect(mpeg1_width(m.numbers, count[NUMBERS] - 1) == 0 && mpeg1_position(m.numbers, count[NUMBERS] - 1) == 0, "numbers are short");
+    expect(mpeg1_frame_rate(m.clock, count[CLOCK] - 1) == 0, "the clock is short");
+}
+
+/* Memory that holds no record, or none that is possible: 2, and nothing is written. */
+static void spoilt(size_t *shown, double *time)
+{
+    static const struct { size_t place, value; } numbers[] = {{1, 2}, {2, 4096}, {6, 0}, {7, 8}, {8, 3}, {11, 32}, {12, 2}, {14, 7}, {18, SIZE_MAX},
+        {19, SIZE_MAX}, {20, 7}, {7, UINT64_C(1) << 32}, {20, UINT64_C(1) << 32}};
+    static const struct { size_t place; int32_t value; } integers[] = {{0, -2}, {1, -2}, {2, 1024}, {5, -1025}, {6, 256}, {9, INT32_MIN}, {72, INT32_MAX}};
+    for (size_t i = 0; i < sizeof numbers / sizeof *numbers; i++) {
+        size_t was = m.numbers[numbers[i].place];
+        m.numbers[numbers[i].place] = numbers[i].value;
+        memcpy(&before, &m, sizeof m);
+        expect(decode_in(count, shown, time) == 2 && kept() && convert_in(count, 0, AREA) == 2, "a number that no record has");
+        expect((mpeg1_width(m.numbers, count[NUMBERS]) == 0) == (numbers[i].place <= 6), "width where a number is not possible");
+        m.numbers[numbers[i].place] = was;
+    }
+    for (size_t i = 0; i < sizeof integers / sizeof *integers; i++) {
+        int32_t was = m.integers[integers[i].place];
+        m.integers[integers[i].place] = integers[i].value;
+        memcpy(&before, &m, sizeof m);
+        expect(decode_in(count, shown, time) == 2 && kept() && convert_in(count, 0, AREA) == 2, "an integer that no record has");
+        m.integers[integers[i].place] = was;
     }
 }
 
-static void list(const char *path, uint8_t *stream, uint8_t *store, size_t room)
+static void refusals(size_t *shown, double *time)
 {
-    const char *name = strrchr(path, '/') ? strrchr(path, '/') + 1 : path;
+    short_parts(shown, time);
+    spoilt(shown, time);
+    expect(convert_in(count, 3, AREA) == 10, "store 3");
+    expect(convert_in(count, 0, AREA - 1) == 11, "a small area");
+    expect(mpeg1_plane_start(m.numbers, count[NUMBERS], 3, 0) == 0 && mpeg1_row_bytes(m.numbers, count[NUMBERS], 3) == 0, "planes");
+}
+
+/* The struct has what the memory has, and its functions give what the calls on parts give. */
+static void same(size_t index)
+{
+    const size_t *n = m.numbers, c = count[NUMBERS];
+    const mpeg1_record *r = &record;
+    expect(!memcmp(r->numbers, n, sizeof r->numbers) && !memcmp(r->integers, m.integers, sizeof r->integers), "the struct's numbers");
+    expect(!memcmp(r->matrices, m.matrices, sizeof r->matrices) && !memcmp(r->clock, m.clock, sizeof r->clock), "the struct's matrices and clock");
+    expect(!memcmp(store, other_store, mpeg1_store_bytes(mpeg1_width(n, c), mpeg1_height(n, c))), "the store beside the struct");
+    expect(mpeg1_record_width(r) == mpeg1_width(n, c) && mpeg1_record_height(r) == mpeg1_height(n, c), "the struct's sizes");
+    expect(mpeg1_record_picture_type(r) == mpeg1_picture_type(n, c) && mpeg1_record_position(r) == mpeg1_position(n, c), "the struct's type and place");
+    expect(mpeg1_record_frame_rate(r) == mpeg1_frame_rate(m.clock, 4) && mpeg1_record_pixel_aspect_ratio(r) == mpeg1_pixel_aspect_ratio(m.clock, 4),
+           "the struct's rate and aspect");
+    for (size_t p = 0; p < 3; p++)
+        expect(mpeg1_record_row_bytes(r, p) == mpeg1_row_bytes(n, c, p) && mpeg1_record_plane_bytes(r, p) == mpeg1_plane_bytes(n, c, p)
+                   && mpeg1_record_plane_start(r, index, p) == mpeg1_plane_start(n, c, index, p), "the struct's planes");
+    expect(convert_in(count, index, AREA) == 0, "conversion");
+    expect(mpeg1_record_write_rgb_scaled(r, other_store, room, index, other_area, AREA, 37, 29) == 0, "conversion beside the struct");
+    expect(!memcmp(area, other_area, sizeof area), "the area beside the struct");
+}
+
+static void print_picture(const char *name, size_t handed, size_t shown, double time)
+{
+    uint64_t bits, sum = UINT64_C(0xcbf29ce484222325);
+    const size_t *n = m.numbers, c = count[NUMBERS];
+    memcpy(&bits, &time, sizeof bits);
+    for (size_t p = 0; p < 3; p++)
+        sum = checksum(store + mpeg1_plane_start(n, c, shown, p), mpeg1_plane_bytes(n, c, p), sum);
+    printf("%s %zu %zu %u 0 %016" PRIx64 " %016" PRIx64 "\n", name, handed, shown, mpeg1_picture_type(n, c), bits, sum);
+}
+
+static void read_stream(const char *path)
+{
     FILE *f = fopen(path, "rb");
-    size_t bytes = f ? fread(stream, 1, MOST, f) : 0, shown = 99, handed = 0;
-    double time = -1;
+    bytes = f ? fread(stream, 1, MOST, f) : 0;
     expect(f && bytes > 0 && fclose(f) == 0, path);
-    for (size_t i = 0; i < NUMBERS; i++)
-        numbers[i] = -77;
-    for (size_t i = 0; i < FLOATS; i++)
-        clock_[i] = -7.5;
-    uint32_t answer = mpeg1_open(stream, bytes, store, room, numbers, NUMBERS, clock_, FLOATS);
-    refusals(stream, bytes, store, room, &shown, &time);
-    while (answer == 0 && (answer = mpeg1_decode(stream, bytes, store, room, numbers, NUMBERS, clock_, FLOATS, &shown, &time)) == 0) {
-        uint64_t bits, sum = UINT64_C(0xcbf29ce484222325);
-        memcpy(&bits, &time, sizeof bits);
-        for (size_t p = 0; p < 3; p++)
-            sum = checksum(store + mpeg1_plane_start(numbers, n, shown, p), mpeg1_plane_bytes(numbers, n, p), sum);
-        printf("%s %zu %zu %u 0 %016" PRIx64 " %016" PRIx64 "\n", name, ++handed, shown, mpeg1_picture_type(numbers, n), bits, sum);
-        expect(mpeg1_write_rgb_scaled(store, room, numbers, n, clock_, floats, shown, area, AREA, 37, 29) == 0, "conversion");
-        refusals(stream, bytes, store, room, &shown, &time);
+}
+
+static void list(const char *path)
+{
+    static const size_t longer[PARTS] = {21 + MORE, 73 + MORE, 128 + MORE, 4 + MORE};
+    const char *name = strrchr(path, '/') ? strrchr(path, '/') + 1 : path;
+    size_t shown = 99, other_shown = 99, handed = 0;
+    double time = -1, other_time = -1;
+    read_stream(path);
+    memset(&m, 0x5a, sizeof m);
+    uint32_t answer = open_in(longer);
+    expect(mpeg1_record_open(&record, stream, bytes, other_store, room) == answer, "the struct's opening");
+    same(0);
+    refusals(&shown, &time);
+    while (answer == 0 && (answer = decode_in(longer, &shown, &time)) == 0) {
+        expect(mpeg1_record_decode(&record, stream, bytes, other_store, room, &other_shown, &other_time) == 0, "the struct's hand-out");
+        expect(shown == other_shown && time == other_time, "the struct's store and time");
+        print_picture(name, ++handed, shown, time);
+        same(shown);
+        refusals(&shown, &time);
     }
     printf("%s %zu 0 0 %u - -\n", name, handed, answer);
-    for (size_t i = n; i < NUMBERS; i++)
-        expect(numbers[i] == -77, "a number behind the record");
-    for (size_t i = floats; i < FLOATS; i++)
-        expect(clock_[i] == -7.5, "a float behind the record");
+    expect(mpeg1_record_decode(&record, stream, bytes, other_store, room, &other_shown, &other_time) == answer, "the struct's last answer");
+    memset(&before, 0x5a, sizeof before);
+    expect(!memcmp(m.numbers + 21, before.numbers + 21, sizeof(size_t) * MORE) && !memcmp(m.integers + 73, before.integers + 73, sizeof(int32_t) * MORE)
+               && !memcmp(m.matrices + 128, before.matrices + 128, MORE) && !memcmp(m.clock + 4, before.clock + 4, sizeof(double) * MORE),
+           "elements behind the record");
 }
 
 int main(int argc, char **argv)
 {
-    size_t room = mpeg1_store_bytes(4095, 4095);
-    uint8_t *stream = calloc(MOST, 1), *store = calloc(room, 1);
-    n = mpeg1_record_numbers(), floats = mpeg1_record_floats();
-    expect(stream && store && n <= NUMBERS && floats <= FLOATS, "memory");
+    const size_t record_counts[PARTS] = {MPEG1_COUNT(record.numbers), MPEG1_COUNT(record.integers), MPEG1_COUNT(record.matrices), MPEG1_COUNT(record.clock)};
+    count[NUMBERS] = mpeg1_record_numbers(), count[INTEGERS] = mpeg1_record_integers();
+    count[MATRICES] = mpeg1_record_matrices(), count[CLOCK] = mpeg1_record_floats();
+    expect(!memcmp(count, record_counts, sizeof count), "the struct is as long as a record");
+    room = mpeg1_store_bytes(4095, 4095);
+    stream = calloc(MOST, 1), store = calloc(room, 1), other_store = calloc(room, 1);
+    expect(stream && store && other_store, "memory");
     expect(mpeg1_store_bytes(0, 16) == 0 && mpeg1_store_bytes(4096, 16) == 0 && mpeg1_store_bytes(17, 16) == 2 * 1152, "sizes of stores");
     printf("stream handed store type answer time planes\n");
     for (int i = 1; i < argc; i++)
-        list(argv[i], stream, store, room);
-    free(stream), free(store);
+        list(argv[i]);
+    free(stream), free(store), free(other_store);
     return 0;
 }

@@ -65,28 +65,28 @@ static void write_plane(const unsigned char *plane, size_t row_bytes, size_t wid
 int main(int argc, char **argv)
 {
     static const size_t order[3] = {0, 2, 1}; /* Y4M has Y, Cb, Cr */
-    size_t n = mpeg1_record_numbers(), floats = mpeg1_record_floats(), store_bytes = mpeg1_store_bytes(4095, 4095), bytes, shown = 0;
+    size_t store_bytes = mpeg1_store_bytes(4095, 4095), bytes, shown = 0;
+    double time = 0;
+    mpeg1_record record;
     if (argc != 2) {
         fprintf(stderr, "usage: y4m FILE\n");
         return 2;
     }
     unsigned char *stream = read_file(argv[1], &bytes), *store = room(store_bytes, 1);
-    int64_t *numbers = room(n, sizeof *numbers);
-    double *clock = room(floats, sizeof *clock), time = 0;
-    uint32_t answer = mpeg1_open(stream, bytes, store, store_bytes, numbers, n, clock, floats);
+    uint32_t answer = mpeg1_record_open(&record, stream, bytes, store, store_bytes);
     if (answer == 0) {
-        size_t width = mpeg1_width(numbers, n), height = mpeg1_height(numbers, n);
-        write_head(width, height, mpeg1_frame_rate(clock, floats));
-        while ((answer = mpeg1_decode(stream, bytes, store, store_bytes, numbers, n, clock, floats, &shown, &time)) == 0) {
+        size_t width = mpeg1_record_width(&record), height = mpeg1_record_height(&record);
+        write_head(width, height, mpeg1_record_frame_rate(&record));
+        while ((answer = mpeg1_record_decode(&record, stream, bytes, store, store_bytes, &shown, &time)) == 0) {
             printf("FRAME\n");
             for (int i = 0; i < 3; i++) {
                 size_t plane = order[i], half = plane != 0;
-                write_plane(store + mpeg1_plane_start(numbers, n, shown, plane), mpeg1_row_bytes(numbers, n, plane),
+                write_plane(store + mpeg1_record_plane_start(&record, shown, plane), mpeg1_record_row_bytes(&record, plane),
                             (width + half) >> half, (height + half) >> half);
             }
         }
     }
-    free(stream), free(store), free(numbers), free(clock);
+    free(stream), free(store);
     if (answer != 7)
         fprintf(stderr, "y4m: %s: answer %u\n", argv[1], (unsigned)answer);
     return answer != 7 || fflush(stdout) != 0;

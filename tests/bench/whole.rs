@@ -1,7 +1,8 @@
 // Times whole decoding: ours, the archive of crates/mpeg1, and the Rust on the same bytes in one process.
-// usage: whole ROUNDS FILE ..         ratio of the best processor times, the two in turn
+// usage: whole ROUNDS FILE ..         ratios of the best processor times, the two in turn: opening and all hand-outs, and the hand-outs alone;
 //                                     and of conversions of the first picture of the first two files
-//        whole once ours|rust|none FILE   decodes once, for a count of instructions; `none` only reads the file
+//        whole once KIND TIMES FILE   passes over the file, for a count of instructions; KIND is ours, rust, ours-opening, rust-opening,
+//                                     or none, which only reads the file and copies it
 mod clock;
 mod ours;
 
@@ -18,7 +19,7 @@ use std::hint::black_box;
 use video::Video;
 
 // What a decoder hands out of a stream: how many pictures, and a sum over each sample of Y. Equal work gives equal sums.
-#[derive(PartialEq, Debug)]
+#[derive(PartialEq, Debug, Default)]
 struct Sum {
     pictures: u64,
     samples: u64,
@@ -31,53 +32,60 @@ impl Sum {
     }
 }
 
-// The stream is copied on both sides before the time is taken, and the sums are no part of it.
-fn rust(stream: &[u8], wanted: bool) -> (Sum, f64) {
-    let (mut sum, mut spent) = (Sum { pictures: 0, samples: 0 }, 0.0);
-    let bytes = stream.to_vec();
-    let (mut video, time) = clock::timed(|| Video::new(black_box(bytes)));
-    spent += time;
-    loop {
-        let (index, time) = clock::timed(|| video.decode());
-        spent += time;
-        let Some(index) = index else { return (sum, spent) };
-        if wanted {
-            sum.add(&video.frame(index).y.data);
-        } else {
-            sum.pictures += 1;
-        }
+fn sums(stream: &[u8]) -> [Sum; 2] {
+    let (mut first, mut second) = (Sum::default(), Sum::default());
+    let (mut decoder, mut video) = (Ours::new(), Video::new(stream.to_vec()));
+    assert!(decoder.open(stream), "the stream is refused");
+    while let Some(index) = decoder.decode(stream) {
+        first.add(decoder.luma(index));
     }
+    while let Some(index) = video.decode() {
+        second.add(&video.frame(index).y.data);
+    }
+    [first, second]
 }
 
-fn ours(stream: &[u8], wanted: bool) -> (Sum, f64) {
-    let (mut sum, mut spent) = (Sum { pictures: 0, samples: 0 }, 0.0);
-    let bytes = stream.to_vec();
-    let mut decoder = Ours::new();
-    let (ready, time) = clock::timed(|| decoder.open(black_box(&bytes)));
-    assert!(ready, "the stream is refused");
-    spent += time;
-    loop {
-        let (shown, time) = clock::timed(|| decoder.decode(&bytes));
-        spent += time;
-        let Some(index) = shown else { return (sum, spent) };
-        if wanted {
-            sum.add(decoder.luma(index));
-        } else {
-            sum.pictures += 1;
-        }
-    }
+// A pass: opening, then all hand-outs or none. Both sides own the bytes and free them. The Rust allocates its pictures when it opens, and frees them; ours
+// has a store from before, which opening clears.
+fn rust(bytes: Vec<u8>, all: bool) {
+    let mut video = Video::new(black_box(bytes));
+    while all && black_box(video.decode()).is_some() {}
+    black_box(&video);
+}
+
+fn ours(decoder: &mut Ours, bytes: Vec<u8>, all: bool) {
+    let bytes = black_box(bytes);
+    assert!(decoder.open(&bytes), "the stream is refused");
+    while all && black_box(decoder.decode(&bytes)).is_some() {}
+    black_box(decoder);
+}
+
+// The time of a pass, in nanoseconds, from so many of them, each with a copy of the bytes that is made before: the clock is read twice for all of them.
+fn timed(stream: &[u8], times: usize, mut pass: impl FnMut(Vec<u8>)) -> f64 {
+    let copies = vec![stream.to_vec(); times];
+    clock::timed(|| copies.into_iter().for_each(&mut pass)).1 / times as f64
+}
+
+fn ratio(what: &str, ours: f64, rust: f64) -> String {
+    format!("{what} ours {:>8.4} ms, rust {:>8.4} ms, ratio {:.3}", ours / 1e6, rust / 1e6, ours / rust)
 }
 
 fn measure(name: &str, stream: &[u8], rounds: usize) {
-    let (first, second) = (ours(stream, true).0, rust(stream, true).0);
+    let [first, second] = sums(stream);
     assert_eq!(first, second, "{name}: ours and the Rust give different pictures");
-    let (mut a, mut b) = (f64::MAX, f64::MAX);
+    let mut decoder = Ours::new();
+    // passes that take 20 ms together, if one takes less
+    let times = (2e7 / timed(stream, 1, |bytes| rust(bytes, true))).clamp(1.0, 10_000.0) as usize;
+    let mut best = [f64::MAX; 4];
     for _ in 0..rounds {
-        b = b.min(rust(stream, false).1);
-        a = a.min(ours(stream, false).1);
+        best[1] = best[1].min(timed(stream, times, |bytes| rust(bytes, true)));
+        best[0] = best[0].min(timed(stream, times, |bytes| ours(&mut decoder, bytes, true)));
+        best[3] = best[3].min(timed(stream, times, |bytes| rust(bytes, false)));
+        best[2] = best[2].min(timed(stream, times, |bytes| ours(&mut decoder, bytes, false)));
     }
     let file = name.rsplit('/').next().unwrap_or(name);
-    println!("{file:<24} {:>9} bytes {:>5} pictures   ours {:>9.3} ms   rust {:>9.3} ms   ratio {:.3}", stream.len(), first.pictures, a / 1e6, b / 1e6, a / b);
+    let (whole, alone) = (ratio("all", best[0], best[1]), ratio("hand-outs alone", best[0] - best[2], best[1] - best[3]));
+    println!("{file:<16} {:>7} bytes {:>3} pictures   {whole}   {alone}", stream.len(), first.pictures);
 }
 
 // The conversion of the first picture to an area of w by h, in nanoseconds a pixel.
@@ -96,17 +104,24 @@ fn convert(name: &str, stream: &[u8], rounds: usize, w: usize, h: usize) {
     println!("{file:<24} to {w}x{h} ARGB   ours {:>7.2} ns   rust {:>7.2} ns a pixel   ratio {:.3}", a / pixels, b / pixels, a / b);
 }
 
+fn once(kind: &str, times: usize, stream: &[u8]) {
+    let mut decoder = Ours::new();
+    for bytes in vec![stream.to_vec(); times] {
+        match kind {
+            "ours" => ours(&mut decoder, bytes, true),
+            "rust" => rust(bytes, true),
+            "ours-opening" => ours(&mut decoder, bytes, false),
+            "rust-opening" => rust(bytes, false),
+            _ => drop(black_box(bytes)),
+        }
+    }
+}
+
 fn main() {
     let words: Vec<String> = std::env::args().skip(1).collect();
     let read = |name: &String| std::fs::read(name).unwrap_or_else(|error| panic!("{name}: {error}"));
     if words.first().is_some_and(|word| word == "once") {
-        let stream = read(&words[2]);
-        match words[1].as_str() {
-            "ours" => drop(black_box(ours(&stream, false))),
-            "rust" => drop(black_box(rust(&stream, false))),
-            _ => drop(black_box(stream.to_vec())),
-        }
-        return;
+        return once(&words[1], words[2].parse().expect("how many times"), &read(&words[3]));
     }
     let rounds = words[0].parse().expect("how many rounds");
     for name in &words[1..] {

@@ -11,8 +11,12 @@ extern "C" {
         stream_bytes: usize,
         store: *mut u8,
         store_bytes: usize,
-        numbers: *mut i64,
+        numbers: *mut usize,
         numbers_length: usize,
+        integers: *mut i32,
+        integers_length: usize,
+        matrices: *mut u8,
+        matrices_length: usize,
         clock: *mut f64,
         clock_length: usize,
     ) -> u32;
@@ -21,8 +25,12 @@ extern "C" {
         stream_bytes: usize,
         store: *mut u8,
         store_bytes: usize,
-        numbers: *mut i64,
+        numbers: *mut usize,
         numbers_length: usize,
+        integers: *mut i32,
+        integers_length: usize,
+        matrices: *mut u8,
+        matrices_length: usize,
         clock: *mut f64,
         clock_length: usize,
         shown: *mut usize,
@@ -31,10 +39,12 @@ extern "C" {
     fn mpeg1_write_rgb_scaled(
         store: *const u8,
         store_bytes: usize,
-        numbers: *const i64,
+        numbers: *const usize,
         numbers_length: usize,
-        clock: *const f64,
-        clock_length: usize,
+        integers: *const i32,
+        integers_length: usize,
+        matrices: *const u8,
+        matrices_length: usize,
         index: usize,
         area: *mut u32,
         area_length: usize,
@@ -42,27 +52,32 @@ extern "C" {
         height: usize,
     ) -> u32;
     fn mpeg1_record_numbers() -> usize;
+    fn mpeg1_record_integers() -> usize;
+    fn mpeg1_record_matrices() -> usize;
     fn mpeg1_record_floats() -> usize;
     fn mpeg1_store_bytes(width: usize, height: usize) -> usize;
-    fn mpeg1_width(numbers: *const i64, numbers_length: usize) -> usize;
-    fn mpeg1_height(numbers: *const i64, numbers_length: usize) -> usize;
-    fn mpeg1_picture_type(numbers: *const i64, numbers_length: usize) -> u32;
+    fn mpeg1_width(numbers: *const usize, numbers_length: usize) -> usize;
+    fn mpeg1_height(numbers: *const usize, numbers_length: usize) -> usize;
+    fn mpeg1_picture_type(numbers: *const usize, numbers_length: usize) -> u32;
+    fn mpeg1_position(numbers: *const usize, numbers_length: usize) -> usize;
     fn mpeg1_frame_rate(clock: *const f64, clock_length: usize) -> f64;
     fn mpeg1_pixel_aspect_ratio(clock: *const f64, clock_length: usize) -> f64;
-    fn mpeg1_row_bytes(numbers: *const i64, numbers_length: usize, plane: usize) -> usize;
-    fn mpeg1_plane_start(numbers: *const i64, numbers_length: usize, index: usize, plane: usize) -> usize;
-    fn mpeg1_plane_bytes(numbers: *const i64, numbers_length: usize, plane: usize) -> usize;
+    fn mpeg1_row_bytes(numbers: *const usize, numbers_length: usize, plane: usize) -> usize;
+    fn mpeg1_plane_start(numbers: *const usize, numbers_length: usize, index: usize, plane: usize) -> usize;
+    fn mpeg1_plane_bytes(numbers: *const usize, numbers_length: usize, plane: usize) -> usize;
 }
 
 /// The decoder's state: the record, which is plain data, and the store, which holds three pictures.
 pub(crate) struct State {
     store: Vec<u8>,
-    numbers: Vec<i64>,
+    numbers: Vec<usize>,
+    integers: Vec<i32>,
+    matrices: Vec<u8>,
     clock: Vec<f64>,
     shape: Shape,
 }
 
-/// What an accepted header fixes: the size that is shown, and where the planes lie. It is asked for once, since each such call looks at the whole record.
+/// What an accepted header fixes: the size that is shown, and where the planes lie. It is asked for once.
 #[derive(Clone, Default)]
 pub(crate) struct Shape {
     pub width: usize,
@@ -72,7 +87,7 @@ pub(crate) struct Shape {
 }
 
 impl Shape {
-    fn of(numbers: &[i64]) -> Shape {
+    fn of(numbers: &[usize]) -> Shape {
         let (n, length) = (numbers.as_ptr(), numbers.len());
         let plane = |index, plane| {
             let (start, bytes) = unsafe { (mpeg1_plane_start(n, length, index, plane), mpeg1_plane_bytes(n, length, plane)) };
@@ -114,12 +129,14 @@ fn answer(number: u32) -> Result<(), u32> {
 impl State {
     /// A record of zeros, and a store for pictures of this size; none where there is not enough memory.
     pub fn new(width: usize, height: usize) -> Option<State> {
-        let (store, numbers, clock) = unsafe { (mpeg1_store_bytes(width, height), mpeg1_record_numbers(), mpeg1_record_floats()) };
-        Some(State { store: zeros(store)?, numbers: vec![0; numbers], clock: vec![0.0; clock], shape: Shape::default() })
+        let (store, numbers, integers) = unsafe { (mpeg1_store_bytes(width, height), mpeg1_record_numbers(), mpeg1_record_integers()) };
+        let (matrices, clock) = unsafe { (mpeg1_record_matrices(), mpeg1_record_floats()) };
+        let (store, shape) = (zeros(store)?, Shape::default());
+        Some(State { store, numbers: vec![0; numbers], integers: vec![0; integers], matrices: vec![0; matrices], clock: vec![0.0; clock], shape })
     }
 
     pub fn open(&mut self, stream: &[u8]) -> Result<(), u32> {
-        let State { store, numbers, clock, .. } = self;
+        let State { store, numbers, integers, matrices, clock, .. } = self;
         answer(unsafe {
             mpeg1_open(
                 stream.as_ptr(),
@@ -128,6 +145,10 @@ impl State {
                 store.len(),
                 numbers.as_mut_ptr(),
                 numbers.len(),
+                integers.as_mut_ptr(),
+                integers.len(),
+                matrices.as_mut_ptr(),
+                matrices.len(),
                 clock.as_mut_ptr(),
                 clock.len(),
             )
@@ -137,7 +158,7 @@ impl State {
     }
 
     pub fn decode(&mut self, stream: &[u8]) -> Result<Shown, u32> {
-        let State { store, numbers, clock, .. } = self;
+        let State { store, numbers, integers, matrices, clock, .. } = self;
         let mut shown = Shown { index: 0, time: 0.0 };
         answer(unsafe {
             mpeg1_decode(
@@ -147,6 +168,10 @@ impl State {
                 store.len(),
                 numbers.as_mut_ptr(),
                 numbers.len(),
+                integers.as_mut_ptr(),
+                integers.len(),
+                matrices.as_mut_ptr(),
+                matrices.len(),
                 clock.as_mut_ptr(),
                 clock.len(),
                 &mut shown.index,
@@ -157,15 +182,17 @@ impl State {
     }
 
     pub fn write_rgb_scaled(&self, index: usize, area: &mut [u32], width: usize, height: usize) -> Result<(), u32> {
-        let State { store, numbers, clock, .. } = self;
+        let State { store, numbers, integers, matrices, .. } = self;
         answer(unsafe {
             mpeg1_write_rgb_scaled(
                 store.as_ptr(),
                 store.len(),
                 numbers.as_ptr(),
                 numbers.len(),
-                clock.as_ptr(),
-                clock.len(),
+                integers.as_ptr(),
+                integers.len(),
+                matrices.as_ptr(),
+                matrices.len(),
                 index,
                 area.as_mut_ptr(),
                 area.len(),
@@ -191,9 +218,9 @@ impl State {
         unsafe { mpeg1_pixel_aspect_ratio(self.clock.as_ptr(), self.clock.len()) }
     }
 
-    /// The place in the stream, in bits: the first number of a record.
+    /// Whole bytes of the stream that are read.
     pub fn position(&self) -> usize {
-        self.numbers.first().map_or(0, |&position| usize::try_from(position).unwrap_or(0))
+        unsafe { mpeg1_position(self.numbers.as_ptr(), self.numbers.len()) }
     }
 
     /// The bytes of a plane of a store, whole macroblocks; none where there is no such plane.

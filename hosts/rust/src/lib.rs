@@ -88,7 +88,7 @@ impl<'s> Decoder<'s> {
 
     /// How many bytes of the stream are read, for the progress of a long run.
     pub fn bytes_read(&self) -> usize {
-        self.state.position() / 8
+        self.state.position()
     }
 
     /// The next picture to show, or `None` at the end of the reel. After a refusal each further call gives the same refusal.

@@ -81,6 +81,19 @@ fn the_iterator_gives_what_the_calls_give() {
 }
 
 #[test]
+fn the_bytes_read_grow_to_the_end_of_the_stream() {
+    let stream = std::fs::read("../../tests/streams/ipb2_64x48.m1v").unwrap();
+    let mut decoder = Decoder::open(&stream).unwrap();
+    let mut read = vec![decoder.bytes_read()];
+    while decoder.next_picture().unwrap().is_some() {
+        read.push(decoder.bytes_read());
+    }
+    // the sequence header with its start code, no matrices
+    assert_eq!(read[0], 12);
+    assert!(read.windows(2).all(|two| two[0] < two[1]) && decoder.bytes_read() <= stream.len(), "{read:?}");
+}
+
+#[test]
 fn decoders_run_in_threads() {
     let stream = std::fs::read("../../tests/streams/ipb2_64x48.m1v").unwrap();
     let runs: Vec<Vec<CopiedPicture>> = std::thread::scope(|scope| {
