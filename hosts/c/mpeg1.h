@@ -69,8 +69,8 @@ size_t mpeg1_plane_start(const size_t *numbers, size_t numbers_count, size_t ind
 double mpeg1_frame_rate(const double *clock, size_t clock_count);
 double mpeg1_pixel_aspect_ratio(const double *clock, size_t clock_count);
 
-/* A record in one piece. It is plain data: a copy of it and of the store is a decoder that goes on from the same place. If the library's
-   record were longer than this one, each call would answer 2 and touch nothing. */
+/* A record in one piece. It is plain data: a copy of it and of the store is a decoder that goes on from the same place. With a library whose
+   record is longer in one of the parts, opening answers 2 and touches nothing. */
 typedef struct mpeg1_record {
     size_t numbers[21];
     int32_t integers[73];
