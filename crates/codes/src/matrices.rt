@@ -242,18 +242,17 @@ fn within(premultiplier: i32, z: i32) -> bool
     (-most <= z) & (z <= most)
 }
 
-// Whether the transform can take the coefficients (RULES 4.4).
+// Whether the transform can take the coefficients (RULES 4.4). No early end, so that several are tested at once.
 pub fn bounded(block: &[i32; 64]) -> bool
     ensures { λ r. ⌜ r ≡ bounded (now (block .entry)) ⌝ }
 {
     let premultipliers = premultiplier_matrix();
+    let mut all = true;
     let mut i: usize = 0;
     while i < 64 {
         let inside = within(premultipliers[i], block[i]);
-        if !inside {
-            return false;
-        }
+        all = all & inside;
         i += 1;
     }
-    true
+    all
 }
