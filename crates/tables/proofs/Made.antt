@@ -7,8 +7,8 @@ use native.Mathlib.Numerals.{add-one}
 use native.Mathlib.Omega.{arith}
 use lib.Dec.{T, ltb, ltb→lt, leb, leb→le, le→leb}
 use lib.IntN.{ℤ, pos, natAbs}
-use lib.ListN.{length, getD, set, take, drop, length-set, length-append}
-use lib.Seq.{take-at, drop-at, getD-append-add, take-all, take-paste, length-paste, paste-zero, paste-suc, paste}
+use lib.ListN.{length, getD, set, take, drop, length-set, length-append, length-take}
+use lib.Seq.{set-append-left, take-set-lt, drop-set-lt, take-at, drop-at, getD-append-add, take-all, take-paste, length-paste, paste-zero, paste-suc, paste}
 use Rattle.laws.proofs.Tables.{anywhere}
 use Rattle.codes.specs.Lent.{Lent, fixedTables, tablesWith, matrixOf, isByte}
 use Rattle.codes.specs.Matrices.{zigZag, downFrom, diagonals, intraQuantMatrix, nonIntraQuantMatrix, premultiplierMatrix}
@@ -43,6 +43,64 @@ module _ (before table : List ℤ) (at : ℕ) where
 
   pub copied-all : (now : List ℤ) (k : ℕ) → length table ≤ k → Copied before table at now k → now ≡ paste before at table (length table)
   copied-all now k h c = let all : k ≡ length table = omega (arith, c .most) in c .is ∙ ap (paste before at table) all
+
+-- a store before the part that is pasted
+paste-behind : (d : List ℤ) (at : ℕ) (s : List ℤ) (n i : ℕ) (v : ℤ) → i < at → at ≤ length d
+    → set (paste d at s n) i v ≡ paste (set d i v) at s n
+paste-behind d at s n i v l h =
+    let front : i < length (take at d) = simp length-take (omega arith) in
+    let more : i < length (take at d ++ take n s) = simp length-append (omega arith) in
+    set-append-left (take at d ++ take n s) (drop (at + n) d) i v more
+    ∙ ap (λ (x : List ℤ). x ++ drop (at + n) d) (set-append-left (take at d) (take n s) i v front)
+    ∙ rw (take-set-lt at d i v l, drop-set-lt (at + n) d i v (omega arith))
+
+-- a loop that copies two tables of 64 entries, one behind the other, has copied k entries of each
+pub record Beside (before first second now : List ℤ) (k : ℕ) : Type 0 where
+  pub most : k ≤ 64
+  pub is : now ≡ paste (paste before 0 first k) 64 second k
+
+module _ (before first second : List ℤ) where
+  pub beside-none : Beside before first second before 0
+  beside-none = record { most = omega arith; is = paste-zero before 0 first ∙ paste-zero (paste before 0 first 0) 64 second }
+
+  module _ (l : length before ≡ 128) (a : length first ≡ 64) (b : length second ≡ 64) (now : List ℤ) (k : ℕ) (c : Beside before first second now k) where
+    first-long : (n : ℕ) → n ≤ 64 → length (paste before 0 first n) ≡ 128
+    first-long n h = length-paste before 0 first n (omega arith) (omega arith) ∙ l
+
+    pub beside-long : length now ≡ 128
+    beside-long =
+        let h = first-long k (c .most) in
+        ap length (c .is) ∙ length-paste (paste before 0 first k) 64 second k (omega (arith, c .most)) (omega (arith, c .most)) ∙ h
+
+    pub beside-one : k < 64
+        → Beside before first second (set (set now k (getD first k (pos 0))) (64 + k) (getD second k (pos 0))) (k + 1)
+    beside-one h =
+        let x = getD first k (pos 0) in
+        let y = getD second k (pos 0) in
+        let m = first-long k (c .most) in
+        let n = first-long (suc k) (omega arith) in
+        let zero-on : 0 + k ≡ k = omega arith in
+        record {
+          most = omega arith;
+          is =
+              ap (λ (t : List ℤ). set (set t k x) (64 + k) y) (c .is)
+              ∙ ap (λ (t : List ℤ). set t (64 + k) y) (paste-behind (paste before 0 first k) 64 second k k x h (omega arith))
+              ∙ ap (λ (i : ℕ). set (paste (set (paste before 0 first k) i x) 64 second k) (64 + k) y) (sym zero-on)
+              ∙ ap (λ (t : List ℤ). set (paste t 64 second k) (64 + k) y) (paste-suc before 0 first k (pos 0) (omega arith) (omega arith))
+              ∙ paste-suc (paste before 0 first (suc k)) 64 second k (pos 0) (omega arith) (omega arith)
+              ∙ ap (λ (i : ℕ). paste (paste before 0 first i) 64 second i) (sym (add-one k));
+        }
+
+    pub beside-all : 64 ≤ k → now ≡ first ++ second
+    beside-all h =
+        let all : k ≡ 64 = omega (arith, c .most) in
+        let m = first-long 64 (omega arith) in
+        let e = c .is ∙ ap (λ (i : ℕ). paste (paste before 0 first i) 64 second i) all in
+        sym (take-all 128 now (omega (arith, beside-long)))
+        ∙ ap (take 128) e
+        ∙ take-paste (paste before 0 first 64) 64 second 64 (omega arith) (omega arith)
+        ∙ ap (λ (t : List ℤ). t ++ take 64 second) (take-paste before 0 first 64 (omega arith) (omega arith))
+        ∙ rw (take-all 64 first (omega arith), take-all 64 second (omega arith))
 
 -- the first n of the numbers t are those of `front`
 pub record Front (t : List ℤ) (n : ℕ) (front : List ℤ) : Type 0 where

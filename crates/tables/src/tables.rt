@@ -27,7 +27,6 @@ use codes::lent::INTRA_MATRIX;
 use codes::lent::LUMINANCE_INDEX;
 use codes::lent::LUMINANCE_VALUE;
 use codes::lent::ORDER;
-use codes::lent::OTHER_MATRIX;
 use codes::lent::PATTERN_INDEX;
 use codes::lent::PATTERN_VALUE;
 use codes::lent::PREMULTIPLIERS;
@@ -43,7 +42,7 @@ use codes::lent::VECTOR_VALUE;
 use codes::matrices::PREMULTIPLIER_MATRIX;
 use codes::matrices::ZIG_ZAG;
 ghost use mathlib.Core.Path.{_≡_};
-ghost use mathlib.Core.List.{map};
+ghost use mathlib.Core.List.{map, _++_};
 ghost use Prim.Native.Nat.{_+_, _≤_};
 ghost use lib.IntN.{pos};
 ghost use lib.ListN.{length};
@@ -72,6 +71,23 @@ fn put_bytes(tables: &mut [i32], at: usize, table: &[u8])
         tables[at + k] = entry;
         k += 1;
     }
+}
+
+// Both matrices, the other behind that of intra blocks. One loop for the two: it stays a loop, and the compiler makes vectors of it.
+fn widened(intra_matrix: &[u8], other_matrix: &[u8]) -> [i32; 128]
+    requires { ⌜ (length (now «intra_matrix») ≡ 64) × (length (now «other_matrix») ≡ 64) ⌝ }
+    ensures { λ r. ⌜ r ≡ map pos (now («intra_matrix» .entry)) ++ map pos (now («other_matrix» .entry)) ⌝ }
+{
+    let mut wide = [0i32; 128];
+    let mut k: usize = 0;
+    while k < 64 {
+        let intra = intra_matrix[k] as i32;
+        let other = other_matrix[k] as i32;
+        wide[k] = intra;
+        wide[64 + k] = other;
+        k += 1;
+    }
+    wide
 }
 
 // The tables with these matrices.
@@ -107,7 +123,7 @@ pub fn tables_with(intra_matrix: &[u8; 64], other_matrix: &[u8; 64]) -> Tables
     put(&mut tables, COEFFICIENT_VALUE, &DCT_COEFF_VALUE);
     put_bytes(&mut tables, ORDER, &ZIG_ZAG);
     put(&mut tables, PREMULTIPLIERS, &PREMULTIPLIER_MATRIX);
-    put_bytes(&mut tables, INTRA_MATRIX, intra_matrix);
-    put_bytes(&mut tables, OTHER_MATRIX, other_matrix);
+    let matrices = widened(intra_matrix, other_matrix);
+    put(&mut tables, INTRA_MATRIX, &matrices);
     tables
 }

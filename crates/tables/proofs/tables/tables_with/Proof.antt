@@ -1,10 +1,11 @@
 -- Each table is laid behind those before it.
-use mathlib.Core.Path.{refl, _∙_}
-use mathlib.Core.List.{map}
+use mathlib.Core.Path.{_≡_, refl, sym, _∙_}
+use mathlib.Core.List.{map, _++_, append-assoc}
+use native.Mathlib.Omega.{arith}
 use denote.Ref.{now}
 use borrow.Author.Needs.{needs}
 use lib.IntN.{pos}
-use lib.ListN.{replicate}
+use lib.ListN.{length, replicate, length-append}
 use Rattle.codes.specs.Lent.{fixedTables}
 use Rattle.codes.specs.Matrices.{zigZag, downFrom, diagonals, premultiplierMatrix}
 use Rattle.codes.specs.Tables.{macroblockAddressIncrementIndex, macroblockAddressIncrementValue, macroblockTypeIntraIndex, macroblockTypeIntraValue}
@@ -24,9 +25,9 @@ unfolding fixedTables macroblockAddressIncrementIndex macroblockAddressIncrement
     dctSizeChrominanceIndex dctSizeChrominanceValue dctCoeffIndex dctCoeffValue
     zigZag downFrom diagonals premultiplierMatrix
 returns c =
-    let x22 = c .before in
-    let x21 = x22 .before .before .before .before in
-    let x20 = x21 .before .before .before .before in
+    let x21 = c .before in
+    let w = x21 .before .before .before in
+    let x20 = w .before .before .before .before in
     let x19 = x20 .before .before .before .before in
     let x18 = x19 .before .before .before .before in
     let x17 = x18 .before .before .before .before in
@@ -70,11 +71,12 @@ returns c =
     let f18 = front-on (map pos dctCoeffValue) 924 224 f17 refl tt refl (x18 .put18 .ensures) in
     let f19 = front-on (map pos zigZag) 1148 64 f18 refl tt refl (x19 .put-bytes .ensures) in
     let f20 = front-on premultiplierMatrix 1212 64 f19 refl tt refl (x20 .put19 .ensures) in
-    let i = x21 .before .put-bytes-arg2 .given .0 in
-    let o = x22 .before .put-bytes-arg3 .given .0 in
-    let f21 = front-on (map pos intra) 1276 64 f20 (length-map pos intra ∙ i) tt i (x21 .put-bytes2 .ensures) in
-    let f22 = front-on (map pos other) 1340 64 f21 (length-map pos other ∙ o) tt o (x22 .put-bytes3 .ensures) in
-    front-all f22
+    let i = w .before .before .widened-arg .given .0 in
+    let o = w .before .widened-arg2 .given .0 in
+    let both = map pos intra ++ map pos other in
+    let long : length both ≡ 128 = omega (arith, length-append (map pos intra) (map pos other), length-map pos intra, length-map pos other, i, o) in
+    let f21 = front-on both 1276 128 f20 long tt long (rw (w .widened .ensures) at (x21 .put20 .ensures)) in
+    front-all f21 ∙ sym (append-assoc fixedTables (map pos intra) (map pos other))
 
 pub tables-with-spec : {M : Type 1} → statement M
 tables-with-spec =
@@ -140,8 +142,8 @@ tables-with-spec =
     (λ c. search needs)
     (λ c. search needs)
     (λ c κs. search needs)
-    (λ c. search needs)
     (λ c κs. search needs)
+    (λ c. search needs)
     (λ c. search needs)
     (λ c κs. search needs)
     returns)
