@@ -17,7 +17,7 @@ ghost use Rattle.decoder.specs.Fit.{Fit};
 ghost use Rattle.decoder.specs.Turns as Turns;
 ghost use Rattle.decoder.specs.Turned.{turnOf, Shows};
 
-// `again`: nothing was handed out, and another turn follows. `stop`: 8 or 9, else 0.
+// `again`: nothing was handed out, and another turn follows. `stop`: 8 or 9, else 0; with a stop the record is of no use (RULES 8.14).
 pub struct Turned {
     pub decoder: Decoder,
     pub outcome: Outcome,
@@ -124,6 +124,10 @@ fn decoded(s: &[u8], store: &mut [u8], mut d: Decoder) -> Turned
     let matrices = sequence.matrices;
     let p = read_picture(s, d.reader, store, sizes, matrices, d.picture);
     let stop = p.stop;
+    let picture = p.picture;
+    let reader = p.reader;
+    d.picture = picture;
+    d.reader = reader;
     if stop != 0 {
         return Turned {
             decoder: d,
@@ -132,10 +136,6 @@ fn decoded(s: &[u8], store: &mut [u8], mut d: Decoder) -> Turned
             stop,
         };
     }
-    let picture = p.picture;
-    let reader = p.reader;
-    d.picture = picture;
-    d.reader = reader;
     shown(d)
 }
 

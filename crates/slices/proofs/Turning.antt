@@ -1,6 +1,6 @@
 -- The slices of a picture, with the turn of the stores. Assumes nothing.
 use mathlib.Core.Path.{_≡_, refl, ap}
-use mathlib.Core.Bool.{true, false}
+use mathlib.Core.Bool.{Bool, true, false}
 use mathlib.Core.List.{List, [], _∷_, map}
 use Prim.Native.Nat.{ℕ, zero, suc, _<_}
 use native.Mathlib.Omega.{arith}
@@ -9,11 +9,11 @@ use denote.Builtin.{u8}
 use denote.Laws.{Is}
 use denote.Shadow.{shadow}
 use mir.Val.{Val}
-use borrow.Author.Tests.{eq-eqb, ne-eqb}
+use lib.Dec.{eqb}
 use lib.IntN.{ℤ}
 use lib.ListN.{getD}
 use Rattle.bits.specs.declared.reader.Reader.{Reader}
-use Rattle.bits.specs.Programs.{Prog}
+use Rattle.bits.specs.Programs.{Prog, if_then_else_}
 use Rattle.bits.specs.Runs.{Runs}
 use Rattle.bits.proofs.Rules.{r-yes, r-no, r-done}
 use Rattle.codes.specs.Lent.{Lent, tablesWith, matrixOf}
@@ -38,17 +38,22 @@ r-give : {A B : Type 0} {q : Prog (Way A)} {s : List ℕ} {a e : ℕ} (h : A →
 r-give h zero x l r = r-onward _ r r-done
 r-give h (suc n) x l r = r-leave _ r
 
-pub held-before : (p : Picture) (z : Sizes) {store : List ℕ} {t : Stores} → t ≡ P.before (p .stores) → Held (settingOf p z (p .stores)) store
-    → Held (settingOf p z t) store
-held-before p z e k =
-    rw e
-    (record {
-      across = k .across;
-      down = k .down;
-      size = k .size;
-      stores = record { cur = k .stores .cur; fwd = k .stores .bwd; bwd = k .stores .bwd };
-      whole = k .whole;
-    })
+-- the roles while the slices are read are of stores that are there
+pub held-during : (p : Picture) (z : Sizes) {store : List ℕ} {t : Stores}
+    → t ≡ (if eqb (p .«picture_type») 3 then p .stores else P.before (p .stores)) → Held (settingOf p z (p .stores)) store → Held (settingOf p z t) store
+held-during p z {store} {t} e k = go (eqb (p .«picture_type») 3) e
+  where
+    go : (b : Bool) → t ≡ (if b then p .stores else P.before (p .stores)) → Held (settingOf p z t) store
+    go true e = rw e k
+    go false e =
+        rw e
+        (record {
+          across = k .across;
+          down = k .down;
+          size = k .size;
+          stores = record { cur = k .stores .cur; fwd = k .stores .bwd; bwd = k .stores .bwd };
+          whole = k .whole;
+        })
 
 -- ---- the tables
 
@@ -86,31 +91,46 @@ made {m} i o e =
 
 -- ---- the picture
 
--- a picture whose slices were read, made of its parts again; the start code before them is as the code has it
-pub coded-with : (p : Picture) (z : Sizes) (t : Stores) (tables : List ℤ) (store : List ℕ) {s : List ℕ} {from : Reader} (r : SlicesProgress)
-    {left : List ℤ} {store₁ : List ℕ} {x : SliceState} {first : ℤ} {q : PictureProgress}
-    → x ≡ stateOf (p .slice) → first ≡ p .«start_code» → q ≡ pictureOf (settingOf p z t) r left
+-- a picture whose slices were read, made of its parts again, before the stores turn; the start code before them is as the code has it
+coded-with : (p : Picture) (z : Sizes) (t : Stores) (tables : List ℤ) (store : List ℕ) {s : List ℕ} {from : Reader} (r : SlicesProgress)
+    {left : List ℤ} {store₁ : List ℕ} {x : SliceState} {first : ℤ}
+    → x ≡ stateOf (p .slice) → first ≡ p .«start_code»
     → Pictured (P.slices (given (settingOf p z t) tables) (frameOf (settingOf p z t) first x (p .slice .«block_data») store)) (settingOf p z t) s from
     r left store₁
-    → Coded (P.slices (given (settingOf p z t) tables) (P.frame (storesAs t p) store)) s from q store₁
-coded-with p z t tables store r e f h w = rw h (record { runs = rw (e, f) at (w .runs); inside = w .reads .inside })
+    → Coded (P.slices (given (settingOf p z t) tables) (P.frame (storesAs t p) store)) s from (pictureOf (settingOf p z t) t r left) store₁
+coded-with p z t tables store r e f w = record { runs = rw (e, f) at (w .runs); inside = w .reads .inside }
 
 module _ (z : Sizes) {m : Matrices} {tables : List ℤ} (k : Made m tables) (p : Picture) (store : List ℕ) {s : List ℕ} {from : Reader}
-    (r : PictureProgress) {store₁ : List ℕ} where
-  pub coded-b : p .«picture_type» ≡ 3
+    {store₁ : List ℕ} where
+  coded-b : (r : PictureProgress) → eqb (p .«picture_type») 3 ≡ true
       → Coded (P.slices (given (settingOf p z (p .stores)) tables) (P.frame (storesAs (p .stores) p) store)) s from r store₁
       → Coded (P.coded z m p store) s from r store₁
   unfolding P.coded
-  coded-b h c = record { runs = r-yes _ (eq-eqb (p .«picture_type») 3 h) (rw (k .intra, k .other) at (c .runs)); inside = c .inside }
+  coded-b r h c = record { runs = r-yes _ h (rw (k .intra, k .other) at (c .runs)); inside = c .inside }
 
-  pub coded-other : (p .«picture_type» ≡ 3 → ⊥) → {during done : Stores} → during ≡ P.before (p .stores) → done ≡ P.after (p .stores)
+  coded-other : (r : PictureProgress) → eqb (p .«picture_type») 3 ≡ false → {during done : Stores} → during ≡ P.before (p .stores)
+      → done ≡ P.after (p .stores)
       → Coded (P.slices (given (settingOf p z during) tables) (P.frame (storesAs during p) store)) s from r store₁
       → Coded (P.coded z m p store) s from (record { reader = r .reader; picture = storesAs done (r .picture); stop = r .stop }) store₁
   unfolding P.coded
-  coded-other h e f c = record {
+  coded-other r h e f c = record {
     runs = rw f
-        (r-no _ (ne-eqb (p .«picture_type») 3 h)
+        (r-no _ h
         (r-give (λ f. P.frame (storesAs (P.after (p .stores)) (f .picture)) (f .store)) (r .stop) (P.frame (r .picture) store₁) store₁
         (rw (e, k .intra, k .other) at (c .runs))));
     inside = c .inside;
   }
+
+  pub coded-of : (r : SlicesProgress) {left : List ℤ} {during turned : Stores} {x : SliceState} {first : ℤ} {q : PictureProgress}
+      → during ≡ (if eqb (p .«picture_type») 3 then p .stores else P.before (p .stores))
+      → turned ≡ (if eqb (p .«picture_type») 3 then p .stores else P.after (p .stores))
+      → x ≡ stateOf (p .slice) → first ≡ p .«start_code» → q ≡ pictureOf (settingOf p z during) turned r left
+      → Pictured (P.slices (given (settingOf p z during) tables) (frameOf (settingOf p z during) first x (p .slice .«block_data») store))
+      (settingOf p z during) s from r left store₁
+      → Coded (P.coded z m p store) s from q store₁
+  coded-of r {left} {during} {turned} d a e f h w = rw h (go (eqb (p .«picture_type») 3) refl d a)
+    where
+      go : (b : Bool) → eqb (p .«picture_type») 3 ≡ b → during ≡ (if b then p .stores else P.before (p .stores))
+          → turned ≡ (if b then p .stores else P.after (p .stores)) → Coded (P.coded z m p store) s from (pictureOf (settingOf p z during) turned r left) store₁
+      go true y d a = rw a (coded-b (pictureOf (settingOf p z (p .stores)) (p .stores) r left) y (rw d at (coded-with p z during tables store r e f w)))
+      go false y d a = coded-other (pictureOf (settingOf p z during) during r left) y d a (coded-with p z during tables store r e f w)

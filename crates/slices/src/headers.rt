@@ -3,7 +3,9 @@ use bits::reader::Reader;
 use picture::state::Motion;
 use picture::state::Picture;
 ghost use Rattle.bits.specs.Runs.{Inside, Reading};
-ghost use Rattle.picture.specs.Pictures.{direction, backwardHeader, forwardHeader, pictureHeader, headed};
+ghost use Rattle.picture.specs.State.{typeAs};
+ghost use Rattle.picture.specs.Pictures.{direction, forwardHeader, pictureHeader, headed};
+ghost use Rattle.slices.specs.Behind.{headerAs};
 
 // A motion with the flag and the size of its header; with `decoded` false the picture is not decoded.
 struct DirectionRead {
@@ -12,10 +14,12 @@ struct DirectionRead {
     pub decoded: bool,
 }
 
-// What a header leaves, and whether the picture is decoded.
+// What a header sets, and whether the picture is decoded.
 pub struct HeaderRead {
     pub reader: Reader,
-    pub picture: Picture,
+    pub picture_type: u32,
+    pub motion_forward: Motion,
+    pub motion_backward: Motion,
     pub decoded: bool,
 }
 
@@ -45,43 +49,33 @@ fn read_direction(s: &[u8], reader: Reader, m: Motion) -> DirectionRead
     }
 }
 
-// A B header goes on with the backward direction.
-fn read_backward_header(s: &[u8], reader: Reader, p: Picture) -> HeaderRead
+// A P or B header goes on with the forward direction, a B header then with the backward direction.
+fn read_directions(s: &[u8], reader: Reader, picture_type: u32, p: Picture) -> HeaderRead
     requires { ⌜ Inside (now s) reader ⌝ }
-    ensures { λ r. ⌜ Reading (backwardHeader p) (now (s .entry)) reader (headed (r .picture) (r .decoded)) (r .reader) ⌝ }
+    ensures { λ r. ⌜ Reading (forwardHeader (typeAs «picture_type» p)) (now (s .entry)) reader (headed (headerAs r p) (r .decoded)) (r .reader) ⌝ }
 {
-    let mut slice = p.slice;
-    let b = read_direction(s, reader, slice.motion_backward);
-    let backward = b.motion;
-    slice.motion_backward = backward;
-    let after = b.reader;
-    let mut picture = p;
-    picture.slice = slice;
-    HeaderRead {
-        reader: after,
-        picture,
-        decoded: b.decoded,
-    }
-}
-
-// A P or B header goes on with the forward direction.
-fn read_forward_header(s: &[u8], reader: Reader, p: Picture) -> HeaderRead
-    requires { ⌜ Inside (now s) reader ⌝ }
-    ensures { λ r. ⌜ Reading (forwardHeader p) (now (s .entry)) reader (headed (r .picture) (r .decoded)) (r .reader) ⌝ }
-{
-    let mut slice = p.slice;
+    let slice = p.slice;
     let f = read_direction(s, reader, slice.motion_forward);
-    let forward = f.motion;
-    slice.motion_forward = forward;
     let after = f.reader;
-    let mut picture = p;
-    picture.slice = slice;
-    if f.decoded && p.picture_type == 3 {
-        return read_backward_header(s, after, picture);
+    let motion_forward = f.motion;
+    if f.decoded && picture_type == 3 {
+        let b = read_direction(s, after, slice.motion_backward);
+        let end = b.reader;
+        let motion_backward = b.motion;
+        return HeaderRead {
+            reader: end,
+            picture_type,
+            motion_forward,
+            motion_backward,
+            decoded: b.decoded,
+        };
     }
+    let motion_backward = slice.motion_backward;
     HeaderRead {
         reader: after,
-        picture,
+        picture_type,
+        motion_forward,
+        motion_backward,
         decoded: f.decoded,
     }
 }
@@ -89,26 +83,31 @@ fn read_forward_header(s: &[u8], reader: Reader, p: Picture) -> HeaderRead
 // Ten bits of temporal reference and sixteen of delay are passed over.
 pub fn read_picture_header(s: &[u8], reader: Reader, p: Picture) -> HeaderRead
     requires { ⌜ Inside (now s) reader ⌝ }
-    ensures { λ r. ⌜ Reading (pictureHeader p) (now (s .entry)) reader (headed (r .picture) (r .decoded)) (r .reader) ⌝ }
+    ensures { λ r. ⌜ Reading (pictureHeader p) (now (s .entry)) reader (headed (headerAs r p) (r .decoded)) (r .reader) ⌝ }
 {
+    let slice = p.slice;
+    let forward = slice.motion_forward;
+    let backward = slice.motion_backward;
     let t = reader.skip(s, 10).read(s, 3);
     let after = t.reader.skip(s, 16);
     let picture_type = t.value;
-    let mut picture = p;
-    picture.picture_type = picture_type;
     if picture_type == 0 || 3 < picture_type {
         return HeaderRead {
             reader: after,
-            picture,
+            picture_type,
+            motion_forward: forward,
+            motion_backward: backward,
             decoded: false,
         };
     }
     if picture_type == 1 {
         return HeaderRead {
             reader: after,
-            picture,
+            picture_type,
+            motion_forward: forward,
+            motion_backward: backward,
             decoded: true,
         };
     }
-    read_forward_header(s, after, picture)
+    read_directions(s, after, picture_type, p)
 }

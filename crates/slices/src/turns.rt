@@ -1,7 +1,6 @@
 // RULES 7.2: the slices of a picture, with the turn of the stores.
 use crate::pictures::read_slices;
 use bits::reader::Reader;
-use codes::lent::Tables;
 use picture::state::Matrices;
 use picture::state::Picture;
 use picture::state::PictureProgress;
@@ -14,13 +13,13 @@ use picture::state::Stores;
 use tables::tables::tables_with;
 ghost use mathlib.Core.Path.{_≡_};
 ghost use Prim.Native.Nat.{_≤_};
+ghost use lib.Dec.{eqb};
 ghost use lib.IntN.{natAbs};
+ghost use Rattle.bits.specs.Programs.{if_then_else_};
 ghost use Rattle.bits.specs.Runs.{Inside};
-ghost use Rattle.codes.specs.Lent.{Lent};
 ghost use Rattle.picture.specs.Possible.{PossiblePicture};
-ghost use Rattle.picture.specs.State.{storesAs};
-ghost use Rattle.picture.specs.Pictures.{before, after, slices, coded, frame};
-ghost use Rattle.picture.specs.Views.{given, settingOf, sliceOf, stateOf, Held, Coded};
+ghost use Rattle.picture.specs.Pictures.{before, after, coded};
+ghost use Rattle.picture.specs.Views.{settingOf, sliceOf, stateOf, Held, Coded};
 ghost use Rattle.slices.specs.Behind.{pictureOf};
 
 // Without the left-over coefficients.
@@ -55,36 +54,44 @@ fn slice_of(x: SliceState, left: [i32; 64]) -> Slice
     }
 }
 
-// The roles while the slices of an I or P picture are read, and after them.
-fn before(t: Stores) -> Stores
-    ensures { λ r. ⌜ r ≡ before t ⌝ }
+// The roles of the stores while the slices of a picture are read, and after them.
+struct Roles {
+    pub during: Stores,
+    pub turned: Stores,
+}
+
+// They turn unless it is a B picture.
+fn roles_of(picture_type: u32, t: Stores) -> Roles
+    ensures { λ r. ⌜ r .during ≡ (if eqb «picture_type» 3 then t else before t) ⌝ }
+    ensures { λ r. ⌜ r .turned ≡ (if eqb «picture_type» 3 then t else after t) ⌝ }
 {
-    Stores {
+    if picture_type == 3 {
+        return Roles {
+            during: t,
+            turned: t,
+        };
+    }
+    let during = Stores {
         cur: t.cur,
         fwd: t.bwd,
         bwd: t.bwd,
-    }
-}
-
-fn after(t: Stores) -> Stores
-    ensures { λ r. ⌜ r ≡ after t ⌝ }
-{
-    Stores {
+    };
+    let turned = Stores {
         cur: t.fwd,
         fwd: t.bwd,
         bwd: t.cur,
-    }
+    };
+    Roles { during, turned }
 }
 
-// The picture whose slices were read, with these coefficients left over.
-fn picture_of(g: Setting, t: SlicesProgress, left: [i32; 64]) -> PictureProgress
+// The picture whose slices were read, with these roles and these coefficients left over.
+fn picture_of(g: Setting, stores: Stores, t: SlicesProgress, left: [i32; 64]) -> PictureProgress
     requires { ⌜ natAbs (t .code) ≤ 255 ⌝ }
-    ensures { λ r. ⌜ r ≡ pictureOf g t left ⌝ }
+    ensures { λ r. ⌜ r ≡ pictureOf g stores t left ⌝ }
 {
     let end = t.reader;
     let state = t.state;
     let slice = slice_of(state, left);
-    let stores = g.stores;
     PictureProgress {
         reader: end,
         picture: Picture {
@@ -95,46 +102,6 @@ fn picture_of(g: Setting, t: SlicesProgress, left: [i32; 64]) -> PictureProgress
         },
         stop: t.stop,
     }
-}
-
-// The slices, with these roles.
-fn read_with(
-    s: &[u8],
-    reader: Reader,
-    store: &mut [u8],
-    tables: &Tables,
-    sizes: Sizes,
-    stores: Stores,
-    p: Picture,
-) -> PictureProgress
-    requires { ⌜ Inside (now s) reader ⌝ }
-    requires { ⌜ Lent (now tables) ⌝ }
-    requires { ⌜ PossiblePicture p ⌝ }
-    requires { ⌜ Held (settingOf p sizes stores) (now store) ⌝ }
-    ensures { λ r. ⌜
-        Coded (slices (given (settingOf p sizes stores) (now (tables .entry))) (frame (storesAs stores p) (now (store .entry))))
-        (now (s .entry)) reader r (now (store .exit))
-        ⌝ }
-{
-    let old = p.slice;
-    let mut values = old.block_data;
-    let g = Setting {
-        picture_type: p.picture_type,
-        sizes,
-        stores,
-    };
-    let start = state_of(old);
-    let t = read_slices(
-        s,
-        reader,
-        store,
-        &mut values,
-        tables,
-        g,
-        p.start_code,
-        start,
-    );
-    picture_of(g, t, values)
 }
 
 // The slices, with the turn of the stores. The tables are made here, once a picture.
@@ -154,19 +121,26 @@ pub fn read_coded(
     let intra = matrices.intra_quant_matrix;
     let other = matrices.non_intra_quant_matrix;
     let tables = tables_with(&intra, &other);
-    let old = p.stores;
-    if p.picture_type == 3 {
-        return read_with(s, reader, store, &tables, sizes, old, p);
-    }
-    let during = before(old);
-    let done = read_with(s, reader, store, &tables, sizes, during, p);
-    let end = done.reader;
-    let mut now = done.picture;
-    let turned = after(old);
-    now.stores = turned;
-    PictureProgress {
-        reader: end,
-        picture: now,
-        stop: done.stop,
-    }
+    let roles = roles_of(p.picture_type, p.stores);
+    let stores = roles.during;
+    let turned = roles.turned;
+    let g = Setting {
+        picture_type: p.picture_type,
+        sizes,
+        stores,
+    };
+    let old = p.slice;
+    let mut values = old.block_data;
+    let start = state_of(old);
+    let t = read_slices(
+        s,
+        reader,
+        store,
+        &mut values,
+        &tables,
+        g,
+        p.start_code,
+        start,
+    );
+    picture_of(g, turned, t, values)
 }

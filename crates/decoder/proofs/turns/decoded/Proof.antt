@@ -16,35 +16,35 @@ known r = r .before .before .before .before .before .before
 abbrev entry : tie.After-read-picture → tie.Start
 entry r = known r .before
 
-abbrev read : tie.Else1 → tie.After-read-picture
-read c = c .before .before .before
+abbrev read : tie.After-reader → tie.After-read-picture
+read e = e .before .before .before .before
 
 bytes : (r : tie.After-read-picture) (k : ℕ) → getD (now (entry r .args .s)) k 0 < 256
 bytes r k = omega (arith, known r .shared-slice-known .given k)
 
 returns : tie.Need-returns
 returns c =
-    let r = c .before .before .before in
+    let r = read (c .before) in
     let a = entry r .args in
     let p = r .read-picture .result in
     decoded-out (now (a .s)) (a .d) (now (a .store)) (p .picture) (r .read-picture .last .1 .1 .0) (p .stop) (r .read-picture .ensures .runs) (c .if1 .taken) _
 
 shown-requires : tie.Need-shown-requires
 shown-requires c κs =
-    let r = read (c .before .before) in
+    let r = read (c .before) in
     let s = entry r in
     let a = s .args in
     let p = r .read-picture .result in
     let e = r .read-picture .ensures in
     fit-behind (s .pre .0)
     (stays-possible (now (a .s)) (a .d) (now (a .store)) (p .picture) (r .read-picture .last .1 .1 .0) (p .stop) (e .runs) (s .pre .0) (s .pre .1 .0) (bytes r)
-    (c .before .before .if1 .left))
+    (c .if1 .left))
     (e .inside .place)
 
 returns-2 : tie.Need-returns-2
 returns-2 c =
-    let i = c .before .before .before in
-    let r = read i in
+    let i = c .before in
+    let r = read (i .before) in
     let a = entry r .args in
     let p = r .read-picture .result in
     let m = r .read-picture .last .1 .1 .0 in

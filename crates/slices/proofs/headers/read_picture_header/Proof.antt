@@ -61,8 +61,8 @@ returns-2 c =
       inside = e .skip2 .ensures .inside;
     }
 
-read-forward-header-requires : tie.Need-read-forward-header-requires
-read-forward-header-requires c κs = search needs
+read-directions-requires : tie.Need-read-directions-requires
+read-directions-requires c κs = search needs
 
 returns-3 : tie.Need-returns-3
 unfolding pictureHeader
@@ -72,7 +72,7 @@ returns-3 c =
     let e = d .before .before in
     let t = e .before in
     let w = within _ (d .before .if1 .left) (d .if2 .left) in
-    let f = c .read-forward-header .ensures in
+    let f = c .read-directions .ensures in
     record {
       runs =
           fields _ (t .before .skip .ensures .runs) (t .read .ensures .runs) (e .skip2 .ensures .runs)
@@ -89,5 +89,5 @@ read-picture-header-spec =
     skip-requires-2
     returns
     returns-2
-    read-forward-header-requires
+    read-directions-requires
     returns-3)

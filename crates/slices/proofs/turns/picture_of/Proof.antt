@@ -5,7 +5,7 @@ use Rattle.slices.proofs.turns.picture_of.Tie as tie
 
 returns : tie.Need-returns
 returns c =
-    let o = c .before .before in
+    let o = c .before in
     rw (o .slice-of .ensures, code-read (o .before .before .before .pre))
 
 pub picture-of-spec : {M : Type 1} → statement M

@@ -24,42 +24,42 @@ held-as p z k q =
       whole = k .whole;
     }
 
--- where the header has been read, from the test whether the picture is decoded
-abbrev header : tie.Then1 → tie.After-read-picture-header
-header t = t .before .before .before
+-- where the header has been read, and the entry
+abbrev header : tie.After-with-header → tie.After-read-picture-header
+header w = w .before .before
 
 abbrev start : tie.After-read-picture-header → tie.Start
 start h = h .before .before .before
 
-read-picture-header-requires : tie.Need-read-picture-header-requires
-read-picture-header-requires c κs = search needs
-
 read-coded-requires : tie.Need-read-coded-requires
 read-coded-requires c κs =
-    let h = header (c .before) in
+    let w = c .before .before in
+    let h = header w in
     let s = start h in
     let r = h .read-picture-header .ensures in
     let k = given-by (header-gives (s .pre .1 .0)) (r .runs) in
-    (r .inside, (k, held-as (s .args .p) (s .args .sizes) (s .pre .1 .1) k))
-
-same-length : tie.Need-same-length
-same-length c = search needs
+    rw (w .with-header .ensures) (r .inside, (k, held-as (s .args .p) (s .args .sizes) (s .pre .1 .1) k))
 
 returns : tie.Need-returns
 unfolding picture
 returns c =
-    let w = c .before .before in
-    let t = w .before .before in
-    let r = w .read-coded .ensures in
-    record { runs = r-call _ (header t .read-picture-header .ensures .runs) (r-yes _ (t .if1 .taken) (r .runs)); inside = r .inside }
+    let d = c .before .before in
+    let t = d .before .before in
+    let w = t .before in
+    let r = d .read-coded .ensures in
+    record {
+      runs = r-call _ (header w .read-picture-header .ensures .runs) (r-yes _ (t .if1 .taken) (rw (w .with-header .ensures) at (r .runs)));
+      inside = r .inside;
+    }
 
 returns-2 : tie.Need-returns-2
 unfolding picture
 returns-2 c =
-    let r = c .before .before .before .read-picture-header .ensures in
-    record { runs = r-call _ (r .runs) (r-no _ (c .if1 .left) r-done); inside = r .inside }
+    let w = c .before in
+    let r = header w .read-picture-header .ensures in
+    record { runs = rw (w .with-header .ensures) (r-call _ (r .runs) (r-no _ (c .if1 .left) r-done)); inside = r .inside }
 
 pub read-picture-spec : {M : Type 1} → statement M
 read-picture-spec =
     tie.close
-    (tie.spec read-picture-header-requires read-coded-requires same-length returns returns-2)
+    (tie.spec (λ c κs. search needs) (λ c κs. search needs) read-coded-requires (λ c. search needs) returns returns-2)
