@@ -8,7 +8,7 @@ use lib.Dec.{eqb}
 use Rattle.picture.specs.declared.state.Sizes.{Sizes}
 use Rattle.picture.specs.declared.state.Matrices.{Matrices}
 use Rattle.picture.specs.Ways.{on}
-use Rattle.standard.specs.Standard.Picture.{Decoded}
+use Rattle.standard.specs.Standard.{Decoded}
 use Rattle.standard.proofs.Related.{Rule}
 use Rattle.demands.specs.Display as R
 use Rattle.demands.specs.Display.{Coded, samplesOf}

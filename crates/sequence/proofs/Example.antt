@@ -30,16 +30,11 @@ use Rattle.picture.specs.Ways.{Way, on, out, also, leave, onward, plain}
 use Rattle.picture.specs.Heads.{macroblockType}
 use Rattle.picture.specs.Slices.{extraTurn, extra}
 use Rattle.standard.specs.Rules.{rust}
-use Rattle.standard.specs.Standard.Shall as Shall
-use Rattle.standard.specs.Standard.Types as Types
-use Rattle.standard.specs.Standard.Vectors as Vectors
+use Rattle.standard.specs.Standard as S
+use Rattle.standard.specs.Standard.Words as Words
+use Rattle.standard.specs.Standard.State.{inTable}
 use Rattle.standard.specs.Standard.Prediction as Prediction
-use Rattle.standard.specs.Standard.Skipped as Skipped
 use Rattle.standard.specs.Standard.Block as Block
-use Rattle.standard.specs.Standard.Macroblock as Macroblock
-use Rattle.standard.specs.Standard.Slice as Slice
-use Rattle.standard.specs.Standard.PictureHeader as Header
-use Rattle.standard.specs.Standard.Picture as Picture
 use Rattle.decoder.specs.declared.answers.Opening.{Opening}
 use Rattle.decoder.specs.declared.answers.Opening.the-variants.{Ready}
 use Rattle.decoder.specs.Record.{Left, fresh, cleared, place}
@@ -81,18 +76,18 @@ abbrev opened-by : Left Opening
 opened-by = opening stream (replicate 2304 7)
 
 -- the pictures of the stream s, behind the opening o
-abbrev decoded : List ℕ → Left Opening → Way (List Picture.Decoded)
+abbrev decoded : List ℕ → Left Opening → Way (List S.Decoded)
 decoded s o = pictures rust (o .decoder .sequence .sizes) (o .decoder .sequence .matrices) s many (begins (o .store)) (place (o .decoder))
 
-abbrev types : Way (List Picture.Decoded) → List ℕ
-types (on ds) = map (λ (d : Picture.Decoded). d .header .«picture_coding_type») ds
+abbrev types : Way (List S.Decoded) → List ℕ
+types (on ds) = map (λ (d : S.Decoded). d .header .«picture_coding_type») ds
 types (out n l) = []
 
 -- what is shown: the number of a store, and the samples 15 to 17 of the first row of its plane Y
-abbrev seen : Picture.Decoded → List ℕ
+abbrev seen : S.Decoded → List ℕ
 seen p = storeOf p ∷ take 3 (drop (768 * storeOf p + 15) (p .pels))
 
-abbrev rows : Way (List Picture.Decoded) → List (List ℕ)
+abbrev rows : Way (List S.Decoded) → List (List ℕ)
 rows (on ds) = map seen (shown (allButLast ds))
 rows (out n l) = []
 
@@ -115,9 +110,9 @@ unfolding clamp255 odd storeRow storeRows bitAt bitsAt got next codePrefix codeF
     complement right recon reconstructed residual standardVector or32 dctZZ0 Dcs.dcSize Coefficients.runLevel Coefficients.coefficient dequantised
     Syntax.pairTurn Syntax.pairs butterfly columns rowPass idct formed overwrite addBlock blockPlace
     also leave onward plain macroblockType extraTurn extra
-    Shall.field Shall.whileTurn Shall.while Macroblock.increment Types.inTable Vectors.vector Vectors.forVector Vectors.backVector
-    Prediction.predictedPlane Prediction.predictedFrom Prediction.predicted Skipped.skippedFrom Skipped.skipped
-    Block.reconstructed Block.dctDc Block.written Block.intraBlock Block.nonIntraBlock Block.blocks Macroblock.coded Macroblock.macroblock
-    Slice.pastMacroblock Slice.sliceTurn Slice.slice Header.direction Header.header Picture.pastSlice Picture.slicesTurn Picture.slices Picture.picture
+    Words.field Words.whileTurn Words.while S.increment inTable Prediction.vector Prediction.forVector Prediction.backVector
+    Prediction.predictedPlane Prediction.predictedFrom Prediction.predicted Prediction.skippedFrom Prediction.skipped
+    Block.reconstructed Block.dctDc Block.written Block.intraBlock Block.nonIntraBlock Block.blocks S.coded S.macroblock
+    S.pastMacroblock S.sliceTurn S.slice S.direction S.header S.pastSlice S.slicesTurn S.slices S.picture
     fresh cleared matrix size rest findSequence accepted askSize askHeader askStore opened openingFrom opening following pictures
 sequence = record { ready = refl; four = refl; handed = refl }

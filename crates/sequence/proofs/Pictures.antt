@@ -10,8 +10,8 @@ use Rattle.bits.specs.Programs.{Out, run, eqZ}
 use Rattle.picture.specs.declared.state.Sizes.{Sizes}
 use Rattle.picture.specs.declared.state.Matrices.{Matrices}
 use Rattle.picture.specs.Ways.{Way, on, out, also}
-use Rattle.standard.specs.Standard.Shall.{conforms, forbidden}
-use Rattle.standard.specs.Standard.Picture as S
+use Rattle.standard.specs.Standard.Words.{conforms, forbidden}
+use Rattle.standard.specs.Standard as S
 use Rattle.standard.proofs.Related.{Rule}
 use Rattle.sequence.specs.Sequence.{following, Carried, carried, next, isLast, before, pictures}
 

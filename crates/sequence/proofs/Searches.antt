@@ -16,7 +16,7 @@ use Rattle.bits.specs.Programs.{Out, done, run, bind, eqZ, loop, turn, many, fi
 use Rattle.bits.proofs.Start.{Searched, first, none, found-on, found-is-first}
 use Rattle.picture.specs.declared.state.Matrices.{Matrices}
 use Rattle.picture.specs.Ways.{Way, on, out}
-use Rattle.standard.specs.Standard.Shall.{forbidden, conforms}
+use Rattle.standard.specs.Standard.Words.{forbidden, conforms}
 use Rattle.sequence.specs.Sequence.{isPassed, followTurn, following}
 
 -- ---- start codes apart

@@ -12,7 +12,7 @@ use lib.ListN.{length, getD}
 use Rattle.picture.specs.declared.state.Stores.{Stores}
 use Rattle.picture.specs.declared.state.Sizes.{Sizes}
 use Rattle.picture.specs.declared.state.Matrices.{Matrices}
-use Rattle.standard.specs.Standard.Picture as S
+use Rattle.standard.specs.Standard as S
 use Rattle.standard.proofs.Related.{Rule}
 use Rattle.standard.proofs.Agreement.{WayIs}
 use Rattle.standard.proofs.Spared.{Leaves, picture-spared}

@@ -14,7 +14,7 @@ use Rattle.picture.specs.declared.state.Matrices.{Matrices}
 use Rattle.picture.specs.declared.state.Picture.{Picture}
 use Rattle.picture.specs.Ways.{Way, on}
 use Rattle.picture.specs.Pictures.{Frame, picture}
-use Rattle.standard.specs.Standard.Picture as S
+use Rattle.standard.specs.Standard as S
 use Rattle.standard.proofs.Agreement.{agreed}
 use Rattle.standard.proofs.Related.{Rule}
 use Rattle.standard.proofs.Slice.{Begun}

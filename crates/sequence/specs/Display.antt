@@ -6,7 +6,7 @@ use lib.Dec.{eqb}
 use lib.Ieee.{Float}
 use lib.ListN.{getD}
 use Rattle.bits.specs.Programs.{if_then_else_}
-use Rattle.standard.specs.Standard.Picture.{Decoded}
+use Rattle.standard.specs.Standard.{Decoded}
 use Rattle.decoder.specs.declared.answers.Outcome.the-variants.{Picture, Refused}
 use Rattle.decoder.specs.Turns.{Going}
 use Rattle.decoder.specs.Run.{call, behind}

@@ -12,9 +12,9 @@ use Rattle.picture.specs.declared.state.Stores.{Stores}
 use Rattle.picture.specs.declared.state.Sizes.{Sizes}
 use Rattle.picture.specs.declared.state.Matrices.{Matrices}
 use Rattle.picture.specs.Ways.{Way, on, also}
-use Rattle.standard.specs.Standard.Shall.{forbidden}
+use Rattle.standard.specs.Standard.Words.{forbidden}
 use Rattle.standard.specs.Standard.State.{Direction, Rules}
-use Rattle.standard.specs.Standard.Picture.{Decoded, picture}
+use Rattle.standard.specs.Standard.{Decoded, picture}
 use Rattle.decoder.specs.Sequences.{size, rest}
 
 -- the numbers of two matrices

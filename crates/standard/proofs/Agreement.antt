@@ -8,7 +8,7 @@ use Rattle.laws.specs.Turns.{Turn, again, stop}
 use Rattle.bits.specs.Programs.{Prog, Out, done, run, bind, loop, turn}
 use Rattle.bits.proofs.Programs.{run-bind}
 use Rattle.picture.specs.Ways.{Way, on, out, leave, onward, plain, step, give}
-use Rattle.standard.specs.Standard.Shall.{forbidden, conforms, shall}
+use Rattle.standard.specs.Standard.Words.{forbidden, conforms, shall}
 
 -- of what steps that read nothing give
 abbrev pub WayMeets : {A B : Type 0} → (A → B → Type 0) → Way A → Way B → Type 0

@@ -41,7 +41,7 @@ use Rattle.picture.specs.Blocks as O
 use Rattle.standard.specs.Standard as S
 use Rattle.standard.proofs.Agreement.{WayIs, Agree, a-same, a-give, a-plain, a-onward, a-shall, plain-bind, plain-bind-on}
 use Rattle.standard.proofs.Related.{motionOf, Own, own, sliceOf, eights, Rule, coding}
-use Rattle.standard.specs.Rules.{times, premultiplied}
+use Rattle.standard.specs.Rules.{times}
 
 -- ---- coefficients
 
@@ -58,6 +58,9 @@ times-at (x ∷ xs) [] zero e = *ℤ-zero x
 times-at (x ∷ xs) [] (suc k) e = times-at xs [] k e
 times-at (x ∷ xs) (p ∷ ps) zero e = ap (λ (z : ℤ). z *ℤ p) e ∙ zero-*ℤ p
 times-at (x ∷ xs) (p ∷ ps) (suc k) e = times-at xs ps k e
+
+abbrev premultiplied : List ℤ → List ℤ
+premultiplied recon = times recon premultiplierMatrix
 
 times-zero : premultiplied (replicate 64 (pos 0)) ≡ replicate 64 (pos 0)
 unfolding premultiplierMatrix
@@ -156,7 +159,7 @@ module _ (rule : Rule) (g : Given) (f b : S.Direction) (intra : Bool) (scale : �
   coefficients-same : (x : S.Filled) (p : Ended) → Lone x → WayIs (λ y. (p .end ≡ Whole) × Placed x (p .pairs) y) (S.coefficients their intra scale x p)
   coefficients-same x p l = go (p .end)
     where
-      go : (e : BlockEnd) → WayIs (λ y. (e ≡ Whole) × Placed x (p .pairs) y) (cond (S.isWhole e) (S.reconstructed their intra scale x (p .pairs)) S.forbidden)
+      go : (e : BlockEnd) → WayIs (λ y. (e ≡ Whole) × Placed x (p .pairs) y) (elim e [ Whole ↦ S.reconstructed their intra scale x (p .pairs) | Dropped ↦ S.forbidden | Outside ↦ S.forbidden ])
       go Whole = is-also (S.reconstructed their intra scale x (p .pairs)) (λ y q. (refl, q)) (pairs-same x (p .pairs) l)
       go Dropped = tt
       go Outside = tt
@@ -352,7 +355,7 @@ module _ (rule : Rule) (g : Given) (f b : S.Direction) (A : ℤ) (q : ℕ) (for 
       let K : Bool → ℤ → Prog Coded = λ t d. cond t (bind (pairs 1) (λ p. done (coded d p))) (done (coded d (ended [] Outside))) in
       let made : Bool → ℤ → Ended → B.Read = λ t d p. cond (not t) (record { filled = B.filled left 0; predictor = pred; end = p .end })
       (record { filled = B.allPlaced Q matrix (B.withDc (pred +ℤ d) left) (p .pairs); predictor = pred +ℤ d; end = p .end }) in
-      let F : S.Pasts → ℤ → Prog (Way S.Blocks) = λ past recon. onward (S.shall (S.inTwelveBits recon)) (λ z. onward (plain (pairs 1)) (λ p.
+      let F : S.Pasts → ℤ → Prog (Way S.Blocks) = λ past recon. onward (S.shall (leZ (negℤ (pos 2048)) recon && leZ recon (pos 2047))) (λ z. onward (plain (pairs 1)) (λ p.
       onward (step (S.coefficients G true q (record { recon = set left 0 recon; n = 1 }) p))
       (λ f. give (record { past = S.pastAs i recon past; pels = S.written G true i (natAbs A) f (x .pels) })))) in
       subst (λ (w : World). Agree (Intra isFar k G A q for back fs bs) s a

@@ -48,7 +48,7 @@ abbrev pels : List ℕ
 pels = replicate 1152 7 ++ replicate 1152 50 ++ replicate 1152 90
 
 abbrev slice : S.Rules → ℕ → List ℕ → Way S.Variables
-slice rules type stream = run (S.slice (S.coding rules (given type) direction direction) 1 pels) stream 0 .value
+slice rules type stream = run (S.slice (record { given = given type; forward = direction; backward = direction; rules = rules }) 1 pels) stream 0 .value
 
 -- where the slice conforms: its last macroblock_address, macroblock_type, dct_dc_y_past, recon_right_for_prev
 abbrev variables : Way S.Variables → List ℤ

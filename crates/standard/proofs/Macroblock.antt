@@ -22,7 +22,7 @@ use Rattle.picture.specs.Blocks as O
 use Rattle.picture.specs.Macroblocks as M
 use Rattle.standard.specs.Standard as S
 use Rattle.standard.proofs.Agreement.{Meets, Agree, a-give, a-step, a-plain, a-onward, a-shall, a-after}
-use Rattle.standard.proofs.Related.{In, Own, own, sliceOf, eights, pastStart, Related, Rule, coding}
+use Rattle.standard.proofs.Related.{In, Own, own, sliceOf, eights, pastStart, forNext, backNext, Related, Rule, coding}
 use Rattle.standard.proofs.Increment.{increment-agrees}
 use Rattle.standard.proofs.Heads.{zero-in, their, reset, inter-head, intra-head}
 use Rattle.standard.proofs.Skips.{Ready, predicted-meets, first-ready, later-ready}
@@ -42,7 +42,7 @@ either true p q = p refl
 either false p q = q refl
 
 -- the relation from its parts
-related : (g : S.Coding) (x : S.Variables) (w : World) (o : Own) (f b : S.Vector) → S.forStart g false x ≡ f → S.backStart g false x ≡ b
+related : (g : S.Coding) (x : S.Variables) (w : World) (o : Own) (f b : S.Vector) → forNext g false x ≡ f → backNext g false x ≡ b
     → In (g .forward) f → In (g .backward) b → w ≡ world (sliceOf g (x .«previous_macroblock_address») (x .«quantizer_scale») f b o) (x .pels)
     → o .forSet ≡ flag (x .«macroblock_type») 8 → o .backSet ≡ flag (x .«macroblock_type») 4
     → pastStart (x .«previous_macroblock_address» +ℤ pos 1) x ≡ eights o → leZ (x .«past_intra_address») (x .«previous_macroblock_address») ≡ true
@@ -159,20 +159,20 @@ module _ (rule : Rule) (g : Given) (df db : S.Direction) (s : List ℕ) where
   abbrev C : S.Coding
   C = coding rule g df db
 
-  start-0 : (first : Bool) (x : S.Variables) → eqb (g .type) 3 ≡ false → S.backStart C first x ≡ S.zero-vector
-  start-0 true x e = refl
-  start-0 false x e = rw e
+  start-0 : (first : Bool) (u : ℕ) (x : S.Variables) → eqb (g .type) 3 ≡ false → S.backStart C first u x ≡ S.zero-vector
+  start-0 true u x e = refl
+  start-0 false u x e = rw e
 
-  coded-agrees : (first : Bool) (n : ℕ) (x : S.Variables) (l : List ℕ) (w : World) (a : ℕ) → Ready C first n x l w
-      → Agree (Related C false) s a (S.coded C first n x l) (M.body g w)
+  coded-agrees : (first : Bool) (n u : ℕ) (x : S.Variables) (l : List ℕ) (w : World) (a : ℕ) → Ready C first n u x l w
+      → Agree (Related C false) s a (S.coded C first n u x l) (M.body g w)
   unfolding S.coded M.body M.predictUnlessIntra H.pattern
-  coded-agrees first n x l w a r =
+  coded-agrees first n u x l w a r =
       let p = macroblockType (g .type) in
       let t = run p s a .value in
       let e = run p s a .at in
       let A = x .«previous_macroblock_address» +ℤ pos n in
-      let f = S.forStart C first x in
-      let b = S.backStart C first x in
+      let f = S.forStart C first u x in
+      let b = S.backStart C first u x in
       let o = r .o in
       let F : ℕ → S.Vector → S.Vector → Prog (Way S.Variables) = theirRest rule g df db s first n x l t (flag t 1) (flag t 2) in
       let K : Slice → Prog (Way World) = oursRest rule g df db s first n x l t (flag t 1) (flag t 2) in
@@ -194,8 +194,8 @@ module _ (rule : Rule) (g : Given) (df db : S.Direction) (s : List ℕ) where
       let y = sliceOf C A q′ f′ b′ (reset t) in
       subst (λ (z : Bool). Agree (Related C false) s e (theirRest rule g df db s first n x l t z (flag t 2) q′ f′ b′)
       (oursRest rule g df db s first n x l t z (flag t 2) y)) (sym h) (
-      inter-rest rule g df db s first n x l t q′ f′ b′ e h i j kf (λ z. kb (no-backward (g .type) t tab z) ∙ start-0 first x z) (r .order) (r .some))) e in
-      subst (λ (w : World). Agree (Related C false) s a (S.coded C first n x l) (M.body g w)) (sym (r .is)) (
+      inter-rest rule g df db s first n x l t q′ f′ b′ e h i j kf (λ z. kb (no-backward (g .type) t tab z) ∙ start-0 first u x z) (r .order) (r .some))) e in
+      subst (λ (w : World). Agree (Related C false) s a (S.coded C first n u x l) (M.body g w)) (sym (r .is)) (
       a-plain p p _ _ refl (a-shall _ _ (λ tab. either (flag t 1) (intra tab) (inter tab))))
 
   -- ---- the whole
@@ -214,7 +214,7 @@ module _ (rule : Rule) (g : Given) (df db : S.Direction) (s : List ℕ) where
   address-is first x w r = ap (λ (w : World). w .slice .«macroblock_address») (r .is)
 
   begins : (x : S.Variables) (w : World) → Related C true x w → (n : ℕ) → 1 ≤ n → (e : ℕ) → inside (x .«previous_macroblock_address» +ℤ pos n) ≡ true
-      → Agree (Related C false) s e (onward (step (S.skipped C true n x)) (S.coded C true n (S.typed (S.lastType C true n x) x))) (M.firstOf g n w)
+      → Agree (Related C false) s e (onward (step (S.skipped C true n x)) (S.coded C true n (S.lastType C true n x) x)) (M.firstOf g n w)
   unfolding S.skipped onward leave bind M.firstOf
   begins x w r n some e h =
       let low : ltZ (w .slice .«macroblock_address» +ℤ pos n) (pos 0) ≡ false = ap (λ (z : ℤ). ltZ (z +ℤ pos n) (pos 0)) (address-is true x w r)
@@ -223,17 +223,17 @@ module _ (rule : Rule) (g : Given) (df db : S.Direction) (s : List ℕ) where
       ≡ false = ap (λ (z : ℤ). leZ (pos (g .sizes .«mb_size»)) (z +ℤ pos n)) (address-is true x w r)
       ∙ not-above (x .«previous_macroblock_address» +ℤ pos n) h in
       rw (low, high)
-      (coded-agrees true n (S.typed (S.lastType C true n x) x) (x .pels) (M.further n w) e (first-ready C x w n some r))
+      (coded-agrees true n (S.lastType C true n x) x (x .pels) (M.further n w) e (first-ready C x w n some r))
 
   goes-on : (x : S.Variables) (w : World) → Related C false x w → (n : ℕ) → 1 ≤ n → (e : ℕ) → inside (x .«previous_macroblock_address» +ℤ pos n) ≡ true
-      → Agree (Related C false) s e (onward (step (S.skipped C false n x)) (S.coded C false n (S.typed (S.lastType C false n x) x))) (M.laterOf g n w)
+      → Agree (Related C false) s e (onward (step (S.skipped C false n x)) (S.coded C false n (S.lastType C false n x) x)) (M.laterOf g n w)
   unfolding M.laterOf
   goes-on x w r n some e h =
       let high : leZ (pos (g .sizes .«mb_size»)) (w .slice .«macroblock_address» +ℤ pos n)
       ≡ false = ap (λ (z : ℤ). leZ (pos (g .sizes .«mb_size»)) (z +ℤ pos n)) (address-is false x w r)
       ∙ not-above (x .«previous_macroblock_address» +ℤ pos n) h in
       rw high
-      (a-onward _ _ (a-step _ _ (later-ready C x w n some r)) (λ l y e k. coded-agrees false n (S.typed (S.lastType C false n x) x) l y e k))
+      (a-onward _ _ (a-step _ _ (later-ready C x w n some r)) (λ l y e k. coded-agrees false n (S.lastType C false n x) x l y e k))
 
   -- 2.4.2.7, 2.4.4: the standard's macroblock() and ours
   pub macroblock-agrees : length s ≤ 16777216 → (first : Bool) (x : S.Variables) (w : World) (a : ℕ) → Related C first x w
@@ -248,11 +248,11 @@ module _ (rule : Rule) (g : Given) (df db : S.Direction) (s : List ℕ) where
       counted first x n =
           onward (S.shall (leZ (pos 0) (x .«previous_macroblock_address» +ℤ pos n) && ltZ (x .«previous_macroblock_address» +ℤ pos n)
           (pos (g .sizes .«mb_size»)))) (λ z.
-          onward (step (S.skipped C first n x)) (S.coded C first n (S.typed (S.lastType C first n x) x)))
+          onward (step (S.skipped C first n x)) (S.coded C first n (S.lastType C first n x) x))
 
       go : (first : Bool) (x : S.Variables) (w : World) → Related C first x w → (n : ℕ) → 1 ≤ n → (e : ℕ)
           → (leZ (pos 0) (x .«previous_macroblock_address» +ℤ pos n) && ltZ (x .«previous_macroblock_address» +ℤ pos n) (pos (g .sizes .«mb_size»))) ≡ true
-          → Agree (Related C false) s e (onward (step (S.skipped C first n x)) (S.coded C first n (S.typed (S.lastType C first n x) x)))
+          → Agree (Related C false) s e (onward (step (S.skipped C first n x)) (S.coded C first n (S.lastType C first n x) x))
           (cond first (M.firstOf g n w) (M.laterOf g n w))
       go true x w r n some e h = begins x w r n some e h
       go false x w r n some e h = goes-on x w r n some e h

@@ -66,11 +66,14 @@ rest g m k average right down l =
 
 -- the block at p, referring to samples inside
 module _ (p : Place) (size : (p .size ≡ 8) ⊎ (p .size ≡ 16)) (right down : ℤ) (e : S.inPicture p right down ≡ true) where
-  parts : (S.isPlace p ≡ true) × (S.inside (p .row * p .size) (p .size) down (height p) ≡ true) × (S.inside (p .column * p .size) (p .size) right (width p)
+  abbrev isPlace : Bool
+  isPlace = ltb (p .row) (p .down) && ltb (p .column) (p .across) && leb (p .across) 256 && leb (p .down) 256
+
+  parts : (isPlace ≡ true) × (S.inside (p .row * p .size) (p .size) down (height p) ≡ true) × (S.inside (p .column * p .size) (p .size) right (width p)
       ≡ true)
   parts =
-      let t = both (S.isPlace p && S.inside (p .row * p .size) (p .size) down (height p)) _ e in
-      let u = both (S.isPlace p) _ (t .0) in
+      let t = both (isPlace && S.inside (p .row * p .size) (p .size) down (height p)) _ e in
+      let u = both isPlace _ (t .0) in
       (u .0, u .1, t .1)
 
   place : (k : ℕ) → getD (ltb (p .row) (p .down) ∷ ltb (p .column) (p .across) ∷ leb (p .across) 256 ∷ leb (p .down) 256 ∷ []) k true ≡ true

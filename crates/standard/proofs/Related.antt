@@ -17,7 +17,7 @@ use Rattle.picture.specs.declared.state.Slice.{Slice}
 use Rattle.picture.specs.State.{Given, World, world}
 use Rattle.picture.specs.Heads.{flag}
 use Rattle.standard.specs.Standard as S
-use Rattle.standard.specs.Standard.{Direction, Vector, Coding, Pasts, pasts, Variables, forStart, backStart, far}
+use Rattle.standard.specs.Standard.{Direction, Vector, Coding, Pasts, pasts, Variables, far}
 use Rattle.standard.specs.Rules as R
 
 -- the components are in the range of their f code
@@ -59,13 +59,20 @@ eights o = pasts (pos 8 *ℤ o .y) (pos 8 *ℤ o .cb) (pos 8 *ℤ o .cr)
 abbrev pub pastStart : ℤ → Variables → Pasts
 pastStart address v = cond (far address v) (pasts (pos 1024) (pos 1024) (pos 1024)) (v .past)
 
+-- the vectors that the next macroblock starts from
+abbrev pub forNext : Coding → Bool → Variables → Vector
+forNext g first v = S.forStart g first (v .«macroblock_type») v
+
+abbrev pub backNext : Coding → Bool → Variables → Vector
+backNext g first v = S.backStart g first (v .«macroblock_type») v
+
 -- before a macroblock: vectors and predictors as they are used if it is the next in the picture; the flags are those of the last type, as a skip in a B
 -- picture needs them
 pub record Related (g : Coding) (first : Bool) (v : Variables) (w : World) : Type 0 where
   pub o : Own
-  pub is : w ≡ world (sliceOf g (v .«previous_macroblock_address») (v .«quantizer_scale») (forStart g first v) (backStart g first v) o) (v .pels)
-  pub for : In (g .forward) (forStart g first v)
-  pub back : In (g .backward) (backStart g first v)
+  pub is : w ≡ world (sliceOf g (v .«previous_macroblock_address») (v .«quantizer_scale») (forNext g first v) (backNext g first v) o) (v .pels)
+  pub for : In (g .forward) (forNext g first v)
+  pub back : In (g .backward) (backNext g first v)
   pub flags : eqb (g .given .type) 3 ≡ true → first ≡ false → (o .forSet ≡ flag (v .«macroblock_type») 8) × (o .backSet ≡ flag (v .«macroblock_type») 4)
   pub past : pastStart (v .«previous_macroblock_address» +ℤ pos 1) v ≡ eights o
   pub order : leZ (v .«past_intra_address») (v .«previous_macroblock_address») ≡ true
@@ -94,4 +101,4 @@ pub printed : Rule
 printed = record { rules = R.printed; same = λ i z s q e. same-by (dctRecon i z s q) (dequantised (quantiser i s) z q) e; transform = λ recon. refl }
 
 abbrev pub coding : Rule → Given → Direction → Direction → Coding
-coding rule = S.coding (rule .rules)
+coding rule g f b = record { given = g; forward = f; backward = b; rules = rule .rules }

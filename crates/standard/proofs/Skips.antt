@@ -17,7 +17,7 @@ use Rattle.picture.specs.Macroblocks as M
 use Rattle.picture.specs.Heads.{flag}
 use Rattle.standard.specs.Standard as S
 use Rattle.standard.proofs.Agreement.{WayMeets}
-use Rattle.standard.proofs.Related.{In, motionOf, Own, own, sliceOf, eights, pastStart, Related}
+use Rattle.standard.proofs.Related.{In, motionOf, Own, own, sliceOf, eights, pastStart, forNext, backNext, Related}
 use Rattle.standard.proofs.Heads.{zero-in}
 use Rattle.standard.proofs.Predictions.{also-meets, from-meets}
 
@@ -82,13 +82,13 @@ module _ (g : S.Coding) (A : ℤ) (q : ℕ) (for back : S.Vector) (o : Own) (t :
       (λ x y h. subst (λ (y : List ℕ). WayMeets _≡_ (S.skippedFrom g t for back (address + 1) n x)
       (P.predictSkipped (g .given) (sliceOf g A q for back o) (address + 1) n y)) h (skipped-meets (address + 1) n x))
 
--- ---- before the type is read: address, vectors and predictors as the macroblock will use them
+-- ---- before the type is read: address, vectors and predictors as the macroblock behind one of the type t will use them
 
-pub record Ready (g : S.Coding) (first : Bool) (n : ℕ) (x : S.Variables) (l : List ℕ) (w : World) : Type 0 where
+pub record Ready (g : S.Coding) (first : Bool) (n t : ℕ) (x : S.Variables) (l : List ℕ) (w : World) : Type 0 where
   pub o : Own
-  pub is : w ≡ world (sliceOf g (x .«previous_macroblock_address» +ℤ pos n) (x .«quantizer_scale») (S.forStart g first x) (S.backStart g first x) o) l
-  pub for : In (g .forward) (S.forStart g first x)
-  pub back : In (g .backward) (S.backStart g first x)
+  pub is : w ≡ world (sliceOf g (x .«previous_macroblock_address» +ℤ pos n) (x .«quantizer_scale») (S.forStart g first t x) (S.backStart g first t x) o) l
+  pub for : In (g .forward) (S.forStart g first t x)
+  pub back : In (g .backward) (S.backStart g first t x)
   pub past : pastStart (x .«previous_macroblock_address» +ℤ pos n) x ≡ eights o
   pub order : leZ (x .«past_intra_address») (x .«previous_macroblock_address») ≡ true
   pub some : 1 ≤ n
@@ -120,14 +120,14 @@ not-true true e = absurd (false≢true e)
 not-true false e = refl
 
 abbrev ours : S.Coding → S.Variables → Own → World
-ours g x o = world (sliceOf g (x .«previous_macroblock_address») (x .«quantizer_scale») (S.forStart g false x) (S.backStart g false x) o) (x .pels)
+ours g x o = world (sliceOf g (x .«previous_macroblock_address») (x .«quantizer_scale») (forNext g false x) (backNext g false x) o) (x .pels)
 
 abbrev dcs : Own → Own
 dcs o = own (o .forSet) (o .backSet) (pos 128) (pos 128) (pos 128)
 
 module _ (g : S.Coding) (x : S.Variables) (w : World) (n : ℕ) (some : 1 ≤ n) where
   -- the first macroblock of a slice
-  pub first-ready : Related g true x w → Ready g true n (S.typed (S.lastType g true n x) x) (x .pels) (M.further n w)
+  pub first-ready : Related g true x w → Ready g true n (S.lastType g true n x) x (x .pels) (M.further n w)
   first-ready r =
       record {
         o = r .o;
@@ -147,25 +147,25 @@ module _ (g : S.Coding) (x : S.Variables) (w : World) (n : ℕ) (some : 1 ≤ n)
   skippedTo A f b o l = world (sliceOf g A (x .«quantizer_scale») f b (dcs o)) l
 
   abbrev Goal : World → Type 0
-  Goal w = WayMeets (Ready g false n (S.typed (S.lastType g false n x) x)) (S.skipped g false n x) (M.advance (g .given) n w)
+  Goal w = WayMeets (Ready g false n (S.lastType g false n x) x) (S.skipped g false n x) (M.advance (g .given) n w)
 
   module _ (r : Related g false x w) where
     -- none is skipped
     next-ready : 1 ≡ n → Goal (ours g x (r .o))
     unfolding S.skipped M.advance
     next-ready e =
-        subst (λ (n : ℕ). WayMeets (Ready g false n (S.typed (S.lastType g false n x) x)) (S.skipped g false n x) (M.advance (g .given) n (ours g x (r .o)))) e
+        subst (λ (n : ℕ). WayMeets (Ready g false n (S.lastType g false n x) x) (S.skipped g false n x) (M.advance (g .given) n (ours g x (r .o)))) e
         (record { o = r .o; is = refl; for = r .for; back = r .back; past = r .past; order = r .order; some = omega arith })
 
     module _ (h : 2 ≤ n) where
       -- skipped macroblocks of the type t with the vectors f and b, from which the next one starts as if behind a macroblock of the type u
       skips-ready : (t u : ℕ) (f b : S.Vector) → (eqb (g .given .type) 3 ≡ true → (r .o .forSet ≡ flag t 8) × (r .o .backSet ≡ flag t 4))
-          → S.forStart g false (S.typed u x) ≡ f → S.backStart g false (S.typed u x) ≡ b → In (g .forward) f → In (g .backward) b
-          → WayMeets (Ready g false n (S.typed u x)) (S.skippedFrom g t f b from (n - 1) (x .pels))
+          → S.forStart g false u x ≡ f → S.backStart g false u x ≡ b → In (g .forward) f → In (g .backward) b
+          → WayMeets (Ready g false n u x) (S.skippedFrom g t f b from (n - 1) (x .pels))
           (also (P.predictSkipped (g .given) (skippedTo (x .«previous_macroblock_address») f b (r .o) [] .slice) from (n - 1) (x .pels))
           (λ l. on (skippedTo (x .«previous_macroblock_address» +ℤ pos n) f b (r .o) l)))
       skips-ready t u f b k ef eb i j =
-          right-meets (Ready g false n (S.typed u x)) (S.skippedFrom g t f b from (n - 1) (x .pels)) _ _
+          right-meets (Ready g false n u x) (S.skippedFrom g t f b from (n - 1) (x .pels)) _ _
           (skipped-meets g (x .«previous_macroblock_address») (x .«quantizer_scale») f b (dcs (r .o)) t k from (n - 1) (x .pels)) (λ l m e. record {
             o = dcs (r .o);
             is = rw (ef, eb) (ap (skippedTo (x .«previous_macroblock_address» +ℤ pos n) f b (r .o)) (sym e));
@@ -198,8 +198,8 @@ module _ (g : S.Coding) (x : S.Variables) (w : World) (n : ℕ) (some : 1 ≤ n)
               let c = both (eqb (g .given .type) 3) (not (flag t 1)) e in
               let i : flag t 1 ≡ false = not-true _ (c .1) in
               let kept : Bool → S.Vector = λ z. cond z S.zero-vector (x .forPrev) in
-              let f : S.forStart g false x ≡ x .forPrev = ap (λ (z : Bool). kept (cond z (not (flag t 8)) (flag t 1))) p ∙ ap kept i in
-              let b : S.backStart g false x ≡ x .backPrev = rw (c .0, i) in
+              let f : forNext g false x ≡ x .forPrev = ap (λ (z : Bool). kept (cond z (not (flag t 8)) (flag t 1))) p ∙ ap kept i in
+              let b : backNext g false x ≡ x .backPrev = rw (c .0, i) in
               let skips = skips-ready t t (x .forPrev) (x .backPrev) (λ e. r .flags e refl) f b (rw f at (r .for)) (rw b at (r .back)) in
               rw (le-ltb n 2 h, lt-ltb 1 n h, p, c .0, i) skips
           go false e = rw (le-ltb n 2 h, p, e) tt

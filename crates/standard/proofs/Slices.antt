@@ -21,7 +21,7 @@ use Rattle.picture.specs.Slices as O
 use Rattle.picture.specs.Pictures as P
 use Rattle.standard.specs.Standard as S
 use Rattle.standard.proofs.Agreement.{Meets, TurnMeets, Agree, a-loop}
-use Rattle.standard.proofs.Related.{Related, Rule, coding}
+use Rattle.standard.proofs.Related.{forNext, backNext, Related, Rule, coding}
 use Rattle.standard.proofs.Slice.{Begun, slice-agrees}
 
 -- a slice start code is no picture start code
@@ -40,8 +40,8 @@ module _ (rule : Rule) (g : Given) (df db : S.Direction) (s : List ℕ) (long : 
       record {
         forSet = r .o .forSet;
         backSet = r .o .backSet;
-        for = S.forStart C false x;
-        back = S.backStart C false x;
+        for = forNext C false x;
+        back = backNext C false x;
         forward = ap (λ (w : World). w .slice .«motion_forward») (r .is);
         backward = ap (λ (w : World). w .slice .«motion_backward») (r .is);
         left = ap (λ (w : World). w .slice .«block_data») (r .is);

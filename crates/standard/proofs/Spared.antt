@@ -196,9 +196,9 @@ module _ (g : S.Coding) (l : List ℕ) (three : g .given .stores .cur * (384 * g
 
     -- ---- macroblocks
 
-    coded-spared : (first : Bool) (k : ℕ) (v : S.Variables) (x : List ℕ) → Same x → Gives s (WayIs Variables) (S.coded g first k v x)
+    coded-spared : (first : Bool) (k u : ℕ) (v : S.Variables) (x : List ℕ) → Same x → Gives s (WayIs Variables) (S.coded g first k u v x)
     unfolding S.coded
-    coded-spared first k v x h =
+    coded-spared first k u v x h =
         g-then _ _ (λ t. g-then _ _ (λ u. g-then _ _ (λ scale. g-then _ _ (λ f. g-then _ _ (λ b.
         g-onward {P = Same} _ (g-done (by-case (WayIs Same) (S.«macroblock_intra» t) (λ e. h) (λ e. predicted-spared t _ f b x h))) (λ x h. g-then _ _ (λ cbp.
         g-onward {P = Blocks} _ (blocks-spared _ _ cbp scale _ 6 _ h) (λ b h. g-done h))))))))
@@ -206,7 +206,7 @@ module _ (g : S.Coding) (l : List ℕ) (three : g .given .stores .cur * (384 * g
     macroblock-spared : (first : Bool) (v : S.Variables) → Variables v → Gives s (WayIs Variables) (S.macroblock g first v)
     unfolding S.macroblock
     macroblock-spared first v h =
-        g-then _ _ (λ k. g-then _ _ (λ u. g-onward {P = Same} _ (g-done (skipped-spared first k v h)) (λ x h. coded-spared first k _ x h)))
+        g-then _ _ (λ k. g-then _ _ (λ u. g-onward {P = Same} _ (g-done (skipped-spared first k v h)) (λ x h. coded-spared first k _ v x h)))
 
     -- ---- slices
 
@@ -263,7 +263,12 @@ module _ (r : S.Rules) (z : Sizes) (m : Matrices) (t : Stores) (l s : List ℕ) 
       g-onward {P = Spared (t .cur) (z .«mb_size») l} _ (go h (eqb (h .«picture_coding_type») 3)) (λ x i. g-done (record { spared = i; stores = refl })))
     where
       given : S.Header → Stores → S.Coding
-      given h t = S.coding r (record { type = h .«picture_coding_type»; sizes = z; stores = t; matrices = m }) (h .forward) (h .backward)
+      given h t = record {
+        given = record { type = h .«picture_coding_type»; sizes = z; stores = t; matrices = m };
+        forward = h .forward;
+        backward = h .backward;
+        rules = r;
+      }
 
       go : (h : S.Header) (b : Bool)
           → Gives s (WayIs (Spared (t .cur) (z .«mb_size») l)) (S.slices (given h (cond b t (record { cur = t .cur; fwd = t .bwd; bwd = t .bwd }))) l)

@@ -1,13 +1,8 @@
 -- The two rules that specs/Standard leaves open: those of the Rust, and the printed rule of reconstruction.
-use mathlib.Core.Bool.{true}
-use mathlib.Core.List.{List, [], _∷_}
-use lib.IntN.{ℤ, pos, _*ℤ_}
-use Rattle.bits.specs.Programs.{eqZ}
 use Rattle.codes.specs.Matrices.{premultiplierMatrix}
-use Rattle.coefficients.specs.Dequantise.{quantiser, dequantised}
-use Rattle.coefficients.specs.Standard.{dctRecon}
+use Rattle.coefficients.specs.{Dequantise.quantiser, Dequantise.dequantised, Standard.dctRecon}
 use Rattle.transform.specs.Idct.{idct}
-use Rattle.standard.specs.Standard.State.{Rules}
+use Rattle.standard.specs.Standard.{Words.true, Words.List, Words.[], Words._∷_, Words.ℤ, Words.pos, Words._*ℤ_, Words.eqZ, State.Rules}
 
 -- RULES 4.1: dct_recon times the premultiplier, place by place
 abbrev pub times : List ℤ → List ℤ → List ℤ
@@ -15,12 +10,9 @@ times [] ps = []
 times (x ∷ xs) [] = (x *ℤ pos 0) ∷ times xs []
 times (x ∷ xs) (p ∷ ps) = (x *ℤ p) ∷ times xs ps
 
-abbrev pub premultiplied : List ℤ → List ℤ
-premultiplied recon = times recon premultiplierMatrix
-
 -- RULES 4.1, 4.2: the Rust's transform (DIFFERENCES A.13)
 abbrev pub transformed : List ℤ → List ℤ
-transformed recon = idct (premultiplied recon)
+transformed recon = idct (times recon premultiplierMatrix)
 
 -- the Rust's rule, which admits everything
 abbrev pub rust : Rules
@@ -28,8 +20,4 @@ rust = record { dctRecon = λ i z s q. dequantised (quantiser i s) z q; admitted
 
 -- the printed rule, which admits what the Rust makes the same of (DIFFERENCES A.1 to A.3)
 abbrev pub printed : Rules
-printed = record {
-  dctRecon = dctRecon;
-  admitted = λ i z s q. eqZ (dctRecon i z s q) (dequantised (quantiser i s) z q);
-  transform = transformed;
-}
+printed = record { dctRecon = dctRecon; admitted = λ i z s q. eqZ (dctRecon i z s q) (rust .dctRecon i z s q); transform = transformed }

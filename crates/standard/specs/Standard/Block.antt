@@ -1,26 +1,12 @@
 -- 2.4.2.8, 2.4.3.7, 2.4.4.1, 2.4.4.2: block(i). dct_coeff_first, dct_coeff_next and end_of_block are read by `pairs` of crates/coefficients.
-use mathlib.Core.Bool.{Bool, true, false, _&&_, _||_}
-use mathlib.Core.List.{List, [], _∷_}
-use Prim.Native.Nat.{ℕ, zero, suc, _+_, _-_, _^_}
-use borrow.Rule.Slice.PartMut.{midOf, putMid}
-use lib.Dec.{eqb, ltb}
-use lib.IntN.{ℤ, pos, negℤ, _+ℤ_, _-ℤ_, _*ℤ_}
-use lib.ListN.{getD, set, replicate}
-use lib.Signed.{ltZ, leZ}
-use Rattle.bits.specs.Programs.{Prog, bits, if_then_else_}
 use Rattle.codes.specs.Matrices.{zigZag}
-use Rattle.coefficients.specs.declared.block.BlockEnd.{BlockEnd}
 use Rattle.coefficients.specs.declared.block.BlockEnd.the-variants.{Whole, Dropped, Outside}
-use Rattle.coefficients.specs.Dcs.{dcSize}
-use Rattle.coefficients.specs.Standard.{dctZZ0}
-use Rattle.coefficients.specs.Syntax.{Pair, Ended, pairs}
-use Rattle.prediction.specs.Predict.{macroblockAt}
-use Rattle.prediction.specs.Planes.{planeOf, planeLength, planeStart}
-use Rattle.prediction.specs.Writers.{overwrite, addBlock, blockWidth, blockPlace}
-use Rattle.picture.specs.Ways.{Way, on, plain, step, give, _>>=_, _>>_}
-use Rattle.picture.specs.Heads.{flag}
+use Rattle.coefficients.specs.{Dcs.dcSize, Standard.dctZZ0, Syntax.Pair, Syntax.Ended, Syntax.pairs}
+use Rattle.prediction.specs.{Planes.planeOf, Planes.planeLength, Writers.overwrite, Writers.addBlock, Writers.blockWidth, Writers.blockPlace}
 use Rattle.picture.specs.Blocks.{matrixFor}
-use Rattle.standard.specs.Standard.Shall.{forbidden, shall}
+use Rattle.standard.specs.Standard.Words.{Bool, true, false, _&&_, _||_, List, [], _∷_, ℕ, zero, suc, _+_, _-_, _^_, eqb, ltb, ℤ, pos, negℤ, _+ℤ_}
+use Rattle.standard.specs.Standard.Words.{_-ℤ_, _*ℤ_, getD, set, replicate, ltZ, leZ, midOf, putMid, Prog, bits, if_then_else_, macroblockAt, planeStart}
+use Rattle.standard.specs.Standard.Words.{Way, on, plain, step, give, _>>=_, _>>_, flag, forbidden, shall}
 use Rattle.standard.specs.Standard.State.{Coding, Pasts, pasts, Variables}
 
 -- dct_recon so far, row by row, and how many places of the zig-zag order are used
@@ -39,11 +25,8 @@ reconstructed g intra scale f (p ∷ ps) =
     else forbidden
 
 -- up to end_of_block, within the 64 places
-abbrev pub isWhole : BlockEnd → Bool
-isWhole e = elim e [ Whole ↦ true | Dropped ↦ false | Outside ↦ false ]
-
 abbrev pub coefficients : Coding → Bool → ℕ → Filled → Ended → Way Filled
-coefficients g intra scale f p = if isWhole (p .end) then reconstructed g intra scale f (p .pairs) else forbidden
+coefficients g intra scale f p = elim (p .end) [ Whole ↦ reconstructed g intra scale f (p .pairs) | Dropped ↦ forbidden | Outside ↦ forbidden ]
 
 -- 2.4.2.8, 2.4.3.7: dct_dc_size_.., dct_dc_differential, and dct_zz[0] from them
 unfoldable pub dctDc : ℕ → Prog (Way ℤ)
@@ -53,10 +36,7 @@ dctDc i = do
     differential ← plain (bits size)
     give (dctZZ0 size differential))
 
--- the past of block i: Y for 0 to 3, Cb for 4, Cr for 5
-abbrev pub pastOf : ℕ → Pasts → ℤ
-pastOf i p = if ltb i 4 then p .y else (if eqb i 4 then p .cb else p .cr)
-
+-- the past of block i becomes x: that of Y for 0 to 3, of Cb for 4, of Cr for 5
 abbrev pub pastAs : ℕ → ℤ → Pasts → Pasts
 pastAs i x p = if ltb i 4 then pasts x (p .cb) (p .cr) else (if eqb i 4 then pasts (p .y) x (p .cr) else pasts (p .y) (p .cb) x)
 
@@ -64,14 +44,9 @@ pastAs i x p = if ltb i 4 then pasts x (p .cb) (p .cr) else (if eqb i 4 then pas
 abbrev pub far : ℤ → Variables → Bool
 far address v = ltZ (pos 1) (address -ℤ v .«past_intra_address»)
 
--- 2.4.4.1: what is added to dct_zz[0] * 8. For block 0, for Cb and for Cr it is 128 * 8 where the last intra macroblock is far, else the past; for blocks 1
--- to 3 it is dct_dc_y_past
+-- 2.4.4.1: what is added to dct_zz[0] * 8: the past of block i, but 128 * 8 for block 0, for Cb and for Cr where the last intra macroblock is far
 abbrev pub dcPredictor : Bool → ℕ → Pasts → ℤ
-dcPredictor isFar i p = if (eqb i 0 || ltb 3 i) && isFar then pos 1024 else pastOf i p
-
--- Annex A: the transform takes 12 bits
-abbrev pub inTwelveBits : ℤ → Bool
-inTwelveBits x = leZ (negℤ (pos 2048)) x && leZ x (pos 2047)
+dcPredictor isFar i p = if (eqb i 0 || ltb 3 i) && isFar then pos 1024 else (if ltb i 4 then p .y else (if eqb i 4 then p .cb else p .cr))
 
 -- pasts and pels behind some blocks
 pub record Blocks : Type 0 where
@@ -88,12 +63,12 @@ written g intra i address f l =
     let x = g .rules .transform (f .recon) in
     putMid start size l (if intra then overwrite before (blockPlace m i) (blockWidth m i) x else addBlock before (blockPlace m i) (blockWidth m i) x)
 
--- 2.4.4.1: dct_dc_.._past = dct_recon[0][0]
+-- 2.4.4.1: dct_dc_.._past = dct_recon[0][0], in the 12 bits that the transform takes (Annex A)
 unfoldable pub intraBlock : Coding → Bool → ℕ → ℕ → ℕ → Blocks → Prog (Way Blocks)
 intraBlock g isFar scale address i b = do
   zz ← dctDc i
   let recon = dcPredictor isFar i (b .past) +ℤ pos 8 *ℤ zz
-  shall (inTwelveBits recon)
+  shall (leZ (negℤ (pos 2048)) recon && leZ recon (pos 2047))
   p ← plain (pairs 1)
   f ← step (coefficients g true scale (record { recon = set (replicate 64 (pos 0)) 0 recon; n = 1 }) p)
   give (record { past = pastAs i recon (b .past); pels = written g true i address f (b .pels) })

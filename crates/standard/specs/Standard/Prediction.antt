@@ -1,39 +1,51 @@
--- 2.4.4.2, 2.4.4.3: the prediction of a macroblock. The forward reference is the store `fwd`, the backward one `bwd`, the picture itself `cur`.
-use mathlib.Core.Bool.{Bool, true, false, not, _&&_}
-use mathlib.Core.List.{List}
-use Prim.Native.Nat.{ℕ, _+_, _*_}
-use borrow.Rule.Slice.PartMut.{midOf, putMid}
-use lib.Dec.{eqb, ltb, leb}
-use lib.IntN.{ℤ, pos, _+ℤ_}
-use lib.ListN.{getD}
-use lib.Signed.{leZ}
+-- 2.4.4.2 to 2.4.4.4: vectors, prediction, skipped macroblocks. The forward reference is the store `fwd`, the backward one `bwd`, the picture itself `cur`.
 use Rattle.laws.specs.Stores.{storeRows}
-use Rattle.bits.specs.Programs.{if_then_else_}
-use Rattle.prediction.specs.declared.place.Macroblock.{Macroblock}
-use Rattle.prediction.specs.declared.place.Place.{Place}
-use Rattle.prediction.specs.declared.planes.Plane.{Plane}
+use Rattle.motion.specs.Standard.{standardVector}
+use Rattle.prediction.specs.{declared.place.Macroblock.Macroblock, declared.place.Place.Place, declared.planes.Plane.Plane}
 use Rattle.prediction.specs.declared.planes.Plane.the-variants.{Y, Cr, Cb}
-use Rattle.prediction.specs.Predict.{macroblockAt, blockOf, width, height, bytes, address, inHalves}
-use Rattle.prediction.specs.Planes.{blockSize, macroblocks, planeStart}
-use Rattle.prediction.specs.Standard.{whole, half, chrominance, pel, bothWays}
-use Rattle.picture.specs.Ways.{Way, on, also}
-use Rattle.standard.specs.Standard.Shall.{forbidden}
-use Rattle.standard.specs.Standard.State.{Vector, Direction, Coding}
-use Rattle.standard.specs.Standard.Types.{«macroblock_motion_forward», «macroblock_motion_backward»}
+use Rattle.prediction.specs.Predict.{blockOf, width, height, bytes, address, inHalves}
+use Rattle.prediction.specs.{Planes.blockSize, Planes.macroblocks, Standard.whole, Standard.half, Standard.chrominance, Standard.pel, Standard.bothWays}
+use Rattle.standard.specs.Standard.Words.{Bool, true, false, not, _&&_, _||_, List, ℕ, zero, suc, _+_, _-_, _*_, eqb, ltb, leb, ℤ, pos, natAbs}
+use Rattle.standard.specs.Standard.Words.{_+ℤ_, getD, leZ, midOf, putMid, Prog, if_then_else_, macroblockAt, planeStart, Way, on, also}
+use Rattle.standard.specs.Standard.Words.{plain, give, _>>=_, _>>_, forbidden}
+use Rattle.standard.specs.Standard.State.{Vector, zero-vector, Direction, Coding, Variables}
+use Rattle.standard.specs.Standard.State.{«macroblock_motion_forward», «macroblock_motion_backward», «macroblock_intra»}
+
+-- recon_.._for_prev is 0 for the first macroblock of a slice. 2.4.4.2 (P): and where the last one, of the type t, had no vector, being skipped or without
+-- macroblock_motion_forward. 2.4.4.3 (B): and where the last one was intra
+abbrev pub forStart : Coding → Bool → ℕ → Variables → Vector
+forStart g first t v =
+    if first || (if eqb (g .given .type) 2 then not («macroblock_motion_forward» t) else «macroblock_intra» t) then zero-vector else v .forPrev
+
+-- 2.4.4.3 (B): the same of recon_.._back_prev; other pictures have no backward vectors
+abbrev pub backStart : Coding → Bool → ℕ → Variables → Vector
+backStart g first t v = if first || not (eqb (g .given .type) 3) || «macroblock_intra» t then zero-vector else v .backPrev
+
+-- 2.4.2.7, 2.4.4.2: motion_horizontal_.., then motion_vertical_.., each with its residual
+unfoldable pub vector : Direction → Vector → Prog (Way Vector)
+vector d prev = do
+  right ← plain (standardVector (d .«r_size») (prev .right))
+  down ← plain (standardVector (d .«r_size») (prev .down))
+  give (record { right = right; down = down })
+
+-- 2.4.4.2: without data the vector is 0 in a P picture. 2.4.4.3: in a B picture it is the one before
+unfoldable pub forVector : Coding → ℕ → Vector → Prog (Way Vector)
+forVector g t prev =
+    if «macroblock_motion_forward» t then vector (g .forward) prev else (if eqb (g .given .type) 2 then give zero-vector else give prev)
+
+unfoldable pub backVector : Coding → ℕ → Vector → Prog (Way Vector)
+backVector g t prev = if «macroblock_motion_backward» t then vector (g .backward) prev else give prev
 
 -- the n samples at `from`, moved by a component in half samples, are among the first `size`
 abbrev pub inside : ℕ → ℕ → ℤ → ℕ → Bool
 inside from n recon size =
     leZ (pos 0) (pos from +ℤ whole recon) && leZ (pos from +ℤ whole recon +ℤ pos n +ℤ half recon) (pos size)
 
--- a place in a picture of at most 256 macroblocks a side
-abbrev pub isPlace : Place → Bool
-isPlace p = ltb (p .row) (p .down) && ltb (p .column) (p .across) && leb (p .across) 256 && leb (p .down) 256
-
--- 2.4.3.6: no reference outside the picture
+-- 2.4.3.6: no reference outside the picture, which has at most 256 macroblocks a side
 abbrev pub inPicture : Place → ℤ → ℤ → Bool
 inPicture p right down =
-    isPlace p && inside (p .row * p .size) (p .size) down (height p) && inside (p .column * p .size) (p .size) right (width p)
+    ltb (p .row) (p .down) && ltb (p .column) (p .across) && leb (p .across) 256 && leb (p .down) 256
+    && inside (p .row * p .size) (p .size) down (height p) && inside (p .column * p .size) (p .size) right (width p)
 
 -- pel[i][j] of a block of the plane d, from the plane s; 2.4.4.3: or the average of what is there and this
 abbrev pub pels : Place → List ℕ → List ℕ → ℤ → ℤ → Bool → List ℕ
@@ -62,11 +74,29 @@ predictedFrom g address k d x average l =
 -- 2.4.4.3 (B): by macroblock_motion_forward and macroblock_motion_backward. 2.4.4.2 (P): forward, by the vector 0 where there is none
 unfoldable pub predicted : Coding → ℕ → ℕ → Vector → Vector → List ℕ → Way (List ℕ)
 predicted g t address for back l =
-    let past = g .given .stores .fwd in
-    let future = g .given .stores .bwd in
-    if not (eqb (g .given .type) 3) then predictedFrom g address past (g .forward) for false l
-    else (if «macroblock_motion_forward» t && «macroblock_motion_backward» t then
-    also (predictedFrom g address past (g .forward) for false l) (predictedFrom g address future (g .backward) back true)
-    else (if «macroblock_motion_forward» t then predictedFrom g address past (g .forward) for false l
-    else (if «macroblock_motion_backward» t then predictedFrom g address future (g .backward) back false l
-    else forbidden)))
+    let forward = predictedFrom g address (g .given .stores .fwd) (g .forward) for false l in
+    let backward = predictedFrom g address (g .given .stores .bwd) (g .backward) back in
+    if not (eqb (g .given .type) 3) then forward
+    else (if «macroblock_motion_forward» t && «macroblock_motion_backward» t then also forward (backward true)
+    else (if «macroblock_motion_forward» t then forward
+    else (if «macroblock_motion_backward» t then backward false l else forbidden)))
+
+-- 2.4.4.4: n macroblocks from this address on, all of the type t and with these vectors
+unfoldable pub skippedFrom : Coding → ℕ → Vector → Vector → ℕ → ℕ → List ℕ → Way (List ℕ)
+skippedFrom g t for back address zero l = on l
+skippedFrom g t for back address (suc n) l = also (predicted g t address for back l) (skippedFrom g t for back (address + 1) n)
+
+-- 2.4.4.4: the pels with n - 1 macroblocks skipped. P: by the vector 0. B: type and vectors are those of the macroblock before. None is skipped before
+-- the first macroblock of a slice, where an increment says where the slice begins (2.4.3.6), in an I picture, or in a B picture behind an intra macroblock
+unfoldable pub skipped : Coding → Bool → ℕ → Variables → Way (List ℕ)
+skipped g first n v =
+    let from = natAbs (v .«previous_macroblock_address» +ℤ pos 1) in
+    let t = v .«macroblock_type» in
+    if first || ltb n 2 then on (v .pels)
+    else (if eqb (g .given .type) 2 then skippedFrom g 0 zero-vector zero-vector from (n - 1) (v .pels)
+    else (if eqb (g .given .type) 3 && not («macroblock_intra» t) then skippedFrom g t (v .forPrev) (v .backPrev) from (n - 1) (v .pels)
+    else forbidden))
+
+-- 2.4.4.4: macroblock_type of the last macroblock decoded: in a P picture a skipped one has no flag
+abbrev pub lastType : Coding → Bool → ℕ → Variables → ℕ
+lastType g first n v = if not first && ltb 1 n && eqb (g .given .type) 2 then 0 else v .«macroblock_type»

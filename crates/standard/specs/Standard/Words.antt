@@ -1,11 +1,14 @@
--- Programs that follow the standard's text: what a stream shall be, and reads that the stream has bits for.
-use mathlib.Core.Bool.{Bool, true, false}
-use Prim.Native.Nat.{ℕ}
-use mathlib.Core.List.{[]}
-use lib.Dec.{eqb}
-use Rattle.laws.specs.Turns.{Turn, again, stop}
-use Rattle.bits.specs.Programs.{Prog, done, look, skip, loop, many, if_then_else_}
-use Rattle.picture.specs.Ways.{Way, on, out, give}
+-- What the text is written in: tests, numbers, lists and programs over reads of the other crates; and what a stream shall be.
+pub use mathlib.Core.{Bool.Bool, Bool.true, Bool.false, Bool.not, Bool._&&_, Bool._||_, List.List, List.[], List._∷_}
+pub use Prim.Native.Nat.{ℕ, zero, suc, _+_, _-_, _*_, _^_}
+pub use borrow.Rule.Slice.PartMut.{midOf, putMid}
+pub use lib.IntN.{ℤ, pos, negsuc, negℤ, natAbs, _+ℤ_, _-ℤ_, _*ℤ_}
+pub use lib.{Dec.eqb, Dec.ltb, Dec.leb, ListN.getD, ListN.set, ListN.replicate, Signed.ltZ, Signed.leZ}
+pub use Rattle.laws.specs.Turns.{Turn, again, stop}
+pub use Rattle.bits.specs.Programs.{Prog, done, look, skip, bind, bits, nextStartCode, loop, many, eqZ, if_then_else_}
+pub use Rattle.prediction.specs.{Predict.macroblockAt, Planes.planeStart}
+pub use Rattle.picture.specs.Ways.{Way, on, out, also, plain, step, give, _>>=_, _>>_}
+pub use Rattle.picture.specs.{State.Given, Heads.flag}
 
 -- the stream breaks a rule that a decoder relies on: nothing more is said of it
 abbrev pub forbidden : {A : Type 0} → Way A
