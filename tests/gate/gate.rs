@@ -32,10 +32,13 @@ pub fn text<'a>(bytes: &'a [u8], at: &mut usize) -> &'a [u8] {
     &bytes[*at - length..*at]
 }
 
-// The streams of a file, with their names.
-pub fn streams(bytes: &[u8]) -> Vec<(String, Vec<u8>)> {
-    let mut at = 4;
-    (0..number(bytes, 0)).map(|_| (String::from_utf8_lossy(text(bytes, &mut at)).into_owned(), text(bytes, &mut at).to_vec())).collect()
+// What a file begins with, and the names and texts of its cases.
+pub fn cases(bytes: &[u8]) -> (Vec<u8>, Vec<(String, Vec<u8>)>) {
+    let mut at = 0;
+    let first = text(bytes, &mut at).to_vec();
+    let count = number(bytes, at);
+    at += 4;
+    (first, (0..count).map(|_| (String::from_utf8_lossy(text(bytes, &mut at)).into_owned(), text(bytes, &mut at).to_vec())).collect())
 }
 
 fn main() {

@@ -1,7 +1,7 @@
 // What crates/calls is to print.
 use crate::calls::{convert, decode, open, Answer, Record};
-use crate::records::{read, Case};
-use crate::streams;
+use crate::cases;
+use crate::records::{case, Case};
 use std::fmt::Write;
 
 // The checksum that crates/calls has, too: of numbers below 2^32.
@@ -76,12 +76,12 @@ fn show_case(out: &mut String, stream: &[u8], case: &Case) {
 pub fn answers(streams_file: &[u8], records_file: &[u8]) -> String {
     std::panic::set_hook(Box::new(|_| {}));
     let mut out = String::new();
-    for (name, stream) in streams(streams_file) {
+    for (name, stream) in cases(streams_file).1 {
         show_stream(&mut out, &name, &stream);
     }
-    let (stream, cases) = read(records_file);
-    for case in cases {
-        show_case(&mut out, &stream, &case);
+    let (stream, records) = cases(records_file);
+    for (name, text) in records {
+        show_case(&mut out, &stream, &case(name, &text));
     }
     out
 }

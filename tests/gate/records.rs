@@ -1,8 +1,8 @@
-// The file of records made by hand: the stream that they are used on, the number of cases, and for each its name, six numbers (bytes of the store, store
-// converted, width and height of the output, length of the area, and how often the hand-out is asked for), the numbers of the record and its matrices. A
-// float is a fraction here, numerator and denominator, so that a file can be read without the bits of floats.
+// The file of records made by hand: the stream that they are used on, the number of cases, and for each two texts: its name, and six numbers (bytes of the
+// store, store converted, width and height of the output, length of the area, and how often the hand-out is asked for), the numbers of the record and its
+// matrices. A float is a fraction here, numerator and denominator, so that a file can be read without the bits of floats.
 use crate::calls::{decode, open, Record, FIELDS, NUMBERS};
-use crate::{number, streams, text};
+use crate::{cases, number};
 
 const FLOATS: std::ops::Range<usize> = 27..35;
 
@@ -17,7 +17,7 @@ const SETTINGS: [(&str, u32); 6] = [("store", 13824), ("k", 0), ("w", 37), ("h",
 
 // Each line of `changes` begins with the fields that differ from the record after the third hand-out of the stream 7_chance_0.
 pub fn make(streams_file: &[u8], changes: &str) -> Vec<u8> {
-    let (_, stream) = streams(streams_file).into_iter().find(|(name, _)| name == "7_chance_0").expect("the stream is there");
+    let (_, stream) = cases(streams_file).1.into_iter().find(|(name, _)| name == "7_chance_0").expect("the stream is there");
     let mut store = vec![0; 55296];
     let mut base = open(&stream, &mut store).0;
     for _ in 0..3 {
@@ -50,34 +50,23 @@ fn add(out: &mut Vec<u8>, line: &str, base: &Record) {
             record.numbers[FIELDS.iter().position(|f| *f == field).expect("a field")] = value;
         }
     }
-    out.extend((line.len() as u32).to_be_bytes());
-    out.extend(line.bytes());
-    out.extend(settings.iter().flat_map(|s| s.1.to_be_bytes()));
-    out.extend(record.numbers.iter().flat_map(|n| n.to_be_bytes()));
-    out.extend(record.matrices);
+    let settings = settings.iter().map(|s| s.1);
+    let numbers = settings.chain(record.numbers).flat_map(u32::to_be_bytes).chain(record.matrices).collect::<Vec<u8>>();
+    for text in [line.as_bytes(), &numbers] {
+        out.extend((text.len() as u32).to_be_bytes());
+        out.extend(text);
+    }
 }
 
-// The stream and the cases of a file.
-pub fn read(file: &[u8]) -> (Vec<u8>, Vec<Case>) {
-    let mut at = 0;
-    let stream = text(file, &mut at).to_vec();
-    let count = number(file, at);
-    at += 4;
-    (stream, (0..count).map(|_| case(file, &mut at)).collect())
-}
-
-fn case(file: &[u8], at: &mut usize) -> Case {
-    let name = String::from_utf8_lossy(text(file, at)).into_owned();
-    let settings = std::array::from_fn(|i| number(file, *at + 4 * i) as usize);
-    *at += 24;
-    let mut numbers: [u32; NUMBERS] = std::array::from_fn(|i| number(file, *at + 4 * i));
+// The case of a name and a text.
+pub fn case(name: String, text: &[u8]) -> Case {
+    let settings = std::array::from_fn(|i| number(text, 4 * i) as usize);
+    let mut numbers: [u32; NUMBERS] = std::array::from_fn(|i| number(text, 24 + 4 * i));
     for i in FLOATS.step_by(2) {
         let quotient = numbers[i] as f64 / numbers[i + 1] as f64;
         let bits = if quotient.is_nan() { 0x7ff8_0000_0000_0000 } else { quotient.to_bits() };
         (numbers[i], numbers[i + 1]) = ((bits >> 32) as u32, bits as u32);
     }
-    *at += 4 * NUMBERS;
-    let matrices = file[*at..*at + 128].try_into().unwrap();
-    *at += 128;
+    let matrices = text[24 + 4 * NUMBERS..].try_into().unwrap();
     Case { name, settings, record: Record { numbers, matrices } }
 }

@@ -1,8 +1,8 @@
 #!/usr/bin/env python3
 """Writes the streams that crates/calls runs: streams.py VIDEO.RS FILE. VIDEO.RS is the reference's video.rs, whose code tables are taken.
 Each stream is named after the rules of docs/RULES.md that it is for. Its seed is the CRC of its name, so a stream can come or go without changing the
-others. The file has the number of streams, and for each the length of its name, the name, the length of the stream, the stream; a number is four bytes,
-highest first."""
+others. The file has an empty text, the number of streams, and for each two texts, its name and the stream. A text is its length and its bytes; a number is
+four bytes, highest first."""
 import sys, zlib
 from writer import BAD, COEFF, GOOD, INC, MOTION, PATTERN, SIZE, TYPE, Writer
 
@@ -556,7 +556,7 @@ def number(n):
     return n.to_bytes(4, 'big')
 
 def main():
-    out = [number(len(CASES))]
+    out = [number(0), number(len(CASES))]
     for name, w, h, key, tail, more, function in CASES:
         stream = make(name, w, h, key, tail, dict(more), function)
         assert len(stream) <= 65536

@@ -1,2 +1,4 @@
-pub mod Sums
+pub mod Cases
 pub mod RecordSums
+pub mod Records
+pub mod Sums

@@ -2,6 +2,7 @@
 
 ghost use mathlib.Core.Path.{_≡_};
 ghost use Rattle.calls.specs.RecordSums as R;
+ghost use Rattle.calls.specs.Records.{fraction};
 
 // The bits of a float; there is one NaN.
 pub fn bits(x: f64) -> u64
@@ -13,6 +14,8 @@ pub fn bits(x: f64) -> u64
     9221120237041090560
 }
 
-pub fn fraction(numerator: u32, denominator: u32) -> f64 {
+pub fn fraction(numerator: u32, denominator: u32) -> f64
+    ensures { λ r. ⌜ r ≡ fraction numerator denominator ⌝ }
+{
     numerator as f64 / denominator as f64
 }

@@ -6,7 +6,7 @@ use decoder::record::Clock;
 use decoder::record::Decoder;
 use decoder::record::Sequence;
 use lists::block::block_of;
-use lists::bytes::byte_at;
+use lists::block::matrix_of;
 use lists::bytes::part;
 use lists::numbers::number_at;
 use lists::numbers::signed;
@@ -16,30 +16,31 @@ use picture::state::Picture;
 use picture::state::Sizes;
 use picture::state::Slice;
 use picture::state::Stores;
+ghost use mathlib.Core.Path.{_≡_};
+ghost use Rattle.lists.specs.Numbers.{numberAt};
+ghost use Rattle.calls.specs.Records.{flagAt, integerAt, motionOf, sequenceOf, sliceOf, pictureOf, clockOf, recordOf};
 
-fn size_at(list: &[u8], at: usize) -> usize {
+fn size_at(list: &[u8], at: usize) -> usize
+    ensures { λ r. ⌜ r ≡ numberAt (now (list .entry)) at ⌝ }
+{
     number_at(list, at) as usize
 }
 
-fn flag_at(list: &[u8], at: usize) -> bool {
+fn flag_at(list: &[u8], at: usize) -> bool
+    ensures { λ r. ⌜ r ≡ flagAt (now (list .entry)) at ⌝ }
+{
     number_at(list, at) == 1
 }
 
-fn signed_at(list: &[u8], at: usize) -> i32 {
+fn signed_at(list: &[u8], at: usize) -> i32
+    ensures { λ r. ⌜ r ≡ integerAt (now (list .entry)) at ⌝ }
+{
     signed(number_at(list, at))
 }
 
-fn matrix_of(list: &[u8]) -> [u8; 64] {
-    let mut matrix = [0u8; 64];
-    let mut i: usize = 0;
-    while i < 64 {
-        matrix[i] = byte_at(list, i) as u8;
-        i += 1;
-    }
-    matrix
-}
-
-fn motion_of(list: &[u8]) -> Motion {
+fn motion_of(list: &[u8]) -> Motion
+    ensures { λ r. ⌜ r ≡ motionOf (now (list .entry)) ⌝ }
+{
     let full_px = flag_at(list, 0);
     let is_set = flag_at(list, 4);
     let r_size = number_at(list, 8);
@@ -54,7 +55,9 @@ fn motion_of(list: &[u8]) -> Motion {
     }
 }
 
-fn sequence_of(list: &[u8]) -> Sequence {
+fn sequence_of(list: &[u8]) -> Sequence
+    ensures { λ r. ⌜ r ≡ sequenceOf (now (list .entry)) ⌝ }
+{
     let has_sequence_header = flag_at(list, 4);
     let width = size_at(list, 8);
     let height = size_at(list, 12);
@@ -81,7 +84,9 @@ fn sequence_of(list: &[u8]) -> Sequence {
     }
 }
 
-fn slice_of(list: &[u8]) -> Slice {
+fn slice_of(list: &[u8]) -> Slice
+    ensures { λ r. ⌜ r ≡ sliceOf (now (list .entry)) ⌝ }
+{
     let quantizer_scale = number_at(list, 48);
     let macroblock_address = signed_at(list, 52);
     let motion_forward = motion_of(part(list, 56, 20));
@@ -102,7 +107,9 @@ fn slice_of(list: &[u8]) -> Slice {
     }
 }
 
-fn picture_of(list: &[u8]) -> Picture {
+fn picture_of(list: &[u8]) -> Picture
+    ensures { λ r. ⌜ r ≡ pictureOf (now (list .entry)) ⌝ }
+{
     let picture_type = number_at(list, 28);
     let start_code = signed_at(list, 32);
     let cur = size_at(list, 36);
@@ -118,7 +125,9 @@ fn picture_of(list: &[u8]) -> Picture {
     }
 }
 
-fn clock_of(list: &[u8]) -> Clock {
+fn clock_of(list: &[u8]) -> Clock
+    ensures { λ r. ⌜ r ≡ clockOf (now (list .entry)) ⌝ }
+{
     let framerate = fraction(number_at(list, 108), number_at(list, 112));
     let pixel_aspect_ratio = fraction(number_at(list, 116), number_at(list, 120));
     let time = fraction(number_at(list, 124), number_at(list, 128));
@@ -132,7 +141,9 @@ fn clock_of(list: &[u8]) -> Clock {
 }
 
 // The record that a list holds.
-pub fn record_of(list: &[u8]) -> Decoder {
+pub fn record_of(list: &[u8]) -> Decoder
+    ensures { λ r. ⌜ r ≡ recordOf (now (list .entry)) ⌝ }
+{
     let place = size_at(list, 0);
     let at = BitPosition(place);
     let reader = Reader { at };

@@ -4,12 +4,20 @@ use crate::record_sums::sum_record;
 use crate::sums::sum_bytes;
 use crate::sums::sum_numbers;
 use decoder::answers::Converted;
+use decoder::answers::Handed;
+use decoder::answers::Opened;
+use decoder::answers::Opening;
 use decoder::answers::Outcome;
 use decoder::answers::Shown;
 use decoder::record::Decoder;
 use libc::STDOUT_FILENO;
 use lists::bytes::part;
+ghost use mathlib.Core.Path.{_≡_};
 ghost use Prim.Native.Nat.{_≤_, _<_};
+ghost use Rattle.decoder.specs.Record.{left};
+ghost use Rattle.decoder.specs.Opening.{opening};
+ghost use Rattle.decoder.specs.HandOut.{handOut};
+ghost use Rattle.calls.specs.Cases.{openingNumber, outcomeNumber};
 
 fn show_sum(sum: u64) {
     io::write_all(STDOUT_FILENO, b" ");
@@ -27,7 +35,18 @@ pub fn show_name(name: &[u8]) {
 }
 
 // The number of an answer, 0 where it is no refusal.
-pub fn number_of(outcome: Outcome) -> u32 {
+fn opening_number(opening: Opening) -> u32
+    ensures { λ r. ⌜ r ≡ openingNumber opening ⌝ }
+{
+    match opening {
+        Opening::Ready => 0,
+        Opening::Refused(number) => number,
+    }
+}
+
+pub fn number_of(outcome: Outcome) -> u32
+    ensures { λ r. ⌜ r ≡ outcomeNumber outcome ⌝ }
+{
     match outcome {
         Outcome::Picture(_) => 0,
         Outcome::Refused(number) => number,
@@ -44,9 +63,15 @@ fn show_state(number: u32, decoder: Decoder, store: &[u8]) {
     show_sum(sum_bytes(1, store));
 }
 
-pub fn show_opening(number: u32, decoder: Decoder, store: &[u8]) {
-    show_state(number, decoder, store);
+// An opening, and its line.
+pub fn open(stream: &[u8], store: &mut [u8]) -> Opened
+    ensures { λ r. ⌜ left (r .answer) (r .decoder) (now (store .exit)) ≡ opening (now (stream .entry)) (now (store .entry)) ⌝ }
+{
+    let opened = Decoder::open(stream, store);
+    let answer = opened.answer;
+    show_state(opening_number(answer), opened.decoder, store);
     end_line();
+    opened
 }
 
 // Where store k begins in pictures of n macroblocks.
@@ -111,11 +136,21 @@ fn show_picture(decoder: Decoder, shown: Shown, store: &[u8]) {
 }
 
 // The line of a hand-out.
-pub fn show(decoder: Decoder, outcome: Outcome, store: &[u8]) {
+fn show(decoder: Decoder, outcome: Outcome, store: &[u8]) {
     show_state(number_of(outcome), decoder, store);
     let Outcome::Picture(shown) = outcome else {
         end_line();
         return;
     };
     show_picture(decoder, shown, store);
+}
+
+// A hand-out, and its line.
+pub fn decode(decoder: Decoder, stream: &[u8], store: &mut [u8]) -> Handed
+    ensures { λ r. ⌜ left (r .outcome) (r .decoder) (now (store .exit)) ≡ handOut decoder (now (stream .entry)) (now (store .entry)) ⌝ }
+{
+    let handed = decoder.decode(stream, store);
+    let outcome = handed.outcome;
+    show(handed.decoder, outcome, store);
+    handed
 }

@@ -1,6 +1,5 @@
 // Runs the worked cases, and the reader on the list of the Rust's answers (tests/oracle writes it); says of the list how many cases agree.
 mod lent;
-mod load;
 mod reader_list;
 mod reader_operations;
 mod worked;

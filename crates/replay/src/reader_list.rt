@@ -2,13 +2,14 @@
 //
 // A case is the operation's number (a byte), its argument, the Rust's answer and the place after it in bits (three numbers). Behind a new stream
 // stand its bytes, as many as the argument says; behind a peek the bytes that it gave, one less than the answer.
-use crate::load;
 use crate::reader_operations::Outcome;
 use crate::reader_operations::operate;
 use crate::reader_operations::operation_of;
 use bits::bytes::Part;
 use bits::reader::Reader;
 use lists::bytes::same;
+use lists::load::load;
+use lists::load::space;
 use lists::numbers::number_at;
 use lists::tally::Tally;
 ghost use mathlib.Core.Path.{_≡_};
@@ -194,7 +195,7 @@ pub fn score(list: &[u8]) -> Tally
 pub fn replay() -> Tally
     ensures { λ r. ⌜ Replayed scored r ⌝ }
 {
-    let mut space = load::space();
-    let count = load::load(b"reader.bin", &mut space);
-    score(&space[..count])
+    let mut room = space();
+    let count = load(b"reader.bin", &mut room);
+    score(&room[..count])
 }

@@ -26,11 +26,11 @@ loop-again : tie.Need-loop-again Inv-loop μ-loop
 loop-again c =
     let l = c .before .before .before in
     let e = toZ-ofZ {w = w32} (sfits-of (c .signed .ok)) ∙ c .signed .ensures ∙ ap (toZ w32) (c .before .number-at .ensures) in
-    (omega arith, stored _ (l .loop .i) (l .loop .inv .1) e)
+    (omega arith, stored _ _ (l .loop .i) (l .loop .inv .1) e)
 
 returns : tie.Need-returns Inv-loop μ-loop
 unfolding blockOf
-returns c = let l = c .before in all-stored _ (l .loop .i) (l .loop .inv .1) (l .loop .inv .0) (c .loop-test .left)
+returns c = let l = c .before in all-stored _ _ (l .loop .i) (l .loop .inv .1) (l .loop .inv .0) (c .loop-test .left)
 
 pub block-of-spec : {M : Type 1} → statement M
 block-of-spec =

@@ -5,7 +5,7 @@ use Rattle.replay.proofs.reader_list.replay.Statement.{statement}
 use Rattle.replay.proofs.reader_list.replay.Tie as tie
 
 returns : tie.Need-returns
-returns c = replayed _ (c .score .ensures) (omega (arith, c .before .before .before .load .ensures, c .before .before .space3 .given))
+returns c = replayed _ (c .score .ensures) (omega (arith, c .before .before .before .load .ensures, c .before .before .room2 .given))
 
 pub replay-spec : {M : Type 1} → statement M
 replay-spec =
