@@ -7,6 +7,7 @@ use lib.IntN.{ℤ, pos}
 use lib.ListN.{getD}
 use mir.Syntax.{w32}
 use mir.Val.{ofZ}
+use Rattle.picture.specs.declared.state.Matrices.{Matrices}
 use Rattle.picture.specs.declared.state.Motion.{Motion}
 use Rattle.picture.specs.declared.state.Picture.{Picture}
 use Rattle.picture.specs.declared.state.Slice.{Slice}
@@ -57,9 +58,14 @@ floatSum sum x = summed sum (low (bits x / 4294967296) ∷ low (bits x) ∷ [])
 abbrev pub clockSum : ℕ → Clock → ℕ
 clockSum sum c = floatSum (floatSum (floatSum (floatSum sum (c .framerate)) (c .«pixel_aspect_ratio»)) (c .time)) (c .«last_frame_time»)
 
+abbrev pub matrixSum : ℕ → Matrices → ℕ
+matrixSum sum m = summed (summed sum (m .«intra_quant_matrix»)) (m .«non_intra_quant_matrix»)
+
+-- all but the coefficients and the matrices
+abbrev pub scalarSum : Decoder → ℕ
+scalarSum d =
+    let timed = clockSum (pictureSum (sequenceSum (summed 1 (low (place d) ∷ [])) (d .sequence)) (d .picture)) (d .clock) in
+    summed timed (flag (d .«has_reference_frame») ∷ d .«frames_decoded» ∷ d .stop ∷ [])
+
 unfoldable pub recordSum : Decoder → ℕ
-recordSum d =
-    let scalars = clockSum (pictureSum (sequenceSum (summed 1 (low (place d) ∷ [])) (d .sequence)) (d .picture)) (d .clock) in
-    let ends = summed scalars (flag (d .«has_reference_frame») ∷ d .«frames_decoded» ∷ d .stop ∷ []) in
-    let left = summedBelow ends (signedAt (d .picture .slice .«block_data»)) 64 in
-    summed (summed left (d .sequence .matrices .«intra_quant_matrix»)) (d .sequence .matrices .«non_intra_quant_matrix»)
+recordSum d = matrixSum (summedBelow (scalarSum d) (signedAt (d .picture .slice .«block_data»)) 64) (d .sequence .matrices)

@@ -7,6 +7,7 @@ use decoder::record::Clock;
 use decoder::record::Decoder;
 use decoder::record::Sequence;
 use lists::numbers::held;
+use picture::state::Matrices;
 use picture::state::Motion;
 use picture::state::Picture;
 use picture::state::Slice;
@@ -132,8 +133,9 @@ fn sum_matrix(before: u64, matrix: &[u8; 64]) -> u64
     sum_bytes(before, matrix)
 }
 
-pub fn sum_record(d: Decoder) -> u64
-    ensures { λ r. ⌜ r ≡ R.recordSum d ⌝ }
+// All but the coefficients and the matrices.
+fn sum_scalars(d: Decoder) -> u64
+    ensures { λ r. ⌜ (r ≡ R.scalarSum d) × (r < 4294967311) ⌝ }
 {
     let reader = d.reader;
     let at = reader.at;
@@ -141,14 +143,28 @@ pub fn sum_record(d: Decoder) -> u64
     let sequence = d.sequence;
     let picture = d.picture;
     let clock = d.clock;
-    let scalars = sum_picture(sum_sequence(sum_numbers(1, &place), sequence), picture);
-    let timed = sum_clock(scalars, clock);
+    let sizes = sum_sequence(sum_numbers(1, &place), sequence);
+    let timed = sum_clock(sum_picture(sizes, picture), clock);
     let ends = [flag(d.has_reference_frame), d.frames_decoded, d.stop];
+    sum_numbers(timed, &ends)
+}
+
+fn sum_matrices(before: u64, m: Matrices) -> u64
+    requires { ⌜ before < 4294967311 ⌝ }
+    ensures { λ r. ⌜ r ≡ R.matrixSum before m ⌝ }
+{
+    let intra = m.intra_quant_matrix;
+    let other = m.non_intra_quant_matrix;
+    sum_matrix(sum_matrix(before, &intra), &other)
+}
+
+pub fn sum_record(d: Decoder) -> u64
+    ensures { λ r. ⌜ r ≡ R.recordSum d ⌝ }
+{
+    let picture = d.picture;
     let slice = picture.slice;
     let left = slice.block_data;
-    let numbers = sum_left(sum_numbers(timed, &ends), &left);
+    let sequence = d.sequence;
     let matrices = sequence.matrices;
-    let intra = matrices.intra_quant_matrix;
-    let other = matrices.non_intra_quant_matrix;
-    sum_matrix(sum_matrix(numbers, &intra), &other)
+    sum_matrices(sum_left(sum_scalars(d), &left), matrices)
 }

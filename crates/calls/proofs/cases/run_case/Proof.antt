@@ -13,12 +13,4 @@ slice-aggregate-run c =
 pub run-case-spec : {M : Type 1} → statement M
 run-case-spec =
     tie.close
-    (tie.spec
-    (λ c κs. tt)
-    (λ c κs. tt)
-    (λ c. search needs)
-    (λ c. search needs)
-    slice-aggregate-run
-    (λ c κs. tt)
-    (λ c. tt)
-    (λ c. tt))
+    (tie.spec (λ c κs. tt) (λ c κs. tt) (λ c. search needs) (λ c. search needs) slice-aggregate-run (λ c κs. tt) (λ c. tt) (λ c. tt))

@@ -40,15 +40,5 @@ returns c =
 pub sum-left-spec : {M : Type 1} → statement M
 sum-left-spec =
     tie.close
-    (tie.spec
-    Inv-loop
-    μ-loop
-    loop-holds
-    (λ c. omega arith)
-    (λ c. omega arith)
-    (λ c κs. tt)
-    (λ c κs. c .before .before .before .loop .inv .2)
-    (λ c. omega arith)
-    (λ c. omega arith)
-    loop-again
-    returns)
+    (tie.spec Inv-loop μ-loop loop-holds (λ c. omega arith) (λ c. omega arith) (λ c κs. tt)
+    (λ c κs. c .before .before .before .loop .inv .2) (λ c. omega arith) (λ c. omega arith) loop-again returns)

@@ -1,59 +1,23 @@
-use mathlib.Core.Path.{refl, ap, _∙_}
-use mathlib.Core.List.{[], _∷_}
+use mathlib.Core.Path.{ap, _∙_}
 use Prim.Native.Nat.{ℕ}
-use borrow.Author.Needs.{needs}
-use Rattle.calls.specs.Sums.{summed, summedBelow}
+use Rattle.calls.specs.Sums.{summedBelow}
 use Rattle.calls.specs.RecordSums as R
-use Rattle.calls.proofs.Summing.{_then_}
+use borrow.Author.Needs.{needs}
 use Rattle.calls.proofs.record_sums.sum_record.Statement.{statement}
 use Rattle.calls.proofs.record_sums.sum_record.Tie as tie
 
 returns : tie.Need-returns
 unfolding R.recordSum
 returns c =
-    let i = c .before .before in
-    let l = i .before .before .before .before .before in
-    let e = l .before .before in
-    let f = e .before .before .before .before in
-    let k = f .before in
-    let p = k .before in
-    let q = p .before in
-    let n = q .before in
-    let z = n .before .before .before .before .before in
-    let d = z .before .before .before .args .d in
-    let m = d .sequence .matrices in
-    let left = R.signedAt (d .picture .slice .«block_data») in
-    c .sum-matrix2 .ensures .0
-    ∙ ap (λ (x : ℕ). summed x (m .«non_intra_quant_matrix»))
-    (i .sum-matrix .ensures .0
-    ∙ ap (λ (x : ℕ). summed x (m .«intra_quant_matrix»))
-    (l .sum-left .ensures .0
-    ∙ ap (λ (x : ℕ). summedBelow x left 64)
-    (e .sum-numbers2 .ensures .0
-    ∙ ap (summed (k .sum-clock .result)) (f .flag .ensures then refl)
-    ∙ ap (λ (x : ℕ). summed x (R.flag (d .«has_reference_frame») ∷ d .«frames_decoded» ∷ d .stop ∷ []))
-    (k .sum-clock .ensures .0
-    ∙ ap (λ (x : ℕ). R.clockSum x (d .clock))
-    (p .sum-picture .ensures .0
-    ∙ ap (λ (x : ℕ). R.pictureSum x (d .picture))
-    (q .sum-sequence .ensures .0
-    ∙ ap (λ (x : ℕ). R.sequenceSum x (d .sequence))
-    (n .sum-numbers .ensures .0 ∙ ap (summed 1) (z .size .ensures then refl))))))))
+    let l = c .before in
+    let s = l .before .before in
+    let p = s .before .before .before in
+    let d = p .before .before .before .args .d in
+    c .sum-matrices .ensures
+    ∙ ap (λ (x : ℕ). R.matrixSum x (d .sequence .matrices))
+    (l .sum-left .ensures .0 ∙ ap (λ (x : ℕ). summedBelow x (R.signedAt (d .picture .slice .«block_data»)) 64) (s .sum-scalars .ensures .0))
 
 pub sum-record-spec : {M : Type 1} → statement M
 sum-record-spec =
     tie.close
-    (tie.spec
-    (λ c κs. search needs)
-    (λ c. search needs)
-    (λ c κs. search needs)
-    (λ c κs. search needs)
-    (λ c κs. search needs)
-    (λ c κs. search needs)
-    (λ c κs. search needs)
-    (λ c. search needs)
-    (λ c κs. search needs)
-    (λ c κs. search needs)
-    (λ c κs. search needs)
-    (λ c κs. search needs)
-    returns)
+    (tie.spec (λ c κs. search needs) (λ c κs. search needs) (λ c κs. search needs) returns)

@@ -17,14 +17,6 @@ loop-again c = let l = c .before .before .before in summing-one (l .loop .inv) (
 pub sum-bytes-spec : {M : Type 1} → statement M
 sum-bytes-spec =
     tie.close
-    (tie.spec
-    Inv-loop
-    μ-loop
-    (λ c. summing-none (c .before .pre))
-    (λ c. omega arith)
-    (λ c. omega (arith, c .shared-slice-known2 .given (c .before .before .loop .i)))
-    (λ c κs. c .before .before .loop .inv .small)
-    (λ c. omega arith)
-    (λ c. omega arith)
-    loop-again
-    (λ c. summing-all (c .before .loop .inv) (c .loop-test .left)))
+    (tie.spec Inv-loop μ-loop (λ c. summing-none (c .before .pre)) (λ c. omega arith)
+    (λ c. omega (arith, c .shared-slice-known2 .given (c .before .before .loop .i))) (λ c κs. c .before .before .loop .inv .small)
+    (λ c. omega arith) (λ c. omega arith) loop-again (λ c. summing-all (c .before .loop .inv) (c .loop-test .left)))

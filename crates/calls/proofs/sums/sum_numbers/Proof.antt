@@ -17,14 +17,6 @@ loop-again c = let l = c .before .before .before in summing-one (l .loop .inv) (
 pub sum-numbers-spec : {M : Type 1} → statement M
 sum-numbers-spec =
     tie.close
-    (tie.spec
-    Inv-loop
-    μ-loop
-    (λ c. summing-none (c .before .pre))
-    (λ c. omega arith)
-    (λ c. omega arith)
-    (λ c κs. c .before .before .loop .inv .small)
-    (λ c. omega arith)
-    (λ c. omega arith)
-    loop-again
+    (tie.spec Inv-loop μ-loop (λ c. summing-none (c .before .pre)) (λ c. omega arith) (λ c. omega arith)
+    (λ c κs. c .before .before .loop .inv .small) (λ c. omega arith) (λ c. omega arith) loop-again
     (λ c. summing-all (c .before .loop .inv) (c .loop-test .left)))

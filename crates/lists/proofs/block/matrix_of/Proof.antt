@@ -30,14 +30,5 @@ returns c = let l = c .before in all-stored _ _ (l .loop .i) (l .loop .inv .1) (
 pub matrix-of-spec : {M : Type 1} → statement M
 matrix-of-spec =
     tie.close
-    (tie.spec
-    Inv-loop
-    μ-loop
-    loop-holds
-    (λ c κs. tt)
-    (λ c. omega (arith, c .byte-at .ensures))
-    (λ c. omega arith)
-    (λ c. omega arith)
-    (λ c. omega arith)
-    loop-again
-    returns)
+    (tie.spec Inv-loop μ-loop loop-holds (λ c κs. tt) (λ c. omega (arith, c .byte-at .ensures)) (λ c. omega arith) (λ c. omega arith)
+    (λ c. omega arith) loop-again returns)

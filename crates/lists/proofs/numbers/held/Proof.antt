@@ -33,10 +33,8 @@ returns c =
 pub held-spec : {M : Type 1} → statement M
 held-spec =
     tie.close
-    (tie.spec
-    (λ c. rw (turned c) (record { sfits = c .before .fits .z .sfits }))
+    (tie.spec (λ c. rw (turned c) (record { sfits = c .before .fits .z .sfits }))
     (λ c. rw (turned c, toZ-pos w32 (c .before .fits .z .sfits)) (tt, omega (arith, c .before .fits .z .sfits)))
-    (λ c. rw (turned c, toZ-pos w32 (c .before .fits .z .sfits)) (omega (arith, c .before .fits .z .sfits)))
-    returns
+    (λ c. rw (turned c, toZ-pos w32 (c .before .fits .z .sfits)) (omega (arith, c .before .fits .z .sfits))) returns
     (λ c. rw (itself c) (tt, omega (arith, c .before .fits .z .sfits)))
     (λ c. rw (itself c) (sym (ap (ofZ w32) (sym (toZ-ofZ (c .before .fits .z)) ∙ itself c)))))

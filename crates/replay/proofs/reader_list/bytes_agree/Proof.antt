@@ -41,18 +41,6 @@ returns-2 c =
 pub bytes-agree-spec : {M : Type 1} → statement M
 bytes-agree-spec =
     tie.close
-    (tie.spec
-    (λ c κs. search needs)
-    (λ c. search needs)
-    enum-told
-    (λ c. search needs)
-    (λ c. search needs)
-    (λ c. search needs)
-    (λ c κs. search needs)
-    returns
-    (λ c. omega (arith, inside c))
-    (λ c. omega (arith, inside c))
-    (λ c. omega (arith, inside c))
-    (λ c κs. search needs)
-    returns-2
-    (λ c. simp (ne-eqb _ _ (c .if1 .left))))
+    (tie.spec (λ c κs. search needs) (λ c. search needs) enum-told (λ c. search needs) (λ c. search needs) (λ c. search needs)
+    (λ c κs. search needs) returns (λ c. omega (arith, inside c)) (λ c. omega (arith, inside c)) (λ c. omega (arith, inside c))
+    (λ c κs. search needs) returns-2 (λ c. simp (ne-eqb _ _ (c .if1 .left))))

@@ -53,24 +53,6 @@ returns-5 c =
 pub score-spec : {M : Type 1} → statement M
 score-spec =
     tie.close
-    (tie.spec
-    Inv-loop
-    μ-loop
-    (λ c κs. tt)
-    (λ c κs. tt)
-    returns
-    (λ c κs. tt)
-    returns-2
-    (λ c κs. tt)
-    (λ c. omega arith)
-    returns-3
-    (λ c κs. tt)
-    loop-holds
-    (λ c κs. (omega arith, c .before .loop .inv .inside))
-    (λ c κs. tt)
-    (λ c. omega arith)
-    (λ c. omega arith)
-    loop-again
-    (λ c κs. tt)
-    returns-4
-    returns-5)
+    (tie.spec Inv-loop μ-loop (λ c κs. tt) (λ c κs. tt) returns (λ c κs. tt) returns-2 (λ c κs. tt) (λ c. omega arith) returns-3
+    (λ c κs. tt) loop-holds (λ c κs. (omega arith, c .before .loop .inv .inside)) (λ c κs. tt) (λ c. omega arith) (λ c. omega arith)
+    loop-again (λ c κs. tt) returns-4 returns-5)

@@ -143,75 +143,16 @@ returns-18 c =
 pub operate-spec : {M : Type 1} → statement M
 operate-spec =
     tie.close
-    (tie.spec
-    enum-told
-    (λ c κs. tt)
-    (λ c κs. tt)
-    (λ c. c .match .keys2)
-    (λ c κs. c .before .before .before .pre)
-    (λ c κs. tt)
-    (λ c. c .match .keys3)
-    (λ c κs. c .before .before .before .pre)
-    (λ c κs. tt)
-    (λ c. c .match .keys4)
-    (λ c κs. c .before .before .before .pre .stream)
-    (λ c κs. tt)
-    (λ c. c .match .keys5)
-    (λ c κs. c .before .before .before .pre .stream)
-    (λ c κs. tt)
-    (λ c. c .match .keys6)
-    (λ c κs. c .before .before .before .pre)
-    (λ c κs. tt)
-    (λ c. c .match .keys7)
-    (λ c κs. c .before .before .before .pre .place)
-    (λ c κs. tt)
-    (λ c. c .match .keys8)
-    (λ c κs. tt)
-    (λ c. omega arith)
-    (λ c κs. tt)
-    (λ c. c .match .keys9)
-    (λ c κs. tt)
-    returns
-    (λ c κs. omega arith)
-    (λ c κs. tt)
-    (λ c. c .match .keys10)
-    (λ c κs. tt)
-    returns-2
-    (λ c. omega arith)
-    (λ c κs. c .before .before .before .before .pre)
-    (λ c. omega arith)
-    (λ c κs. tt)
-    (λ c. c .match .keys11)
-    (λ c κs. c .before .before .before .pre)
-    (λ c κs. tt)
-    (λ c. c .match .keys12)
-    (λ c κs. tt)
-    (λ c κs. c .before .before .before .before .pre)
-    (λ c κs. tt)
-    (λ c. c .match .keys13)
-    (λ c κs. tt)
-    (λ c κs. c .before .before .before .before .pre)
-    (λ c κs. tt)
-    (λ c. c .match .keys14)
-    (λ c κs. c .before .before .before .pre)
-    (λ c κs. tt)
-    (λ c. c .match .keys15)
-    (λ c κs. c .before .before .before .pre .stream)
-    (λ c. c .match .keys16)
-    (λ c κs. tt)
-    returns-3
-    returns-4
-    returns-5
-    returns-6
-    returns-7
-    returns-8
-    returns-9
-    returns-10
-    returns-11
-    returns-12
-    returns-13
-    returns-14
-    returns-15
-    returns-16
-    returns-17
-    returns-18)
+    (tie.spec enum-told (λ c κs. tt) (λ c κs. tt) (λ c. c .match .keys2) (λ c κs. c .before .before .before .pre) (λ c κs. tt)
+    (λ c. c .match .keys3) (λ c κs. c .before .before .before .pre) (λ c κs. tt) (λ c. c .match .keys4)
+    (λ c κs. c .before .before .before .pre .stream) (λ c κs. tt) (λ c. c .match .keys5) (λ c κs. c .before .before .before .pre .stream)
+    (λ c κs. tt) (λ c. c .match .keys6) (λ c κs. c .before .before .before .pre) (λ c κs. tt) (λ c. c .match .keys7)
+    (λ c κs. c .before .before .before .pre .place) (λ c κs. tt) (λ c. c .match .keys8) (λ c κs. tt) (λ c. omega arith) (λ c κs. tt)
+    (λ c. c .match .keys9) (λ c κs. tt) returns (λ c κs. omega arith) (λ c κs. tt) (λ c. c .match .keys10) (λ c κs. tt) returns-2
+    (λ c. omega arith) (λ c κs. c .before .before .before .before .pre) (λ c. omega arith) (λ c κs. tt) (λ c. c .match .keys11)
+    (λ c κs. c .before .before .before .pre) (λ c κs. tt) (λ c. c .match .keys12) (λ c κs. tt)
+    (λ c κs. c .before .before .before .before .pre) (λ c κs. tt) (λ c. c .match .keys13) (λ c κs. tt)
+    (λ c κs. c .before .before .before .before .pre) (λ c κs. tt) (λ c. c .match .keys14) (λ c κs. c .before .before .before .pre)
+    (λ c κs. tt) (λ c. c .match .keys15) (λ c κs. c .before .before .before .pre .stream) (λ c. c .match .keys16) (λ c κs. tt) returns-3
+    returns-4 returns-5 returns-6 returns-7 returns-8 returns-9 returns-10 returns-11 returns-12 returns-13 returns-14 returns-15 returns-16
+    returns-17 returns-18)

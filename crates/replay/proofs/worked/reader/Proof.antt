@@ -25,12 +25,4 @@ returns c =
 pub reader-spec : {M : Type 1} → statement M
 reader-spec =
     tie.close
-    (tie.spec
-    (λ c κs. tt)
-    (λ c. refl)
-    (λ c κs. omega arith)
-    (λ c. refl)
-    (λ c κs. omega arith)
-    (λ c. refl)
-    (λ c κs. omega arith)
-    returns)
+    (tie.spec (λ c κs. tt) (λ c. refl) (λ c κs. omega arith) (λ c. refl) (λ c κs. omega arith) (λ c. refl) (λ c κs. omega arith) returns)
