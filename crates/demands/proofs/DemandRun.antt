@@ -1,13 +1,12 @@
 -- RULES D2.5, R.1 to R.3: of the calls that follow an opening, whatever it answered. By their contracts the calls gave r and rs (Calls.antt); a stream is
 -- one of bytes, as every slice that is lent is.
 use mathlib.Core.Path.{_≡_, refl, sym, ap, subst, _∙_}
-use mathlib.Core.Bool.{Bool, true, false}
+use mathlib.Core.Bool.{true, false}
 use mathlib.Core.List.{List, []}
 use Prim.Native.Nat.{ℕ, _+_, _*_, _/_, _≤_, _<_}
 use native.Mathlib.Omega.{arith}
 use lib.Dec.{leb}
 use lib.ListN.{length, getD}
-use borrow.Author.Tests.{leb-true}
 use Rattle.decoder.specs.declared.answers.Opening.{Opening}
 use Rattle.decoder.specs.declared.answers.Opened.{Opened}
 use Rattle.decoder.specs.declared.answers.Outcome.{Outcome}
@@ -20,7 +19,7 @@ use Rattle.decoder.specs.Run.{behind, begin, pictureIn}
 use Rattle.demands.specs.Calls.{Opens, Calls, none, and-then, handOutNumber, picturesIn, AllSeven, StaySeven}
 use Rattle.demands.proofs.Waiting.{fresh-waits}
 use Rattle.demands.proofs.RunCall.{Between, Resting, waits-possible, stuck-call, call-on, few, admitted}
-use Rattle.demands.proofs.Run.{opening-begins, long-call, long-begin}
+use Rattle.demands.proofs.Run.{by-length, opening-begins, long-call, long-begin}
 
 module _ (s : List ℕ) (short : length s ≤ 16777216) (bytes : (k : ℕ) → getD s k 0 < 256) where
   calls-on : {x : Going} {n : ℕ} {rs : List Handed} {y : Going} → Between s x n → Calls s x rs y → Between s y (n + picturesIn rs)
@@ -66,25 +65,18 @@ module _ (s l : List ℕ) (r : Opened) (m : List ℕ) (gave : Opens s l r m) (by
   start : length s ≤ 16777216 → Between s (going (r .decoder) m) 0
   start h = subst (λ (x : Going). Between s x 0) (sym opened) (opening-begins s h bytes l)
 
-  by-length : (P : Type 0) → (length s ≤ 16777216 → P) → (leb (length s) 16777216 ≡ false → P) → P
-  by-length P f g = go (leb (length s) 16777216) refl
-    where
-      go : (b : Bool) → leb (length s) 16777216 ≡ b → P
-      go true e = f (leb-true (length s) 16777216 e)
-      go false e = g e
-
   -- R.1
   pub run-few : picturesIn rs ≤ 8 * length s / 29 + 1
   run-few =
-      by-length (picturesIn rs ≤ 8 * length s / 29 + 1) (λ h. omega (arith, few s h bytes (calls-on s h bytes (start h) calls)))
+      by-length s (picturesIn rs ≤ 8 * length s / 29 + 1) (λ h. omega (arith, few s h bytes (calls-on s h bytes (start h) calls)))
       (λ h. omega (arith, long-run s h calls .0))
 
   -- R.2
   pub run-seven : StaySeven rs
-  run-seven = by-length _ (λ h. stays s h bytes (start h) calls) (λ h. long-run s h calls .1)
+  run-seven = by-length s _ (λ h. stays s h bytes (start h) calls) (λ h. long-run s h calls .1)
 
   -- R.3
   pub run-possible : possible (y .decoder) ≡ true
   run-possible =
-      by-length _ (λ h. admitted s h bytes (calls-on s h bytes (start h) calls))
+      by-length s _ (λ h. admitted s h bytes (calls-on s h bytes (start h) calls))
       (λ h. ap possible (long-run s h calls .2 ∙ ap (λ (x : Going). x .decoder) (opened ∙ long-begin s l h)) ∙ waits-possible [] (omega arith) (fresh-waits []))

@@ -2,27 +2,23 @@
 -- one that waits at the end, which is shown only if it is flushed. Assumed: the stream is one of bytes, and each picture that is read is decoded
 -- (RULES 8.4).
 use mathlib.Core.Path.{_≡_, refl, sym, ap, ap₂, subst, _∙_}
-use mathlib.Core.Bool.{Bool, true, false}
+use mathlib.Core.Bool.{false}
 use mathlib.Core.List.{List, [], _++_, append-assoc, append-nil}
 use mathlib.Core.Logic.{_⊎_, inl, inr}
 use Prim.Native.Nat.{ℕ, _≤_, _<_}
 use lib.Dec.{leb}
 use lib.ListN.{length, getD}
-use borrow.Author.Tests.{leb-true}
-use Rattle.laws.proofs.Tests.{by-case}
 use Rattle.decoder.specs.declared.answers.Opening.{Opening}
 use Rattle.decoder.specs.declared.answers.Opened.{Opened}
 use Rattle.decoder.specs.declared.answers.Outcome.{Outcome}
-use Rattle.decoder.specs.Record.{Left, left, fresh, storeBytes}
-use Rattle.decoder.specs.Headers.{Asked, refused, passed, askHeader, askStore}
-use Rattle.decoder.specs.Opening.{opened, openingFrom, opening}
+use Rattle.decoder.specs.Record.{Left, left}
+use Rattle.decoder.specs.Opening.{opening}
 use Rattle.decoder.specs.Turns.{Going, going}
 use Rattle.decoder.specs.Run.{behind}
 use Rattle.demands.specs.Calls.{Opens}
 use Rattle.demands.specs.Display.{Coded, displayed, waiting, displayOrder, AllDecoded, handOutReads, shownBy, Shows, none, and-then}
-use Rattle.demands.proofs.Waiting.{fresh-waits, Accepts, header-accepts}
 use Rattle.demands.proofs.RunCall.{accepted-keeps}
-use Rattle.demands.proofs.Run.{long-call}
+use Rattle.demands.proofs.Run.{by-length, opening-leaves, long-call}
 use Rattle.demands.proofs.Display.{waiting-on, displayed-on, decoded-first, decoded-rest}
 use Rattle.demands.proofs.DisplayTurn.{none-held}
 use Rattle.demands.proofs.DisplayCall.{Over, Phase, no-header, under-way, CallShows, over-call, call-shows}
@@ -78,18 +74,9 @@ module _ (s : List ℕ) (short : length s ≤ 16777216) (bytes : (k : ℕ) → g
   abbrev Begins : Left Opening → Type 0
   Begins r = Phase s (going (r .decoder) (r .store)) []
 
-  asked-begins : (l : List ℕ) (a : Asked) → Accepts s a → Begins (opened l (askStore fresh l a))
-  unfolding opened askStore
-  asked-begins l (refused n x) h = no-header h refl
-  asked-begins l (passed x) h =
-      by-case (λ a. Begins (opened l a)) (leb (storeBytes x) (length l)) (λ e. under-way (accepted-keeps s short l h e) (none-held (h .held)))
-      (λ e. no-header (fresh-waits s) refl)
-
   opening-begins : (l : List ℕ) → Begins (opening s l)
-  unfolding opening openingFrom
-  opening-begins l =
-      by-case Begins (leb (length s) 16777216) (λ e. asked-begins l (askHeader s fresh) (header-accepts (fresh-waits s) short))
-      (λ e. no-header (fresh-waits s) refl)
+  opening-begins =
+      opening-leaves s short (λ x. Phase s x []) (λ x l h. no-header h refl) (λ x l h e. under-way (accepted-keeps s short l h e) (none-held (h .held)))
 
 -- ---- a stream that is too long: nothing is read, and nothing shown
 
@@ -109,14 +96,11 @@ module _ (s l : List ℕ) (r : Opened) (m : List ℕ) (gave : Opens s l r m) (by
   -- what is shown is the order of display, or lacks of it only the reference picture that waits at the end
   pub display-order : (ps ++ waiting [] cs ≡ displayOrder cs) ⊎ (ps ≡ displayOrder cs)
   unfolding displayed waiting
-  display-order = go (leb (length s) 16777216) refl
+  display-order =
+      by-length s _
+      (λ h. order (run-shows s h bytes [] (subst (λ (q : Left Opening). Begins s h bytes q) (sym gave) (opening-begins s h bytes l)) calls decoded))
+      (λ h. let n = long-shows s h calls in inr (n .0 ∙ ap displayOrder (sym (n .1))))
     where
       order : InOrder [] ps cs → (ps ++ waiting [] cs ≡ displayOrder cs) ⊎ (ps ≡ displayOrder cs)
       order (inl e) = inl (ap (λ (a : Frames). a ++ waiting [] cs) e)
       order (inr e) = inr e
-
-      go : (b : Bool) → leb (length s) 16777216 ≡ b → (ps ++ waiting [] cs ≡ displayOrder cs) ⊎ (ps ≡ displayOrder cs)
-      go true e =
-          let h = leb-true (length s) 16777216 e in
-          order (run-shows s h bytes [] (subst (λ (q : Left Opening). Begins s h bytes q) (sym gave) (opening-begins s h bytes l)) calls decoded)
-      go false e = let n = long-shows s e calls in inr (n .0 ∙ ap displayOrder (sym (n .1)))

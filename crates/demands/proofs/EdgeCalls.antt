@@ -64,6 +64,18 @@ pictures-number {n} s x k = go (pictureTurn s x) (either (turnAsks s (nextPictur
     go t (inl i) = turn-number s _ _ i
     go (again y) (inr i) = turn-number s _ _ i
 
+-- a number that is neither 3 nor 4
+other : {j n : ℕ} → (n ≡ 3) ⊎ (n ≡ 4) → j ≡ n → (j ≡ 3 → ⊥) → (j ≡ 4 → ⊥) → ⊥
+other {j} {n} w e p q = ⊎-elim (λ (g : n ≡ 3). p (e ∙ g)) (λ (g : n ≡ 4). q (e ∙ g)) w
+
+-- 136 bytes behind the code are enough: the code is there, and so are the bits
+module _ (s : List ℕ) (d : Decoder) (b : ℕ) (unread : eqZ (startCode d) (pos 0xb3) ≡ false) (k : SequenceAt s (place d) b) (f : b + 4 + 136 ≤ length s) where
+  code-there : Q.hasCode s d .yes ≡ false → ⊥
+  code-there z = true≢false (sym (edge-code s d b unread k) ∙ z)
+
+  bits-there : Q.hasBits s d .yes ≡ false → ⊥
+  bits-there z = true≢false (sym (edge-bits s d b unread k ∙ le-leb (b + 4 + 136) (length s) f) ∙ z)
+
 -- ---- open
 
 module _ (s l : List ℕ) (r : Opened) (m : List ℕ) (gave : Opens s l r m) (b : ℕ) (k : SequenceAt s (place fresh) b) where
@@ -80,21 +92,12 @@ module _ (s l : List ℕ) (r : Opened) (m : List ℕ) (gave : Opens s l r m) (b 
   pub open-edge-passes : b + 4 + 136 ≤ length s → (n : ℕ) → r .answer ≡ O.Refused n → (n ≡ 3) ⊎ (n ≡ 4) → ⊥
   open-edge-passes f n e w = go (open-means s l r m gave n e)
     where
-      code : Q.hasCode s fresh .yes ≡ true
-      code = edge-code s fresh b unread k
-
-      bits : Q.hasBits s fresh .yes ≡ true
-      bits = edge-bits s fresh b unread k ∙ le-leb (b + 4 + 136) (length s) f
-
-      clash : {j : ℕ} → j ≡ n → (j ≡ 3 → ⊥) → (j ≡ 4 → ⊥) → ⊥
-      clash e p q = ⊎-elim (λ (g : n ≡ 3). p (e ∙ g)) (λ (g : n ≡ 4). q (e ∙ g)) w
-
       go : IsFirstNo n (openingAsks s l) → ⊥
-      go (this-one e z) = clash e (λ g. omega arith) (λ g. omega arith)
-      go (a-later y (this-one e z)) = true≢false (sym code ∙ z)
-      go (a-later y (a-later u (this-one e z))) = true≢false (sym bits ∙ z)
-      go (a-later y (a-later u (a-later v (this-one e z)))) = clash e (λ g. omega arith) (λ g. omega arith)
-      go (a-later y (a-later u (a-later v (a-later t (this-one e z))))) = clash e (λ g. omega arith) (λ g. omega arith)
+      go (this-one e z) = other w e (λ g. omega arith) (λ g. omega arith)
+      go (a-later y (this-one e z)) = code-there s fresh b unread k f z
+      go (a-later y (a-later u (this-one e z))) = bits-there s fresh b unread k f z
+      go (a-later y (a-later u (a-later v (this-one e z)))) = other w e (λ g. omega arith) (λ g. omega arith)
+      go (a-later y (a-later u (a-later v (a-later t (this-one e z))))) = other w e (λ g. omega arith) (λ g. omega arith)
 
 -- ---- decode, with no header and no start code of one in the record
 
@@ -108,25 +111,16 @@ module _ (d : Decoder) (s l : List ℕ) (r : Handed) (m : List ℕ) (gave : Deco
   decode-edge-passes f n e w =
       go (going (withHeader s d) (cleared (storeBytes (withHeader s d)) l)) (subst (IsFirstNo n) (asks-unheaded d s l none) (decode-means d s l r m gave n e))
     where
-      code : Q.hasCode s d .yes ≡ true
-      code = edge-code s d b no-code k
-
-      bits : Q.hasBits s d .yes ≡ true
-      bits = edge-bits s d b no-code k ∙ le-leb (b + 4 + 136) (length s) f
-
-      clash : {j : ℕ} → j ≡ n → (j ≡ 3 → ⊥) → (j ≡ 4 → ⊥) → ⊥
-      clash e p q = ⊎-elim (λ (g : n ≡ 3). p (e ∙ g)) (λ (g : n ≡ 4). q (e ∙ g)) w
-
       go : (x : Going)
           → IsFirstNo n (Q.isShort s ∷ ask 2 (possible d) ∷ ask (d .stop) (eqb (d .stop) 0) ∷ Q.hasCode s d ∷ Q.hasBits s d ∷ Q.hasSize s d ∷
           Q.hasStore (withHeader s d) l ∷ picturesAsk s x)
           → ⊥
-      go x (this-one e z) = clash e (λ g. omega arith) (λ g. omega arith)
-      go x (a-later y (this-one e z)) = clash e (λ g. omega arith) (λ g. omega arith)
-      go x (a-later y (a-later u (this-one e z))) = let i = begins .mark in clash e (λ g. omega arith) (λ g. omega arith)
-      go x (a-later y (a-later u (a-later v (this-one e z)))) = true≢false (sym code ∙ z)
-      go x (a-later y (a-later u (a-later v (a-later t (this-one e z))))) = true≢false (sym bits ∙ z)
-      go x (a-later y (a-later u (a-later v (a-later t (a-later q (this-one e z)))))) = clash e (λ g. omega arith) (λ g. omega arith)
-      go x (a-later y (a-later u (a-later v (a-later t (a-later q (a-later o (this-one e z))))))) = clash e (λ g. omega arith) (λ g. omega arith)
+      go x (this-one e z) = other w e (λ g. omega arith) (λ g. omega arith)
+      go x (a-later y (this-one e z)) = other w e (λ g. omega arith) (λ g. omega arith)
+      go x (a-later y (a-later u (this-one e z))) = let i = begins .mark in other w e (λ g. omega arith) (λ g. omega arith)
+      go x (a-later y (a-later u (a-later v (this-one e z)))) = code-there s d b no-code k f z
+      go x (a-later y (a-later u (a-later v (a-later t (this-one e z))))) = bits-there s d b no-code k f z
+      go x (a-later y (a-later u (a-later v (a-later t (a-later q (this-one e z)))))) = other w e (λ g. omega arith) (λ g. omega arith)
+      go x (a-later y (a-later u (a-later v (a-later t (a-later q (a-later o (this-one e z))))))) = other w e (λ g. omega arith) (λ g. omega arith)
       go x (a-later y (a-later u (a-later v (a-later t (a-later q (a-later o (a-later p i))))))) =
           let h = pictures-number s x i in ⊎-elim (λ (g : n ≡ 3). omega arith) (λ (g : n ≡ 4). omega arith) w

@@ -9,10 +9,11 @@ use lib.Dec.{leb}
 use lib.ListN.{length, getD}
 use borrow.Author.Tests.{leb-true}
 use Rattle.laws.proofs.Tests.{by-case}
+use Rattle.decoder.specs.declared.record.Decoder.{Decoder}
 use Rattle.decoder.specs.declared.answers.Opening.{Opening}
 use Rattle.decoder.specs.declared.answers.Outcome.{Outcome}
 use Rattle.decoder.specs.declared.answers.Outcome.the-variants as H
-use Rattle.decoder.specs.Record.{Left, left, fresh, storeBytes}
+use Rattle.decoder.specs.Record.{Left, left, fresh, storeBytes, cleared}
 use Rattle.decoder.specs.Possible.{possibleWith}
 use Rattle.decoder.specs.Headers.{Asked, refused, passed, askHeader, askStore}
 use Rattle.decoder.specs.Opening.{opened, openingFrom, opening}
@@ -20,8 +21,34 @@ use Rattle.decoder.specs.Turns.{Going, going}
 use Rattle.decoder.specs.HandOut.{handOut}
 use Rattle.decoder.specs.Run.{call, behind, begin, before, answer, handedOut}
 use Rattle.demands.specs.Calls.{handOutNumber}
-use Rattle.demands.proofs.Waiting.{fresh-waits, Accepts, header-accepts}
+use Rattle.demands.proofs.Waiting.{Waits, Accepted, fresh-waits, Accepts, header-accepts}
 use Rattle.demands.proofs.RunCall.{Between, waiting, live, Resting, accepted-keeps, waits-possible, stuck-call, call-on, few, admitted}
+
+-- RULES Q1: a stream is not too long, or it is
+pub by-length : (s : List ℕ) (P : Type 0) → (length s ≤ 16777216 → P) → (leb (length s) 16777216 ≡ false → P) → P
+by-length s P f g = go (leb (length s) 16777216) refl
+  where
+    go : (b : Bool) → leb (length s) 16777216 ≡ b → P
+    go true e = f (leb-true (length s) 16777216 e)
+    go false e = g e
+
+-- what opening leaves: a record that waits for a header, or one that has accepted it, and its store cleared
+module _ (s : List ℕ) (short : length s ≤ 16777216) (P : Going → Type 0) (waits : (x : Decoder) (l : List ℕ) → Waits s x → P (going x l))
+    (accepts : (x : Decoder) (l : List ℕ) → Accepted s x → leb (storeBytes x) (length l) ≡ true → P (going x (cleared (storeBytes x) l))) where
+  abbrev Leaves : Left Opening → Type 0
+  Leaves r = P (going (r .decoder) (r .store))
+
+  asked-leaves : (l : List ℕ) (a : Asked) → Accepts s a → Leaves (opened l (askStore fresh l a))
+  unfolding opened askStore
+  asked-leaves l (refused n x) h = waits x l h
+  asked-leaves l (passed x) h =
+      by-case (λ a. Leaves (opened l a)) (leb (storeBytes x) (length l)) (λ e. accepts x l h e) (λ e. waits fresh l (fresh-waits s))
+
+  pub opening-leaves : (l : List ℕ) → Leaves (opening s l)
+  unfolding opening openingFrom
+  opening-leaves l =
+      by-case Leaves (leb (length s) 16777216) (λ e. asked-leaves l (askHeader s fresh) (header-accepts (fresh-waits s) short))
+      (λ e. waits fresh l (fresh-waits s))
 
 -- ---- a stream that is not too long
 
@@ -49,22 +76,9 @@ module _ (s : List ℕ) (short : length s ≤ 16777216) (bytes : (k : ℕ) → g
   seven-stays x n (suc k) b h =
       rw (add-suc n k) (seven-again x (suc (n + k)) (rw (suc-add n k) at (rests-on x (suc n) k (call-on s short bytes (run-on b n) .1 h))))
 
-  -- what opening leaves: a header accepted, or a record that waits for one
-  abbrev Begins : Left Opening → Type 0
-  Begins r = Between s (going (r .decoder) (r .store)) 0
-
-  asked-begins : (l : List ℕ) (a : Asked) → Accepts s a → Begins (opened l (askStore fresh l a))
-  unfolding opened askStore
-  asked-begins l (refused n x) h = waiting h refl
-  asked-begins l (passed x) h =
-      by-case (λ a. Begins (opened l a)) (leb (storeBytes x) (length l)) (λ e. live (accepted-keeps s short l h e) (sym (h .count)))
-      (λ e. waiting (fresh-waits s) refl)
-
-  pub opening-begins : (l : List ℕ) → Begins (opening s l)
-  unfolding opening openingFrom
-  opening-begins l =
-      by-case Begins (leb (length s) 16777216) (λ e. asked-begins l (askHeader s fresh) (header-accepts (fresh-waits s) short))
-      (λ e. waiting (fresh-waits s) refl)
+  pub opening-begins : (l : List ℕ) → Between s (going (opening s l .decoder) (opening s l .store)) 0
+  opening-begins =
+      opening-leaves s short (λ x. Between s x 0) (λ x l h. waiting h refl) (λ x l h e. live (accepted-keeps s short l h e) (sym (h .count)))
 
 -- ---- a stream that is too long: every call answers 1 and changes nothing
 
@@ -94,28 +108,21 @@ module _ (s l : List ℕ) (long : leb (length s) 16777216 ≡ false) where
 -- ---- every stream and every store
 
 module _ (s l : List ℕ) (bytes : (k : ℕ) → getD s k 0 < 256) where
-  by-length : (P : Type 0) → (length s ≤ 16777216 → P) → (leb (length s) 16777216 ≡ false → P) → P
-  by-length P f g = go (leb (length s) 16777216) refl
-    where
-      go : (b : Bool) → leb (length s) 16777216 ≡ b → P
-      go true e = f (leb-true (length s) 16777216 e)
-      go false e = g e
-
   -- R.1
   pub few-pictures : (n : ℕ) → handedOut s (begin s l) n ≤ 8 * length s / 29 + 1
   few-pictures n =
-      by-length _ (λ h. few s h bytes (run-on s h bytes (opening-begins s h bytes l) n))
+      by-length s _ (λ h. few s h bytes (run-on s h bytes (opening-begins s h bytes l) n))
       (λ h. omega (arith, long-handed s l h (begin s l) n))
 
   -- R.2
   pub seven-for-good : (n k : ℕ) → answer s (begin s l) n ≡ H.Refused 7 → answer s (begin s l) (n + k) ≡ H.Refused 7
   seven-for-good n k e =
-      by-length _ (λ h. seven-stays s h bytes (begin s l) n k (opening-begins s h bytes l) e)
+      by-length s _ (λ h. seven-stays s h bytes (begin s l) n k (opening-begins s h bytes l) e)
       (λ h. let z : _≡_ {A = ℕ} 1 7 = ap handOutNumber (sym (long-answer s l h (begin s l) n) ∙ e) in let no : ⊥ = omega arith in absurd no)
 
   -- R.3
   pub always-possible : (n : ℕ) → possibleWith s (before s (begin s l) n .decoder) ≡ true
   always-possible n =
-      by-length _ (λ h. admitted s h bytes (run-on s h bytes (opening-begins s h bytes l) n))
+      by-length s _ (λ h. admitted s h bytes (run-on s h bytes (opening-begins s h bytes l) n))
       (λ h. subst (λ (y : Going). possibleWith s (y .decoder) ≡ true) (sym (long-before s l h (begin s l) n ∙ long-begin s l h))
       (waits-possible [] (omega arith) (fresh-waits [])))
