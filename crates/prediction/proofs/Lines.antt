@@ -3,50 +3,47 @@ use mathlib.Core.Path.{_≡_, refl, ap, _∙_}
 use mathlib.Core.List.{List, [], _∷_}
 use mathlib.Core.Logic.{inr}
 use Prim.Native.Nat.{ℕ, _+_, _*_, _-_, _≤_, _<_}
-use native.Mathlib.Nat.{add-zero, mul-le-mul}
+use native.Mathlib.Nat.{mul-le-mul}
 use native.Mathlib.Omega.{arith}
 use lib.ListN.{length, getD, set, length-set}
 use Rattle.laws.specs.Stores.{storeRow, storeRows}
 use Rattle.laws.proofs.Lists.{row-on, row-alike, row-out, length-rows, rows-on, rows-fresh, last-row}
 
--- ---- eight numbers: g makes each of what stood at its place and of the place it is read from
+-- ---- eight numbers, of which f makes each
 
-pub eight-row : (l : List ℕ) (at from : ℕ) (g : ℕ → ℕ → ℕ) {now : List ℕ} {v0 v1 v2 v3 v4 v5 v6 v7 : ℕ}
+pub eight-row : (l : List ℕ) (at : ℕ) (f : ℕ → ℕ) {now : List ℕ} {v0 v1 v2 v3 v4 v5 v6 v7 : ℕ}
     → now ≡ storeRow l at (λ x. getD (v0 ∷ v1 ∷ v2 ∷ v3 ∷ v4 ∷ v5 ∷ v6 ∷ v7 ∷ []) x 0) 8
-    → v0 ≡ g (getD l at 0) from → v1 ≡ g (getD l (at + 1) 0) (from + 1)
-    → v2 ≡ g (getD l (at + 2) 0) (from + 2) → v3 ≡ g (getD l (at + 3) 0) (from + 3)
-    → v4 ≡ g (getD l (at + 4) 0) (from + 4) → v5 ≡ g (getD l (at + 5) 0) (from + 5)
-    → v6 ≡ g (getD l (at + 6) 0) (from + 6) → v7 ≡ g (getD l (at + 7) 0) (from + 7)
-    → now ≡ storeRow l at (λ x. g (getD l (at + x) 0) (from + x)) 8
+    → v0 ≡ f 0 → v1 ≡ f 1 → v2 ≡ f 2 → v3 ≡ f 3 → v4 ≡ f 4 → v5 ≡ f 5 → v6 ≡ f 6 → v7 ≡ f 7
+    → now ≡ storeRow l at f 8
 unfolding storeRow
-eight-row l at from g e e0 e1 e2 e3 e4 e5 e6 e7 = e ∙ rw (e0, e1, e2, e3, e4, e5, e6, e7, add-zero at, add-zero from)
+eight-row l at f e e0 e1 e2 e3 e4 e5 e6 e7 = e ∙ rw (e0, e1, e2, e3, e4, e5, e6, e7)
 
 -- ---- a row of any width, one number at a time
 
--- x numbers of a row of `size` are written; g as above
-pub record Run (d : List ℕ) (at from : ℕ) (g : ℕ → ℕ → ℕ) (size : ℕ) (now : List ℕ) (x : ℕ) : Type 0 where
+-- x numbers of a row of `size` are written; g makes each of what stood at its place, and of its number
+pub record Run (d : List ℕ) (at : ℕ) (g : ℕ → ℕ → ℕ) (size : ℕ) (now : List ℕ) (x : ℕ) : Type 0 where
   pub most : x ≤ size
   pub long : length now ≡ length d
-  pub is : now ≡ storeRow d at (λ i. g (getD d (at + i) 0) (from + i)) x
+  pub is : now ≡ storeRow d at (λ i. g (getD d (at + i) 0) i) x
 
-module _ {d : List ℕ} {at from : ℕ} {g : ℕ → ℕ → ℕ} {size : ℕ} where
-  pub no-run : Run d at from g size d 0
+module _ {d : List ℕ} {at : ℕ} {g : ℕ → ℕ → ℕ} {size : ℕ} where
+  pub no-run : Run d at g size d 0
   unfolding storeRow
   no-run = record { most = omega arith; long = refl; is = refl }
 
   -- the loop's turn: what stood at the place is still there
-  pub run-on : {before : List ℕ} {x v : ℕ} → Run d at from g size before x → x < size
-      → v ≡ g (getD before (at + x) 0) (from + x) → Run d at from g size (set before (at + x) v) (x + 1)
+  pub run-on : {before : List ℕ} {x v : ℕ} → Run d at g size before x → x < size
+      → v ≡ g (getD before (at + x) 0) x → Run d at g size (set before (at + x) v) (x + 1)
   run-on {before} {x} {v} r h e =
-      let old = ap (λ (z : List ℕ). getD z (at + x) 0) (r .is) ∙ row-out d at (λ i. g (getD d (at + i) 0) (from + i)) x (at + x) 0 (inr (omega arith)) in
+      let old = ap (λ (z : List ℕ). getD z (at + x) 0) (r .is) ∙ row-out d at (λ i. g (getD d (at + i) 0) i) x (at + x) 0 (inr (omega arith)) in
       record {
         most = omega arith;
         long = length-set before (at + x) v ∙ r .long;
-        is = row-on d at (λ i. g (getD d (at + i) 0) (from + i)) x (r .is) (e ∙ ap (λ (n : ℕ). g n (from + x)) old);
+        is = row-on d at (λ i. g (getD d (at + i) 0) i) x (r .is) (e ∙ ap (λ (n : ℕ). g n x) old);
       }
 
-  pub run-all : {now : List ℕ} {x : ℕ} → Run d at from g size now x → size ≤ x → now ≡ storeRow d at (λ i. g (getD d (at + i) 0) (from + i)) size
-  run-all {now} {x} r h = let e : x ≡ size = omega arith in r .is ∙ ap (storeRow d at (λ i. g (getD d (at + i) 0) (from + i))) e
+  pub run-all : {now : List ℕ} {x : ℕ} → Run d at g size now x → size ≤ x → now ≡ storeRow d at (λ i. g (getD d (at + i) 0) i) size
+  run-all {now} {x} r h = let e : x ≡ size = omega arith in r .is ∙ ap (storeRow d at (λ i. g (getD d (at + i) 0) i)) e
 
 -- ---- a block by rows
 

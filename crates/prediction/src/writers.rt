@@ -15,12 +15,12 @@ ghost use Rattle.prediction.specs.Predict.{Inside};
 ghost use Rattle.laws.specs.Sizes.{Narrow};
 ghost use Rattle.prediction.specs.Writers.{lumaPlace, chromaPlace, blockWidth, blockPlace, setConst, overwrite, addConst, addBlock};
 
-// A result as a byte.
-fn clamped(s: &[i32; 64], k: usize) -> u8
-    requires { ⌜ k < 64 ⌝ }
-    ensures { λ r. ⌜ r ≡ clamp255 (getD (now (s .entry)) k (pos 0)) ⌝ }
+// The result k of a row of them as a byte.
+fn clamped(s: &[i32; 64], from: usize, k: usize) -> u8
+    requires { ⌜ (from + 8 ≤ 64) × (k < 8) ⌝ }
+    ensures { λ r. ⌜ r ≡ clamp255 (getD (now (s .entry)) (from + k) (pos 0)) ⌝ }
 {
-    clamp_u8(s[k])
+    clamp_u8(s[from + k])
 }
 
 // A byte and a result.
@@ -31,13 +31,22 @@ fn added(old: u8, value: i32) -> u8
     clamp_u8(old as i32 + value)
 }
 
-// A byte and the result k.
-fn added_at(old: u8, s: &[i32; 64], k: usize) -> u8
-    requires { ⌜ k < 64 ⌝ }
-    requires { ⌜ Narrow (now s) ⌝ }
-    ensures { λ r. ⌜ r ≡ clamp255 (pos old +ℤ getD (now (s .entry)) k (pos 0)) ⌝ }
+// The byte k of a row and a result.
+fn added_const(d: &[u8], at: usize, value: i32, k: usize) -> u8
+    requires { ⌜ (at + 8 ≤ length (now d)) × (k < 8) ⌝ }
+    requires { ⌜ natAbs value ≤ 131072 ⌝ }
+    ensures { λ r. ⌜ r ≡ clamp255 (pos (getD (now (d .entry)) (at + k) 0) +ℤ value) ⌝ }
 {
-    added(old, s[k])
+    added(d[at + k], value)
+}
+
+// The byte k of a row and the result k of a row of them.
+fn added_at(d: &[u8], at: usize, s: &[i32; 64], from: usize, k: usize) -> u8
+    requires { ⌜ (at + 8 ≤ length (now d)) × (from + 8 ≤ 64) × (k < 8) ⌝ }
+    requires { ⌜ Narrow (now s) ⌝ }
+    ensures { λ r. ⌜ r ≡ clamp255 (pos (getD (now (d .entry)) (at + k) 0) +ℤ getD (now (s .entry)) (from + k) (pos 0)) ⌝ }
+{
+    added(d[at + k], s[from + k])
 }
 
 fn overwrite_row(d: &mut [u8], at: usize, s: &[i32; 64], from: usize)
@@ -45,15 +54,17 @@ fn overwrite_row(d: &mut [u8], at: usize, s: &[i32; 64], from: usize)
     requires { ⌜ from + 8 ≤ 64 ⌝ }
     ensures { λ _. ⌜ now (d .exit) ≡ storeRow (now (d .entry)) at (λ x. clamp255 (getD (now (s .entry)) (from + x) (pos 0))) 8 ⌝ }
 {
-    let v0 = clamped(s, from);
-    let v1 = clamped(s, from + 1);
-    let v2 = clamped(s, from + 2);
-    let v3 = clamped(s, from + 3);
-    let v4 = clamped(s, from + 4);
-    let v5 = clamped(s, from + 5);
-    let v6 = clamped(s, from + 6);
-    let v7 = clamped(s, from + 7);
-    put_eight(d, at, v0, v1, v2, v3, v4, v5, v6, v7);
+    let v = [
+        clamped(s, from, 0),
+        clamped(s, from, 1),
+        clamped(s, from, 2),
+        clamped(s, from, 3),
+        clamped(s, from, 4),
+        clamped(s, from, 5),
+        clamped(s, from, 6),
+        clamped(s, from, 7),
+    ];
+    put_eight(d, at, &v);
 }
 
 fn add_const_row(d: &mut [u8], at: usize, value: i32)
@@ -61,15 +72,17 @@ fn add_const_row(d: &mut [u8], at: usize, value: i32)
     requires { ⌜ natAbs value ≤ 131072 ⌝ }
     ensures { λ _. ⌜ now (d .exit) ≡ storeRow (now (d .entry)) at (λ x. clamp255 (pos (getD (now (d .entry)) (at + x) 0) +ℤ value)) 8 ⌝ }
 {
-    let v0 = added(d[at], value);
-    let v1 = added(d[at + 1], value);
-    let v2 = added(d[at + 2], value);
-    let v3 = added(d[at + 3], value);
-    let v4 = added(d[at + 4], value);
-    let v5 = added(d[at + 5], value);
-    let v6 = added(d[at + 6], value);
-    let v7 = added(d[at + 7], value);
-    put_eight(d, at, v0, v1, v2, v3, v4, v5, v6, v7);
+    let v = [
+        added_const(d, at, value, 0),
+        added_const(d, at, value, 1),
+        added_const(d, at, value, 2),
+        added_const(d, at, value, 3),
+        added_const(d, at, value, 4),
+        added_const(d, at, value, 5),
+        added_const(d, at, value, 6),
+        added_const(d, at, value, 7),
+    ];
+    put_eight(d, at, &v);
 }
 
 fn add_row(d: &mut [u8], at: usize, s: &[i32; 64], from: usize)
@@ -79,15 +92,17 @@ fn add_row(d: &mut [u8], at: usize, s: &[i32; 64], from: usize)
     ensures { λ _. ⌜ now (d .exit) ≡ storeRow (now (d .entry)) at
         (λ x. clamp255 (pos (getD (now (d .entry)) (at + x) 0) +ℤ getD (now (s .entry)) (from + x) (pos 0))) 8 ⌝ }
 {
-    let v0 = added_at(d[at], s, from);
-    let v1 = added_at(d[at + 1], s, from + 1);
-    let v2 = added_at(d[at + 2], s, from + 2);
-    let v3 = added_at(d[at + 3], s, from + 3);
-    let v4 = added_at(d[at + 4], s, from + 4);
-    let v5 = added_at(d[at + 5], s, from + 5);
-    let v6 = added_at(d[at + 6], s, from + 6);
-    let v7 = added_at(d[at + 7], s, from + 7);
-    put_eight(d, at, v0, v1, v2, v3, v4, v5, v6, v7);
+    let v = [
+        added_at(d, at, s, from, 0),
+        added_at(d, at, s, from, 1),
+        added_at(d, at, s, from, 2),
+        added_at(d, at, s, from, 3),
+        added_at(d, at, s, from, 4),
+        added_at(d, at, s, from, 5),
+        added_at(d, at, s, from, 6),
+        added_at(d, at, s, from, 7),
+    ];
+    put_eight(d, at, &v);
 }
 
 // One byte everywhere: an intra block that has a DC coefficient only.
@@ -96,20 +111,10 @@ pub fn block_set_const(d: &mut [u8], di: usize, dw: usize, value: u8)
     requires { ⌜ di + 7 * dw + 8 ≤ length (now d) ⌝ }
     ensures { λ _. ⌜ now (d .exit) ≡ setConst (now (d .entry)) di dw value ⌝ }
 {
+    let v = [value; 8];
     let mut y: usize = 0;
     while y < 8 {
-        put_eight(
-            d,
-            di + y * dw,
-            value,
-            value,
-            value,
-            value,
-            value,
-            value,
-            value,
-            value,
-        );
+        put_eight(d, di + y * dw, &v);
         y += 1;
     }
 }

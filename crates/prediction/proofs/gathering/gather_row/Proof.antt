@@ -1,5 +1,5 @@
 -- `gathering::gather_row` meets its contract: each turn of the loop writes a byte more of the row.
-use Prim.Native.Nat.{_-_}
+use Prim.Native.Nat.{_+_, _-_}
 use native.Mathlib.Omega.{arith}
 use Rattle.prediction.specs.Samples.{sample}
 use Rattle.prediction.proofs.Lines.{Run, no-run, run-on, run-all}
@@ -7,7 +7,7 @@ use Rattle.prediction.proofs.gathering.gather_row.Statement.{statement}
 use Rattle.prediction.proofs.gathering.gather_row.Tie as tie
 
 abbrev Inv-loop : tie.InvT-loop
-Inv-loop out₀ o s i dw size across down x₀ out x = Run out₀ o i (λ old n. sample s dw across down n) size out x
+Inv-loop out₀ o s i dw size across down x₀ out x = Run out₀ o (λ old n. sample s dw across down (i + n)) size out x
 
 abbrev μ-loop : tie.MeasureT-loop
 μ-loop out₀ o s i dw size across down x₀ out x = size - x

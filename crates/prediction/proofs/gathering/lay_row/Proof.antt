@@ -1,5 +1,5 @@
 -- `gathering::lay_row` meets its contract: each turn of the loop writes a byte more of the row.
-use Prim.Native.Nat.{_-_}
+use Prim.Native.Nat.{_+_, _-_}
 use native.Mathlib.Omega.{arith}
 use lib.ListN.{getD}
 use Rattle.prediction.specs.Samples.{laid}
@@ -8,7 +8,7 @@ use Rattle.prediction.proofs.gathering.lay_row.Statement.{statement}
 use Rattle.prediction.proofs.gathering.lay_row.Tie as tie
 
 abbrev Inv-loop : tie.InvT-loop
-Inv-loop d₀ at block from size interpolate x₀ d x = Run d₀ at from (λ old n. laid interpolate old (getD block n 0)) size d x
+Inv-loop d₀ at block from size interpolate x₀ d x = Run d₀ at (λ old n. laid interpolate old (getD block (from + n) 0)) size d x
 
 abbrev μ-loop : tie.MeasureT-loop
 μ-loop d₀ at block from size interpolate x₀ d x = size - x

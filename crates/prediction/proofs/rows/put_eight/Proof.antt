@@ -1,34 +1,30 @@
--- `rows::put_eight` meets its contract.
-use native.Mathlib.Nat.{add-zero}
+-- `rows::put_eight` meets its contract: each turn of the loop writes a byte more of the row.
+use mathlib.Core.Path.{refl}
+use Prim.Native.Nat.{_-_}
 use native.Mathlib.Omega.{arith}
-use borrow.Author.Needs.{needs}
-use lib.ListN.{length-set}
-use Rattle.laws.specs.Stores.{storeRow}
+use lib.ListN.{getD}
+use Rattle.prediction.proofs.Lines.{Run, no-run, run-on, run-all}
 use Rattle.prediction.proofs.rows.put_eight.Statement.{statement}
 use Rattle.prediction.proofs.rows.put_eight.Tie as tie
 
-returns : tie.Need-returns
-unfolding storeRow
-returns c = rw add-zero
+abbrev Inv-loop : tie.InvT-loop
+Inv-loop d₀ at v x₀ d x = Run d₀ at (λ old n. getD v n 0) 8 d x
+
+abbrev μ-loop : tie.MeasureT-loop
+μ-loop d₀ at v x₀ d x = 8 - x
 
 pub put-eight-spec : {M : Type 1} → statement M
 put-eight-spec =
     tie.close
     (tie.spec
+    Inv-loop
+    μ-loop
+    (λ c. no-run)
     (λ c. omega arith)
     (λ c. omega arith)
-    (λ c. simp length-set (omega arith))
     (λ c. omega arith)
-    (λ c. simp length-set (omega arith))
     (λ c. omega arith)
-    (λ c. simp length-set (omega arith))
     (λ c. omega arith)
-    (λ c. simp length-set (omega arith))
-    (λ c. omega arith)
-    (λ c. simp length-set (omega arith))
-    (λ c. omega arith)
-    (λ c. simp length-set (omega arith))
-    (λ c. omega arith)
-    (λ c. simp length-set (omega arith))
-    (λ c. search needs)
-    returns)
+    (λ c. run-on (c .before .before .loop .inv) (c .before .loop-test .taken) refl)
+    (λ c. c .before .loop .inv .long)
+    (λ c. run-all (c .before .loop .inv) (c .loop-test .left)))

@@ -1,65 +1,52 @@
--- `writers::add_const_row` meets its contract: `returns` is the eight calls and the store, and the other needs are sums that stay inside, and
--- narrow results.
+-- `writers::add_const_row` meets its contract: eight bytes are made and stored.
 use mathlib.Core.Path.{ap, _∙_}
 use Prim.Native.Nat.{_+_}
-use native.Mathlib.Omega.{arith}
 use borrow.Author.Needs.{needs}
 use denote.Ref.{now}
-use lib.IntN.{ℤ, pos, _+ℤ_}
+use lib.IntN.{pos, ℤ, _+ℤ_}
 use lib.ListN.{getD}
+use Rattle.laws.specs.Signed.{clamp255}
+use Rattle.prediction.proofs.Lines.{eight-row}
 use mir.Facts.{toZ-ofZ}
 use mir.Syntax.{w32}
-use Rattle.laws.specs.Signed.{clamp255}
 use Rattle.laws.specs.Stores.{storeRow}
 use Rattle.laws.proofs.Ints.{reread}
-use Rattle.prediction.proofs.Lines.{eight-row}
 use Rattle.prediction.proofs.writers.add_const_row.Statement.{statement}
 use Rattle.prediction.proofs.writers.add_const_row.Tie as tie
 
--- once the row is written: where the eight bytes are known, and the entry
-abbrev known : tie.After-slice-known10 → tie.After-added8
-known c = c .before .before .before .before
-
-abbrev entry : tie.After-added8 → tie.Start
-entry c =
-    c .before .before .before .before .before .before .before .before
-    .before .before .before .before .before .before .before .before .before
+-- where the last of the eight bytes is known
+abbrev last : tie.After-slice-known2 → tie.After-added-const8
+last c = c .before .before .before .before .before
 
 returns : tie.Need-returns
 returns c =
-    let s = entry (known c) in
+    let k8 = last c in
+    let k7 = k8 .before .before in
+    let k6 = k7 .before .before in
+    let k5 = k6 .before .before in
+    let k4 = k5 .before .before in
+    let k3 = k4 .before .before in
+    let k2 = k3 .before .before in
+    let k1 = k2 .before .before in
+    let s = k1 .before .before .before in
     let a = s .args in
-    eight-row (now (a .d)) (a .at) 0 (λ old n. clamp255 (pos old +ℤ reread w32 (a .value))) (c .before .before .put-eight .ensures)
-    (search) (search) (search) (search) (search) (search) (search) (search)
+    eight-row (now (a .d)) (a .at) (λ x. clamp255 (pos (getD (now (a .d)) (a .at + x) 0) +ℤ reread w32 (a .value))) (c .before .before .put-eight .ensures)
+    (k1 .added-const .ensures) (k2 .added-const2 .ensures) (k3 .added-const3 .ensures) (k4 .added-const4 .ensures)
+    (k5 .added-const5 .ensures) (k6 .added-const6 .ensures) (k7 .added-const7 .ensures) (k8 .added-const8 .ensures)
     ∙ ap (λ (z : ℤ). storeRow (now (a .d)) (a .at) (λ x. clamp255 (pos (getD (now (a .d)) (a .at + x) 0) +ℤ z)) 8) (toZ-ofZ (s .fits .value))
 
 pub add-const-row-spec : {M : Type 1} → statement M
 add-const-row-spec =
     tie.close
     (tie.spec
-    (λ c. omega arith)
     (λ c κs. search needs)
-    (λ c. omega arith)
-    (λ c. omega arith)
     (λ c κs. search needs)
-    (λ c. omega arith)
-    (λ c. omega arith)
     (λ c κs. search needs)
-    (λ c. omega arith)
-    (λ c. omega arith)
     (λ c κs. search needs)
-    (λ c. omega arith)
-    (λ c. omega arith)
     (λ c κs. search needs)
-    (λ c. omega arith)
-    (λ c. omega arith)
     (λ c κs. search needs)
-    (λ c. omega arith)
-    (λ c. omega arith)
     (λ c κs. search needs)
-    (λ c. omega arith)
-    (λ c. omega arith)
     (λ c κs. search needs)
-    (λ c κs. omega arith)
-    (λ c. omega arith)
+    (λ c κs. search needs)
+    (λ c. search needs)
     returns)

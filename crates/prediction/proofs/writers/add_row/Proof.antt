@@ -1,6 +1,5 @@
--- `writers::add_row` meets its contract: `returns` is the eight calls and the store, and the other needs are sums that stay inside, and narrow
--- results.
-use native.Mathlib.Omega.{arith}
+-- `writers::add_row` meets its contract: eight bytes are made and stored.
+use Prim.Native.Nat.{_+_}
 use borrow.Author.Needs.{needs}
 use denote.Ref.{now}
 use lib.IntN.{pos, _+ℤ_}
@@ -10,55 +9,43 @@ use Rattle.prediction.proofs.Lines.{eight-row}
 use Rattle.prediction.proofs.writers.add_row.Statement.{statement}
 use Rattle.prediction.proofs.writers.add_row.Tie as tie
 
--- once the row is written: where the eight bytes are known, and the entry
-abbrev known : tie.After-slice-known10 → tie.After-added-at8
-known c = c .before .before .before .before
+-- where the last of the eight bytes is known, and the entry
+abbrev last : tie.After-slice-known2 → tie.After-added-at8
+last c = c .before .before .before .before .before
 
 abbrev entry : tie.After-added-at8 → tie.Start
-entry c =
-    c .before .before .before .before .before .before .before .before
+entry k =
+    k .before .before .before .before .before .before .before .before
     .before .before .before .before .before .before .before .before .before
 
 returns : tie.Need-returns
 returns c =
-    let a = entry (known c) .args in
-    eight-row (now (a .d)) (a .at) (a .from) (λ old n. clamp255 (pos old +ℤ getD (now (a .s)) n (pos 0))) (c .before .before .put-eight .ensures)
-    (search) (search) (search) (search) (search) (search) (search) (search)
+    let k8 = last c in
+    let k7 = k8 .before .before in
+    let k6 = k7 .before .before in
+    let k5 = k6 .before .before in
+    let k4 = k5 .before .before in
+    let k3 = k4 .before .before in
+    let k2 = k3 .before .before in
+    let k1 = k2 .before .before in
+    let a = entry k8 .args in
+    eight-row (now (a .d)) (a .at) (λ x. clamp255 (pos (getD (now (a .d)) (a .at + x) 0) +ℤ getD (now (a .s)) (a .from + x) (pos 0)))
+    (c .before .before .put-eight .ensures)
+    (k1 .added-at .ensures) (k2 .added-at2 .ensures) (k3 .added-at3 .ensures) (k4 .added-at4 .ensures)
+    (k5 .added-at5 .ensures) (k6 .added-at6 .ensures) (k7 .added-at7 .ensures) (k8 .added-at8 .ensures)
 
 pub add-row-spec : {M : Type 1} → statement M
 add-row-spec =
     tie.close
     (tie.spec
-    (λ c. omega arith)
     (λ c κs. search needs)
-    (λ c. omega arith)
-    (λ c. omega arith)
-    (λ c. omega arith)
     (λ c κs. search needs)
-    (λ c. omega arith)
-    (λ c. omega arith)
-    (λ c. omega arith)
     (λ c κs. search needs)
-    (λ c. omega arith)
-    (λ c. omega arith)
-    (λ c. omega arith)
     (λ c κs. search needs)
-    (λ c. omega arith)
-    (λ c. omega arith)
-    (λ c. omega arith)
     (λ c κs. search needs)
-    (λ c. omega arith)
-    (λ c. omega arith)
-    (λ c. omega arith)
     (λ c κs. search needs)
-    (λ c. omega arith)
-    (λ c. omega arith)
-    (λ c. omega arith)
     (λ c κs. search needs)
-    (λ c. omega arith)
-    (λ c. omega arith)
-    (λ c. omega arith)
     (λ c κs. search needs)
-    (λ c κs. omega arith)
-    (λ c. omega arith)
+    (λ c κs. entry (c .before .before) .pre .0)
+    (λ c. search needs)
     returns)
