@@ -24,10 +24,39 @@ use crate::walk::VlcUint;
 use crate::walk::read_vlc;
 use crate::walk::read_vlc_uint;
 use bits::reader::Reader;
+ghost use mathlib.Core.Path.{_≡_};
+ghost use mathlib.Core.List.{map};
+ghost use Prim.Native.Nat.{_-_, _≤_};
+ghost use lib.IntN.{natAbs};
+ghost use lib.ListN.{length, take, drop};
 ghost use Rattle.bits.specs.Runs.{Inside, Reading};
 ghost use Rattle.codes.specs.Lent.{Lent};
+ghost use Rattle.codes.specs.Rule.{Good};
+ghost use Rattle.codes.specs.Walk.{Naturals, vlc};
 ghost use Rattle.codes.specs.Codes.{macroblockAddressIncrement, macroblockTypeIntra, macroblockTypePredictive, macroblockTypeB};
 ghost use Rattle.codes.specs.Codes.{codeBlockPattern, motion, dctSizeLuminance, dctSizeChrominance, dctCoeff};
+
+// A code of a table whose values are natural numbers: the indices begin at `index`, the values at `value`, and `end` is behind them.
+fn read_natural(
+    s: &[u8],
+    reader: Reader,
+    tables: &Tables,
+    index: usize,
+    value: usize,
+    end: usize,
+) -> VlcUint
+    requires { ⌜ Inside (now s) reader ⌝ }
+    requires { ⌜ (index ≤ value) × (value ≤ end) × (end ≤ 1404) ⌝ }
+    requires { ⌜ Good (take (value - index) (drop index (now tables))) ⌝ }
+    requires { ⌜ length (take (end - value) (drop value (now tables))) ≡ length (take (value - index) (drop index (now tables))) ⌝ }
+    requires { ⌜ Naturals (take (end - value) (drop value (now tables))) ⌝ }
+    ensures { λ r. ⌜ Reading
+        (vlc (take (value - index) (drop index (now (tables .entry)))) (map natAbs (take (end - value) (drop value (now (tables .entry))))) 0)
+        (now (s .entry)) reader (r .value) (r .reader) ⌝ }
+{
+    let t = &tables[..];
+    read_vlc_uint(s, reader, &t[index..value], &t[value..end])
+}
 
 // An increment of the macroblock address: 1 to 33, 34 for stuffing, 35 for the escape.
 pub fn read_macroblock_address_increment(s: &[u8], reader: Reader, tables: &Tables) -> VlcUint
@@ -35,12 +64,13 @@ pub fn read_macroblock_address_increment(s: &[u8], reader: Reader, tables: &Tabl
     requires { ⌜ Lent (now tables) ⌝ }
     ensures { λ r. ⌜ Reading macroblockAddressIncrement (now (s .entry)) reader (r .value) (r .reader) ⌝ }
 {
-    let t = &tables[..];
-    read_vlc_uint(
+    read_natural(
         s,
         reader,
-        &t[INCREMENT_INDEX..INCREMENT_VALUE],
-        &t[INCREMENT_VALUE..TYPE_I_INDEX],
+        tables,
+        INCREMENT_INDEX,
+        INCREMENT_VALUE,
+        TYPE_I_INDEX,
     )
 }
 
@@ -50,13 +80,7 @@ pub fn read_macroblock_type_intra(s: &[u8], reader: Reader, tables: &Tables) -> 
     requires { ⌜ Lent (now tables) ⌝ }
     ensures { λ r. ⌜ Reading macroblockTypeIntra (now (s .entry)) reader (r .value) (r .reader) ⌝ }
 {
-    let t = &tables[..];
-    read_vlc_uint(
-        s,
-        reader,
-        &t[TYPE_I_INDEX..TYPE_I_VALUE],
-        &t[TYPE_I_VALUE..TYPE_P_INDEX],
-    )
+    read_natural(s, reader, tables, TYPE_I_INDEX, TYPE_I_VALUE, TYPE_P_INDEX)
 }
 
 // Of a P picture.
@@ -65,13 +89,7 @@ pub fn read_macroblock_type_predictive(s: &[u8], reader: Reader, tables: &Tables
     requires { ⌜ Lent (now tables) ⌝ }
     ensures { λ r. ⌜ Reading macroblockTypePredictive (now (s .entry)) reader (r .value) (r .reader) ⌝ }
 {
-    let t = &tables[..];
-    read_vlc_uint(
-        s,
-        reader,
-        &t[TYPE_P_INDEX..TYPE_P_VALUE],
-        &t[TYPE_P_VALUE..TYPE_B_INDEX],
-    )
+    read_natural(s, reader, tables, TYPE_P_INDEX, TYPE_P_VALUE, TYPE_B_INDEX)
 }
 
 // Of a B picture.
@@ -80,13 +98,7 @@ pub fn read_macroblock_type_b(s: &[u8], reader: Reader, tables: &Tables) -> VlcU
     requires { ⌜ Lent (now tables) ⌝ }
     ensures { λ r. ⌜ Reading macroblockTypeB (now (s .entry)) reader (r .value) (r .reader) ⌝ }
 {
-    let t = &tables[..];
-    read_vlc_uint(
-        s,
-        reader,
-        &t[TYPE_B_INDEX..TYPE_B_VALUE],
-        &t[TYPE_B_VALUE..PATTERN_INDEX],
-    )
+    read_natural(s, reader, tables, TYPE_B_INDEX, TYPE_B_VALUE, PATTERN_INDEX)
 }
 
 // The pattern of coded blocks.
@@ -95,12 +107,13 @@ pub fn read_code_block_pattern(s: &[u8], reader: Reader, tables: &Tables) -> Vlc
     requires { ⌜ Lent (now tables) ⌝ }
     ensures { λ r. ⌜ Reading codeBlockPattern (now (s .entry)) reader (r .value) (r .reader) ⌝ }
 {
-    let t = &tables[..];
-    read_vlc_uint(
+    read_natural(
         s,
         reader,
-        &t[PATTERN_INDEX..PATTERN_VALUE],
-        &t[PATTERN_VALUE..VECTOR_INDEX],
+        tables,
+        PATTERN_INDEX,
+        PATTERN_VALUE,
+        VECTOR_INDEX,
     )
 }
 
@@ -125,12 +138,13 @@ pub fn read_dct_size_luminance(s: &[u8], reader: Reader, tables: &Tables) -> Vlc
     requires { ⌜ Lent (now tables) ⌝ }
     ensures { λ r. ⌜ Reading dctSizeLuminance (now (s .entry)) reader (r .value) (r .reader) ⌝ }
 {
-    let t = &tables[..];
-    read_vlc_uint(
+    read_natural(
         s,
         reader,
-        &t[LUMINANCE_INDEX..LUMINANCE_VALUE],
-        &t[LUMINANCE_VALUE..CHROMINANCE_INDEX],
+        tables,
+        LUMINANCE_INDEX,
+        LUMINANCE_VALUE,
+        CHROMINANCE_INDEX,
     )
 }
 
@@ -140,12 +154,13 @@ pub fn read_dct_size_chrominance(s: &[u8], reader: Reader, tables: &Tables) -> V
     requires { ⌜ Lent (now tables) ⌝ }
     ensures { λ r. ⌜ Reading dctSizeChrominance (now (s .entry)) reader (r .value) (r .reader) ⌝ }
 {
-    let t = &tables[..];
-    read_vlc_uint(
+    read_natural(
         s,
         reader,
-        &t[CHROMINANCE_INDEX..CHROMINANCE_VALUE],
-        &t[CHROMINANCE_VALUE..COEFFICIENT_INDEX],
+        tables,
+        CHROMINANCE_INDEX,
+        CHROMINANCE_VALUE,
+        COEFFICIENT_INDEX,
     )
 }
 
@@ -155,11 +170,12 @@ pub fn read_dct_coeff(s: &[u8], reader: Reader, tables: &Tables) -> VlcUint
     requires { ⌜ Lent (now tables) ⌝ }
     ensures { λ r. ⌜ Reading dctCoeff (now (s .entry)) reader (r .value) (r .reader) ⌝ }
 {
-    let t = &tables[..];
-    read_vlc_uint(
+    read_natural(
         s,
         reader,
-        &t[COEFFICIENT_INDEX..COEFFICIENT_VALUE],
-        &t[COEFFICIENT_VALUE..ORDER],
+        tables,
+        COEFFICIENT_INDEX,
+        COEFFICIENT_VALUE,
+        ORDER,
     )
 }
