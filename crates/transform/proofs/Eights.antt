@@ -1,6 +1,7 @@
 -- Eight numbers by their places.
 use mathlib.Core.Path.{_≡_, refl}
-use Prim.Native.Nat.{ℕ, zero, suc, _^_, _<_}
+use Prim.Native.Nat.{ℕ, zero, suc, _*_, _^_, _≤_, _<_}
+use native.Mathlib.Nat.{mul-le-mul}
 use native.Mathlib.Omega.{arith}
 use borrow.Author.Needs.{sfits-of}
 use lib.Dec.{lit<}
@@ -38,3 +39,7 @@ eight-same f g h =
 -- a field or an element is what was put there
 pub read-back : (z : ℤ) → mag z < 2 ^ 31 → reread w32 z ≡ z
 read-back z h = toZ-ofZ {w = w32} (sfits-of h)
+
+-- no number of a column or a row lies behind its last
+pub before-last : (step : ℕ) {k : ℕ} → k < 8 → k * step ≤ 7 * step
+before-last step {k} h = let r : k ≤ 7 = omega arith in let q : step ≤ step = omega arith in mul-le-mul r q

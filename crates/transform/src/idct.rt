@@ -9,32 +9,32 @@ ghost use lib.ListN.{length};
 ghost use Rattle.laws.specs.Stores.{storeRows};
 ghost use Rattle.codes.specs.Matrices.{Bounded};
 ghost use Rattle.transform.specs.Butterfly.{nth};
-ghost use Rattle.transform.specs.Idct.{lane, columns, rows, idct, dcOnly};
+ghost use Rattle.transform.specs.Idct.{at, lane, columns, rows, idct, dcOnly};
 ghost use Rattle.laws.specs.Sizes.{Narrow};
 ghost use Rattle.transform.specs.Bounds.{Middle};
 
-// The eight numbers from start on, step apart: a column or a row.
+// Number k of the eight from start on, step apart.
+fn entry(block: &[i32; 64], start: usize, step: usize, k: usize) -> i32
+    requires { ⌜ (start + 7 * step < 64) × (k < 8) ⌝ }
+    ensures { λ r. ⌜ r ≡ at (now (block .entry)) (start + k * step) ⌝ }
+{
+    block[start + k * step]
+}
+
+// The eight: a column or a row.
 fn lane(block: &[i32; 64], start: usize, step: usize) -> Eight
     requires { ⌜ start + 7 * step < 64 ⌝ }
     ensures { λ a. ⌜ a ≡ lane (now (block .entry)) start step ⌝ }
 {
-    let v0 = block[start];
-    let v1 = block[start + step];
-    let v2 = block[start + 2 * step];
-    let v3 = block[start + 3 * step];
-    let v4 = block[start + 4 * step];
-    let v5 = block[start + 5 * step];
-    let v6 = block[start + 6 * step];
-    let v7 = block[start + 7 * step];
     Eight {
-        v0,
-        v1,
-        v2,
-        v3,
-        v4,
-        v5,
-        v6,
-        v7,
+        v0: entry(block, start, step, 0),
+        v1: entry(block, start, step, 1),
+        v2: entry(block, start, step, 2),
+        v3: entry(block, start, step, 3),
+        v4: entry(block, start, step, 4),
+        v5: entry(block, start, step, 5),
+        v6: entry(block, start, step, 6),
+        v7: entry(block, start, step, 7),
     }
 }
 
