@@ -14,7 +14,8 @@ use Rattle.decoder.specs.declared.answers.Outcome.{Outcome}
 use Rattle.decoder.specs.declared.answers.Outcome.the-variants.{Refused}
 use Rattle.decoder.specs.Record.{stopAs, Left, left, storeBytes, cleared}
 use Rattle.decoder.specs.Possible.{possibleWith}
-use Rattle.decoder.specs.Headers.{passed, askHeader, askStore}
+use Rattle.bits.specs.Programs.{if_then_else_}
+use Rattle.decoder.specs.Headers.{Asked, passed, askHeader, askStore}
 use Rattle.decoder.specs.Turns.{Going, going, Ended, pictureTurn}
 use Rattle.decoder.specs.HandOut.{pictures, ended, askFirst, begun, goOn, handOut}
 use Rattle.decoder.specs.Asking.{asked}
@@ -84,15 +85,15 @@ module _ (b : Decoder) (t : Turned) (m : List ℕ) {e : Ended} where
 
 -- ---- the questions
 
-module _ (s : List ℕ) (d : Decoder) (l : List ℕ) where
-  -- RULES 8.1
-  pub first-header : d .sequence .«has_sequence_header» ≡ true → askStore d l (passed d) ≡ askFirst s d l
-  unfolding askFirst
-  first-header h = rw h
+-- RULES 8.1
+pub first-none : (s : List ℕ) (d : Decoder) → d .sequence .«has_sequence_header» ≡ false
+    → askHeader s d ≡ (if d .sequence .«has_sequence_header» then passed d else askHeader s d)
+first-none s d h = sym (ap (λ (b : Bool). if b then passed d else askHeader s d) h)
 
-  pub first-none : d .sequence .«has_sequence_header» ≡ false → askStore d l (askHeader s d) ≡ askFirst s d l
+module _ (s : List ℕ) (d : Decoder) (l : List ℕ) where
+  pub first-as : {q : Asked} → q ≡ (if d .sequence .«has_sequence_header» then passed d else askHeader s d) → askStore d l q ≡ askFirst s d l
   unfolding askFirst
-  first-none h = rw h
+  first-as e = ap (askStore d l) e
 
   pub hand-1 : 16777216 < length s → left (Refused 1) d l ≡ handOut d s l
   unfolding handOut

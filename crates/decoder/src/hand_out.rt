@@ -3,7 +3,6 @@ use crate::answers::Handed;
 use crate::answers::Outcome;
 use crate::headers::Asked;
 use crate::headers::ask_header;
-use crate::headers::ask_store;
 use crate::possible::possible_with;
 use crate::record::Decoder;
 use crate::record::clear;
@@ -18,6 +17,7 @@ ghost use Rattle.bits.specs.Programs.{if_then_else_};
 ghost use Rattle.decoder.specs.declared.answers.Outcome.the-variants as Outcomes;
 ghost use Rattle.decoder.specs.Record.{left, storeBytes, cleared};
 ghost use Rattle.decoder.specs.Fit.{Fit};
+ghost use Rattle.decoder.specs.Headers.{passed, askHeader};
 ghost use Rattle.decoder.specs.Asking.{asked};
 ghost use Rattle.decoder.specs.Turns.{going};
 ghost use Rattle.decoder.specs.Turned.{endOf};
@@ -46,24 +46,20 @@ fn pictures(s: &[u8], store: &mut [u8], d: Decoder) -> Turned
     t
 }
 
-// RULES 8.1, Q: the questions 3, 4, 5 while no header is accepted, then 6.
-fn ask_first(s: &[u8], room: usize, d: Decoder) -> Asked
+// RULES 8.1, Q: the questions 3, 4, 5 while no header is accepted.
+fn ask_first(s: &[u8], d: Decoder) -> Asked
     requires { ⌜ Fit d ⌝ }
     requires { ⌜ length (now s) ≤ 16777216 ⌝ }
-    ensures { λ r. ⌜ ((l : List ℕ) → length l ≡ room → asked (r .answer) (r .decoder) ≡ Out.askFirst (now (s .entry)) d l) ⌝ }
-    ensures { λ r. ⌜ (r .answer ≡ 0 → Fit (r .decoder) × (storeBytes (r .decoder) ≤ room)) ⌝ }
+    ensures { λ r. ⌜ asked (r .answer) (r .decoder) ≡ (if d .sequence .«has_sequence_header» then passed d else askHeader (now (s .entry)) d) ⌝ }
+    ensures { λ r. ⌜ Fit (r .decoder) ⌝ }
 {
     if d.sequence.has_sequence_header {
-        return ask_store(
-            d,
-            room,
-            Asked {
-                decoder: d,
-                answer: 0,
-            },
-        );
+        return Asked {
+            decoder: d,
+            answer: 0,
+        };
     }
-    ask_store(d, room, ask_header(s, d))
+    ask_header(s, d)
 }
 
 // RULES O.4: a header that this call has accepted sets the store to 0.
@@ -114,11 +110,14 @@ impl Decoder {
         if mark != 0 {
             return refused(self, mark);
         }
-        let first = ask_first(stream, store.len(), self);
+        let first = ask_first(stream, self);
         let d = first.decoder;
         let answer = first.answer;
         if answer != 0 {
             return refused(d, answer);
+        }
+        if store.len() < store_bytes(d) {
+            return refused(self, 6);
         }
         go_on(stream, store, self, d)
     }

@@ -1,23 +1,19 @@
+use denote.Ref.{now}
 use mathlib.Core.Path.{_∙_}
 use borrow.Author.Needs.{needs}
-use Rattle.decoder.proofs.HandingOut.{first-header, first-none}
+use Rattle.decoder.proofs.HandingOut.{first-none}
 use Rattle.decoder.proofs.hand_out.ask_first.Statement.{statement}
 use Rattle.decoder.proofs.hand_out.ask_first.Tie as tie
 
 returns : tie.Need-returns
-returns c =
-    let i = c .before in
-    let e = c .ask-store .ensures in
-    let a = i .before .before .args in
-    (λ l n. e .is l n ∙ first-header _ (a .d) l (i .if1 .taken), λ z. (e .fit z, e .enough z))
+returns c = (rw (c .if1 .taken), c .before .before .pre .0)
 
 returns-2 : tie.Need-returns-2
 returns-2 c =
-    let h = c .before in
-    let i = h .before in
-    let e = c .ask-store2 .ensures in
+    let i = c .before in
     let a = i .before .before .args in
-    (λ l n. e .is l n ∙ rw (h .ask-header .ensures .0) (first-none _ (a .d) l (i .if1 .left)), λ z. (e .fit z, e .enough z))
+    let e = c .ask-header .ensures in
+    (e .0 ∙ first-none (now (a .s)) (a .d) (i .if1 .left), e .1)
 
 pub ask-first-spec : {M : Type 1} → statement M
-ask-first-spec = tie.close (tie.spec (λ c κs. search needs) returns (λ c κs. search needs) (λ c κs. search needs) returns-2)
+ask-first-spec = tie.close (tie.spec returns (λ c κs. search needs) returns-2)
