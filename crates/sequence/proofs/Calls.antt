@@ -12,6 +12,7 @@ use Rattle.bits.specs.Programs.{many}
 use Rattle.picture.specs.declared.state.Sizes.{Sizes}
 use Rattle.picture.specs.declared.state.Matrices.{Matrices}
 use Rattle.picture.specs.Ways.{on}
+use Rattle.picture.proofs.Possible.{stores-of}
 use Rattle.standard.specs.Standard as S
 use Rattle.standard.proofs.Related.{Rule}
 use Rattle.decoder.specs.declared.record.Decoder.{Decoder}
@@ -32,7 +33,7 @@ use Rattle.sequence.specs.Display.{displayed, allButLast, shown, storeOf
 use Rattle.sequence.proofs.Turns.{Waiting}
 use Rattle.sequence.proofs.Opened.{readied}
 use Rattle.sequence.proofs.Pictures.{inverted, no-pictures}
-use Rattle.sequence.proofs.Stores.{Three, Sound, Waits, sound-behind}
+use Rattle.sequence.proofs.Stores.{Sound, Waits, sound-behind}
 use Rattle.sequence.proofs.Handing.{last-turn, handing, holding}
 
 module _ (s : List ℕ) (long : length s ≤ 16777216) (bytes : (k : ℕ) → getD s k 0 < 256) where
@@ -102,13 +103,5 @@ module _ (rule : Rule) (s l : List ℕ) (bytes : (k : ℕ) → getD s k 0 < 256)
       → Hands (first .sequence .sizes .«mb_size») s (begin s l) (shown (allButLast ds))
   pictures-handed ds h =
       let r = readied s l ready in
-      let three : Three (begins (opening s l .store) .stores) = record {
-        cur = omega arith;
-        fwd = omega arith;
-        bwd = omega arith;
-        cur-bwd = λ e. omega arith;
-        cur-fwd = λ e. omega arith;
-        fwd-bwd = λ e. omega arith;
-      } in
       first-calls s (r .short) bytes rule (first .sequence .sizes) (first .sequence .matrices) (r .starting .1) ds many (begins (opening s l .store))
-      (place first) first (opening s l .store) refl h (r .starting .0) (record { three = three; long = r .keeps .long }) (r .keeps)
+      (place first) first (opening s l .store) refl h (r .starting .0) (record { three = stores-of _ refl; long = r .keeps .long }) (r .keeps)

@@ -12,6 +12,7 @@ use lib.ListN.{length, getD}
 use Rattle.picture.specs.declared.state.Stores.{Stores}
 use Rattle.picture.specs.declared.state.Sizes.{Sizes}
 use Rattle.picture.specs.declared.state.Matrices.{Matrices}
+use Rattle.picture.specs.Possible.{PossibleStores}
 use Rattle.standard.specs.Standard as S
 use Rattle.standard.proofs.Related.{Rule}
 use Rattle.standard.proofs.Agreement.{WayIs}
@@ -20,18 +21,9 @@ use Rattle.sequence.specs.Sequence.{Carried, carried}
 use Rattle.sequence.specs.Display.{storeOf, Holds}
 use Rattle.sequence.proofs.Pictures.{Begun}
 
--- three stores
-pub record Three (t : Stores) : Type 0 where
-  pub cur : t .cur ≤ 2
-  pub fwd : t .fwd ≤ 2
-  pub bwd : t .bwd ≤ 2
-  pub cur-bwd : t .cur ≡ t .bwd → ⊥
-  pub cur-fwd : t .cur ≡ t .fwd → ⊥
-  pub fwd-bwd : t .fwd ≡ t .bwd → ⊥
-
 -- between pictures: three stores, and memory for them
 pub record Sound (n : ℕ) (x : Carried) : Type 0 where
-  pub three : Three (x .stores)
+  pub three : PossibleStores (x .stores)
   pub long : 1152 * n ≤ length (x .pels)
 
 -- the picture w waits: its store is `bwd`, and has its samples
@@ -43,7 +35,7 @@ pub record Waits (n : ℕ) (w : S.Decoded) (x : Carried) : Type 0 where
 abbrev turned : Stores → Stores
 turned t = record { cur = t .fwd; fwd = t .bwd; bwd = t .cur }
 
-three-turned : {t : Stores} → Three t → Three (turned t)
+three-turned : {t : Stores} → PossibleStores t → PossibleStores (turned t)
 three-turned h = record {
   cur = h .fwd;
   fwd = h .bwd;
@@ -82,9 +74,9 @@ module _ (rule : Rule) (s : List ℕ) (z : Sizes) (m : Matrices) (area : z .«mb
   pub sound-behind : Sound n (carried x c)
   sound-behind = record { three = go isB refl; long = omega (arith, h .long, leaves .spared .long) }
     where
-      go : (b : Bool) → isB ≡ b → Three (c .stores)
-      go true e = subst Three (sym (b-stores e)) (h .three)
-      go false e = subst Three (sym (p-stores e)) (three-turned (h .three))
+      go : (b : Bool) → isB ≡ b → PossibleStores (c .stores)
+      go true e = subst PossibleStores (sym (b-stores e)) (h .three)
+      go false e = subst PossibleStores (sym (p-stores e)) (three-turned (h .three))
 
   -- the store `bwd` is not written
   bwd-same : (i : ℕ) → i < N → getD (c .pels) (x .stores .bwd * N + i) 0 ≡ getD (x .pels) (x .stores .bwd * N + i) 0

@@ -159,8 +159,11 @@ module _ (rule : Rule) (g : Given) (f b : S.Direction) (intra : Bool) (scale : �
   coefficients-same : (x : S.Filled) (p : Ended) → Lone x → WayIs (λ y. (p .end ≡ Whole) × Placed x (p .pairs) y) (S.coefficients their intra scale x p)
   coefficients-same x p l = go (p .end)
     where
-      go : (e : BlockEnd) → WayIs (λ y. (e ≡ Whole) × Placed x (p .pairs) y) (elim e [ Whole ↦ S.reconstructed their intra scale x (p .pairs) | Dropped ↦ S.forbidden | Outside ↦ S.forbidden ])
-      go Whole = is-also (S.reconstructed their intra scale x (p .pairs)) (λ y q. (refl, q)) (pairs-same x (p .pairs) l)
+      all : Way S.Filled
+      all = S.reconstructed their intra scale x (p .pairs)
+
+      go : (e : BlockEnd) → WayIs (λ y. (e ≡ Whole) × Placed x (p .pairs) y) (elim e [ Whole ↦ all | Dropped ↦ S.forbidden | Outside ↦ S.forbidden ])
+      go Whole = is-also all (λ y q. (refl, q)) (pairs-same x (p .pairs) l)
       go Dropped = tt
       go Outside = tt
 
@@ -210,34 +213,34 @@ record Component (isFar : Bool) (p : S.Pasts) (o : Own) (x : ℤ) (k i : ℕ) : 
   past : leftOf isFar k (S.pastAs i (pos 8 *ℤ x) p) ≡ eights (ownAs i x o)
   dcs : set (dcsOf o) (O.predictorOf i) x ≡ dcsOf (ownAs i x o)
 
+-- what holds of each of six numbers
+below-six : (P : ℕ → Type 0) → P 0 → P 1 → P 2 → P 3 → P 4 → P 5 → (k : ℕ) → k < 6 → P k
+below-six P a b c d e f zero h = a
+below-six P a b c d e f (suc zero) h = b
+below-six P a b c d e f (suc (suc zero)) h = c
+below-six P a b c d e f (suc (suc (suc zero))) h = d
+below-six P a b c d e f (suc (suc (suc (suc zero)))) h = e
+below-six P a b c d e f (suc (suc (suc (suc (suc zero))))) h = f
+below-six P a b c d e f (suc (suc (suc (suc (suc (suc k)))))) h = let z : ⊥ = omega arith in absurd z
+
 component : (isFar : Bool) (p : S.Pasts) (o : Own) (x : ℤ) (k : ℕ) → k < 6 → leftOf isFar (suc k) p ≡ eights o → Component isFar p o x k (5 - k)
-component isFar p o x zero h e = record { pred = λ j. e j .cr; past = λ j. S.pasts (e j .y) (e j .cb) (pos 8 *ℤ x); dcs = refl }
-component isFar p o x (suc zero) h e = record { pred = λ j. e j .cb; past = λ j. S.pasts (e j .y) (pos 8 *ℤ x) (e j .cr); dcs = refl }
-component isFar p o x (suc (suc zero)) h e = record { pred = λ j. e j .y; past = λ j. S.pasts (pos 8 *ℤ x) (e j .cb) (e j .cr); dcs = refl }
-component isFar p o x (suc (suc (suc zero))) h e = record { pred = λ j. e j .y; past = λ j. S.pasts (pos 8 *ℤ x) (e j .cb) (e j .cr); dcs = refl }
-component isFar p o x (suc (suc (suc (suc zero)))) h e = record { pred = λ j. e j .y; past = λ j. S.pasts (pos 8 *ℤ x) (e j .cb) (e j .cr); dcs = refl }
-component isFar p o x (suc (suc (suc (suc (suc zero))))) h e = record { pred = λ j. e j .y; past = λ j. S.pasts (pos 8 *ℤ x) (e j .cb) (e j .cr); dcs = refl }
-component isFar p o x (suc (suc (suc (suc (suc (suc k)))))) h e = let z : ⊥ = omega arith in absurd z
+component isFar p o x =
+    below-six (λ k. leftOf isFar (suc k) p ≡ eights o → Component isFar p o x k (5 - k))
+    (λ e. record { pred = λ j. e j .cr; past = λ j. S.pasts (e j .y) (e j .cb) (pos 8 *ℤ x); dcs = refl })
+    (λ e. record { pred = λ j. e j .cb; past = λ j. S.pasts (e j .y) (pos 8 *ℤ x) (e j .cr); dcs = refl })
+    (λ e. record { pred = λ j. e j .y; past = λ j. S.pasts (pos 8 *ℤ x) (e j .cb) (e j .cr); dcs = refl })
+    (λ e. record { pred = λ j. e j .y; past = λ j. S.pasts (pos 8 *ℤ x) (e j .cb) (e j .cr); dcs = refl })
+    (λ e. record { pred = λ j. e j .y; past = λ j. S.pasts (pos 8 *ℤ x) (e j .cb) (e j .cr); dcs = refl })
+    (λ e. record { pred = λ j. e j .y; past = λ j. S.pasts (pos 8 *ℤ x) (e j .cb) (e j .cr); dcs = refl })
 
 -- a predictor put in its own place
 kept-dcs : (o : Own) (k : ℕ) → k < 6 → set (dcsOf o) (O.predictorOf (5 - k)) (getD (dcsOf o) (O.predictorOf (5 - k)) (pos 0)) ≡ dcsOf o
-kept-dcs o zero h = refl
-kept-dcs o (suc zero) h = refl
-kept-dcs o (suc (suc zero)) h = refl
-kept-dcs o (suc (suc (suc zero))) h = refl
-kept-dcs o (suc (suc (suc (suc zero)))) h = refl
-kept-dcs o (suc (suc (suc (suc (suc zero))))) h = refl
-kept-dcs o (suc (suc (suc (suc (suc (suc k)))))) h = let z : ⊥ = omega arith in absurd z
+kept-dcs o =
+    below-six (λ k. set (dcsOf o) (O.predictorOf (5 - k)) (getD (dcsOf o) (O.predictorOf (5 - k)) (pos 0)) ≡ dcsOf o) refl refl refl refl refl refl
 
 -- 63 has all six bits
 bits-63 : (k : ℕ) → k < 6 → flag 63 (2 ^ k) ≡ true
-bits-63 zero h = refl
-bits-63 (suc zero) h = refl
-bits-63 (suc (suc zero)) h = refl
-bits-63 (suc (suc (suc zero))) h = refl
-bits-63 (suc (suc (suc (suc zero)))) h = refl
-bits-63 (suc (suc (suc (suc (suc zero))))) h = refl
-bits-63 (suc (suc (suc (suc (suc (suc k)))))) h = let z : ⊥ = omega arith in absurd z
+bits-63 = below-six (λ k. flag 63 (2 ^ k) ≡ true) refl refl refl refl refl refl
 
 or-true : (t : Bool) → (t || true) ≡ true
 or-true true = refl
@@ -355,7 +358,8 @@ module _ (rule : Rule) (g : Given) (f b : S.Direction) (A : ℤ) (q : ℕ) (for 
       let K : Bool → ℤ → Prog Coded = λ t d. cond t (bind (pairs 1) (λ p. done (coded d p))) (done (coded d (ended [] Outside))) in
       let made : Bool → ℤ → Ended → B.Read = λ t d p. cond (not t) (record { filled = B.filled left 0; predictor = pred; end = p .end })
       (record { filled = B.allPlaced Q matrix (B.withDc (pred +ℤ d) left) (p .pairs); predictor = pred +ℤ d; end = p .end }) in
-      let F : S.Pasts → ℤ → Prog (Way S.Blocks) = λ past recon. onward (S.shall (leZ (negℤ (pos 2048)) recon && leZ recon (pos 2047))) (λ z. onward (plain (pairs 1)) (λ p.
+      let F : S.Pasts → ℤ → Prog (Way S.Blocks) = λ past recon.
+      onward (S.shall (leZ (negℤ (pos 2048)) recon && leZ recon (pos 2047))) (λ z. onward (plain (pairs 1)) (λ p.
       onward (step (S.coefficients G true q (record { recon = set left 0 recon; n = 1 }) p))
       (λ f. give (record { past = S.pastAs i recon past; pels = S.written G true i (natAbs A) f (x .pels) })))) in
       subst (λ (w : World). Agree (Intra isFar k G A q for back fs bs) s a

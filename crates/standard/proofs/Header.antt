@@ -1,5 +1,5 @@
 -- 2.4.2.5: the header of a picture. Assumes nothing.
-use mathlib.Core.Path.{_≡_, refl, sym, ap, subst}
+use mathlib.Core.Path.{_≡_, refl, sym, ap, _∙_, subst}
 use mathlib.Core.Bool.{Bool, true, false, cond, not, _&&_, _||_, false≢true}
 use mathlib.Core.List.{List}
 use Prim.Native.Nat.{ℕ, _-_}
@@ -116,58 +116,60 @@ module _ (s : List ℕ) where
     unfolding onward leave bind plain
     i-header e = ends-agree 1 df db (P.headed (typeAs 1 p) true) e (record { decoded = refl; type = refl; stores = refl; begun = b })
 
-    p-header : (e : ℕ) → Agree (Headed p) s e (directions 2) (plain (ours 2))
-    unfolding P.forwardHeader onward leave bind plain
-    p-header e =
-        let m = p .slice .«motion_forward» in
-        let x = typeAs 2 p in
-        let K : Bool → P.Direction
-        → Prog P.Headed = λ t y. cond (t && false) (P.backwardHeader (P.forwardAs (y .motion) x))
-        (done (P.headed (P.forwardAs (y .motion) x) (y .decoded))) in
+    abbrev m : Motion
+    m = p .slice .«motion_forward»
+
+    abbrev n : Motion
+    n = p .slice .«motion_backward»
+
+    -- behind the forward direction
+    abbrev ahead : ℕ → P.Direction → P.Headed
+    ahead type y = P.headed (P.forwardAs (y .motion) (typeAs type p)) (y .decoded)
+
+    forward-header : (type : ℕ) (F : S.Direction → Prog (Way S.Header)) (e : ℕ)
+        → ((f : S.Direction) (y : P.Direction) (e : ℕ) → Directed m f y
+        → Agree (Headed p) s e (F f) (plain (cond (eqb type 3) (P.backwardHeader (ahead type y .picture)) (done (ahead type y)))))
+        → Agree (Headed p) s e (onward S.direction F) (plain (P.forwardHeader (typeAs type p)))
+    unfolding P.forwardHeader
+    forward-header type F e k =
+        let K : Bool → P.Direction → Prog P.Headed = λ t y. cond (t && eqb type 3) (P.backwardHeader (ahead type y .picture)) (done (ahead type y)) in
         a-same (sym (plain-bind (P.direction m) (λ y. K (y .decoded) y) s e)) (a-onward _ _ (direction-agrees m e) (λ f y e d.
-        a-same (ap (λ (t : Bool). run (plain (K t y)) s e) (sym (d .decoded))) (
-        ends-agree 2 f db (P.headed (P.forwardAs (y .motion) x) (y .decoded)) e (record {
-          decoded = d .decoded;
-          type = refl;
-          stores = refl;
+        a-same (ap (λ (t : Bool). run (plain (K t y)) s e) (sym (d .decoded))) (k f y e d)))
+
+    -- a header with the forward direction f, of which the backward motion of x is k's
+    headed-by : (type : ℕ) (f k : S.Direction) (y : P.Direction) (x : P.Headed) → Directed m f y → x .decoded ≡ true → (set : Bool) (back : S.Vector)
+        → x .picture ≡ P.backwardAs (motionOf k set back) (ahead type y .picture) → Headed p (found-header type f k) x
+    headed-by type f k y x d t set back e =
+        record {
+          decoded = t;
+          type = ap (λ (q : Picture). q .«picture_type») e;
+          stores = ap (λ (q : Picture). q .stores) e;
           begun = record {
             forSet = m .«is_set»;
-            backSet = b .backSet;
+            backSet = set;
             for = record { right = m .h; down = m .v };
-            back = b .back;
-            forward = d .motion;
-            backward = b .backward;
-            left = b .left;
+            back = back;
+            forward = ap (λ (q : Picture). q .slice .«motion_forward») e ∙ d .motion;
+            backward = ap (λ (q : Picture). q .slice .«motion_backward») e;
+            left = ap (λ (q : Picture). q .slice .«block_data») e ∙ b .left;
           };
-        }))))
+        }
+
+    p-header : (e : ℕ) → Agree (Headed p) s e (directions 2) (plain (ours 2))
+    unfolding onward leave bind plain
+    p-header e =
+        forward-header 2 (λ f. ends 2 f db) e (λ f y e d.
+        ends-agree 2 f db (ahead 2 y) e
+        (headed-by 2 f db y (ahead 2 y) d (d .decoded) (b .backSet) (b .back) (ap (λ (q : Motion). P.backwardAs q (ahead 2 y .picture)) (b .backward))))
 
     b-header : (e : ℕ) → Agree (Headed p) s e (directions 3) (plain (ours 3))
-    unfolding P.forwardHeader P.backwardHeader onward leave bind plain
+    unfolding P.backwardHeader plain bind
     b-header e =
-        let m = p .slice .«motion_forward» in
-        let n = p .slice .«motion_backward» in
-        let x = typeAs 3 p in
-        let K : Bool → P.Direction
-        → Prog P.Headed = λ t y. cond (t && true) (P.backwardHeader (P.forwardAs (y .motion) x))
-        (done (P.headed (P.forwardAs (y .motion) x) (y .decoded))) in
-        a-same (sym (plain-bind (P.direction m) (λ y. K (y .decoded) y) s e)) (a-onward _ _ (direction-agrees m e) (λ f y e d.
-        a-same (ap (λ (t : Bool). run (plain (K t y)) s e) (sym (d .decoded))) (
-        a-same (sym (plain-bind (P.direction n) (λ z. done (P.headed (P.backwardAs (z .motion) (P.forwardAs (y .motion) x)) (z .decoded))) s e))
-        (a-onward _ _ (direction-agrees n e) (λ k z e c.
-        ends-agree 3 f k (P.headed (P.backwardAs (z .motion) (P.forwardAs (y .motion) x)) (z .decoded)) e (record {
-          decoded = c .decoded;
-          type = refl;
-          stores = refl;
-          begun = record {
-            forSet = m .«is_set»;
-            backSet = n .«is_set»;
-            for = record { right = m .h; down = m .v };
-            back = record { right = n .h; down = n .v };
-            forward = d .motion;
-            backward = c .motion;
-            left = b .left;
-          };
-        }))))))
+        forward-header 3 (λ f. onward S.direction (ends 3 f)) e (λ f y e d.
+        let x : P.Direction → P.Headed = λ z. P.headed (P.backwardAs (z .motion) (ahead 3 y .picture)) (z .decoded) in
+        a-same (sym (plain-bind (P.direction n) (λ z. done (x z)) s e)) (a-onward _ _ (direction-agrees n e) (λ k z e c.
+        ends-agree 3 f k (x z) e (headed-by 3 f k y (x z) d (c .decoded) (n .«is_set») (record { right = n .h; down = n .v })
+        (ap (λ (q : Motion). P.backwardAs q (ahead 3 y .picture)) (c .motion))))))
 
     pub header-agrees : (a : ℕ) → Agree (Headed p) s a (S.header df db) (plain (P.pictureHeader p))
     unfolding S.header P.pictureHeader

@@ -94,19 +94,12 @@ pub record Ready (g : S.Coding) (first : Bool) (n t : ℕ) (x : S.Variables) (l 
   pub some : 1 ≤ n
 
 -- 2.4.4.1: behind a skipped macroblock, and in the first macroblock of a slice, the pasts are 128 * 8
-far-skipped : (x : S.Variables) (n : ℕ) → leZ (x .«past_intra_address») (x .«previous_macroblock_address») ≡ true → 2 ≤ n
-    → S.far (x .«previous_macroblock_address» +ℤ pos n) x ≡ true
-far-skipped x n h l =
-    let prev = v (x .«previous_macroblock_address») in
-    let past = v (x .«past_intra_address») in
-    yes-lt (lit 1) (prev ⊕ lit n ⊖ past) (omega (arith, le-yes past prev h))
-
-far-first : (x : S.Variables) (n : ℕ) → ltZ (x .«past_intra_address») (x .«previous_macroblock_address») ≡ true → 1 ≤ n
-    → S.far (x .«previous_macroblock_address» +ℤ pos n) x ≡ true
-far-first x n h l =
-    let prev = v (x .«previous_macroblock_address») in
-    let past = v (x .«past_intra_address») in
-    yes-lt (lit 1) (prev ⊕ lit n ⊖ past) (omega (arith, lt-yes past prev h))
+far-by : (first : Bool) (x : S.Variables) (n : ℕ) → cond first ltZ leZ (x .«past_intra_address») (x .«previous_macroblock_address») ≡ true
+    → cond first 1 2 ≤ n → S.far (x .«previous_macroblock_address» +ℤ pos n) x ≡ true
+far-by true x n h l =
+    yes-lt (lit 1) (v (x .«previous_macroblock_address») ⊕ lit n ⊖ v (x .«past_intra_address»)) (omega (arith, lt-yes (v (x .«past_intra_address»)) (v _) h))
+far-by false x n h l =
+    yes-lt (lit 1) (v (x .«previous_macroblock_address») ⊕ lit n ⊖ v (x .«past_intra_address»)) (omega (arith, le-yes (v (x .«past_intra_address»)) (v _) h))
 
 right-meets : {A B D : Type 0} {R : A → B → Type 0} (Q : A → D → Type 0) (w : Way A) (u : Way B) (k : B → Way D) → WayMeets R w u
     → ((x : A) (y : B) → R x y → WayMeets Q (on x) (k y)) → WayMeets Q w (also u k)
@@ -134,7 +127,7 @@ module _ (g : S.Coding) (x : S.Variables) (w : World) (n : ℕ) (some : 1 ≤ n)
         is = ap (M.further n) (r .is);
         for = r .for;
         back = r .back;
-        past = rw (far-first x n (r .start refl) some) (rw (far-first x 1 (r .start refl) (omega arith)) at (r .past));
+        past = rw (far-by true x n (r .start refl) some) (rw (far-by true x 1 (r .start refl) (omega arith)) at (r .past));
         order = r .order;
         some = some;
       }
@@ -171,7 +164,7 @@ module _ (g : S.Coding) (x : S.Variables) (w : World) (n : ℕ) (some : 1 ≤ n)
             is = rw (ef, eb) (ap (skippedTo (x .«previous_macroblock_address» +ℤ pos n) f b (r .o)) (sym e));
             for = rw ef i;
             back = rw eb j;
-            past = rw (far-skipped x n (r .order) h);
+            past = rw (far-by false x n (r .order) h);
             order = r .order;
             some = some;
           })
