@@ -14,25 +14,21 @@ use Rattle.laws.proofs.Ints.{reread}
 use Rattle.prediction.proofs.writers.add_const_row.Statement.{statement}
 use Rattle.prediction.proofs.writers.add_const_row.Tie as tie
 
--- where the last of the eight bytes is known
+-- where the last of the eight bytes is known, and the entry
 abbrev last : tie.After-slice-known2 → tie.After-added-const8
 last c = c .before .before .before .before .before
 
+abbrev entry : tie.After-added-const8 → tie.Start
+entry k =
+    k .before .before .before .before .before .before .before .before
+    .before .before .before .before .before .before .before .before .before
+
 returns : tie.Need-returns
 returns c =
-    let k8 = last c in
-    let k7 = k8 .before .before in
-    let k6 = k7 .before .before in
-    let k5 = k6 .before .before in
-    let k4 = k5 .before .before in
-    let k3 = k4 .before .before in
-    let k2 = k3 .before .before in
-    let k1 = k2 .before .before in
-    let s = k1 .before .before .before in
+    let s = entry (last c) in
     let a = s .args in
     eight-row (now (a .d)) (a .at) (λ x. clamp255 (pos (getD (now (a .d)) (a .at + x) 0) +ℤ reread w32 (a .value))) (c .before .before .put-eight .ensures)
-    (k1 .added-const .ensures) (k2 .added-const2 .ensures) (k3 .added-const3 .ensures) (k4 .added-const4 .ensures)
-    (k5 .added-const5 .ensures) (k6 .added-const6 .ensures) (k7 .added-const7 .ensures) (k8 .added-const8 .ensures)
+    (search) (search) (search) (search) (search) (search) (search) (search)
     ∙ ap (λ (z : ℤ). storeRow (now (a .d)) (a .at) (λ x. clamp255 (pos (getD (now (a .d)) (a .at + x) 0) +ℤ z)) 8) (toZ-ofZ (s .fits .value))
 
 pub add-const-row-spec : {M : Type 1} → statement M

@@ -20,19 +20,10 @@ entry k =
 
 returns : tie.Need-returns
 returns c =
-    let k8 = last c in
-    let k7 = k8 .before .before in
-    let k6 = k7 .before .before in
-    let k5 = k6 .before .before in
-    let k4 = k5 .before .before in
-    let k3 = k4 .before .before in
-    let k2 = k3 .before .before in
-    let k1 = k2 .before .before in
-    let a = entry k8 .args in
+    let a = entry (last c) .args in
     eight-row (now (a .d)) (a .at) (λ x. clamp255 (pos (getD (now (a .d)) (a .at + x) 0) +ℤ getD (now (a .s)) (a .from + x) (pos 0)))
     (c .before .before .put-eight .ensures)
-    (k1 .added-at .ensures) (k2 .added-at2 .ensures) (k3 .added-at3 .ensures) (k4 .added-at4 .ensures)
-    (k5 .added-at5 .ensures) (k6 .added-at6 .ensures) (k7 .added-at7 .ensures) (k8 .added-at8 .ensures)
+    (search) (search) (search) (search) (search) (search) (search) (search)
 
 pub add-row-spec : {M : Type 1} → statement M
 add-row-spec =
