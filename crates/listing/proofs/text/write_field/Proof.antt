@@ -13,14 +13,16 @@ few c = fewest-few (c .decimal .result) (c .before .before .before .args .n) (c 
 write-bytes-requires : tie.Need-write-bytes-requires
 write-bytes-requires c κs = omega (arith, few (c .before .before), c .before .before .decimal .ensures)
 
+abbrev entry : tie.After-write-bytes → tie.Start
+entry c = c .before .before .before .before .before .before
+
 -- the place behind the digits
-low : (c : tie.After-write-bytes) → c .write-bytes .result ≤ c .before .before .before .before .before .before .args .at + 20
+low : (c : tie.After-write-bytes) → c .write-bytes .result ≤ entry c .args .at + 20
 low c = let d = c .before .before .before in omega (arith, few d, d .decimal .ensures, c .write-bytes .ensures .place)
 
 -- what was asked of the page
-asked : (c : tie.After-write-bytes) → c .before .before .before .before .before .before .args .at + 21
-    ≤ length (c .before .before .before .before .before .before .args .page .now)
-asked c = c .before .before .before .before .before .before .pre
+asked : (c : tie.After-write-bytes) → entry c .args .at + 21 ≤ length (entry c .args .page .now)
+asked c = entry c .pre
 
 returns : tie.Need-returns
 returns c =
