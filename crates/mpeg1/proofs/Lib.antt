@@ -1,4 +1,2 @@
 pub mod Answers
-pub mod Copying
-pub mod RoundTrip
 pub mod Seen

@@ -17,7 +17,7 @@ use Rattle.decoder.specs.Possible.{possibleSequence, possible}
 use Rattle.decoder.proofs.Fits.{fit-of}
 use Rattle.decoder.proofs.Starts.{fresh-starts}
 use Rattle.decoder.proofs.Converting.{size-few}
-use Rattle.mpeg1.specs.Memory.{number}
+use Rattle.memory.specs.Memory.{number}
 use Rattle.mpeg1.specs.Calls.{still}
 use Rattle.mpeg1.specs.Views.{Few, sequenceSeen, seen, numberSeen}
 

@@ -18,7 +18,7 @@ use Rattle.decoder.specs.Record.{Left, noTime}
 use Rattle.decoder.specs.Opening.{opening}
 use Rattle.decoder.specs.HandOut.{handOut}
 use Rattle.decoder.specs.Conversion as Conversion
-use Rattle.mpeg1.specs.Memory.{Memory, memory, written, recordOf, roomy, isRecord, Holds}
+use Rattle.memory.specs.Memory.{Memory, memory, written, recordOf, roomy, isRecord, Holds}
 
 -- what a call leaves: its answer and all of the memory that a host has lent
 pub record Kept : Type 0 where

@@ -1,4 +1,2 @@
 pub mod Calls
-pub mod Memory
-pub mod Types
 pub mod Views

@@ -12,7 +12,7 @@ use Rattle.prediction.specs.Planes.{blockSize, planeLength, planeStart}
 use Rattle.decoder.specs.declared.record.Sequence.{Sequence}
 use Rattle.decoder.specs.Record.{noTime, freshSequence}
 use Rattle.decoder.specs.Possible.{sizesOf, possibleSequence}
-use Rattle.mpeg1.specs.Memory.{number, sequenceIn}
+use Rattle.memory.specs.Memory.{number, sequenceIn}
 
 -- what numbers 1 to 6 say of the sequence; no view reads a matrix
 abbrev pub sequenceSeen : List ℕ → Sequence

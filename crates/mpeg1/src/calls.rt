@@ -1,19 +1,19 @@
 // The three calls. Stream, store and record lie in the host's memory.
-use crate::reading::has_room;
-use crate::reading::is_record;
-use crate::reading::record_of;
-use crate::writing::save;
 use decoder::answers::Converted;
 use decoder::answers::Opening;
 use decoder::answers::Outcome;
 use decoder::record::Decoder;
+use memory::reading::has_room;
+use memory::reading::is_record;
+use memory::reading::record_of;
+use memory::writing::save;
 ghost use mathlib.Core.Path.{_≡_};
 ghost use mathlib.Core.Bool.{true};
 ghost use lib.Dec.{leb};
 ghost use lib.ListN.{length};
 ghost use Rattle.decoder.specs.Opening as Open;
 ghost use Rattle.decoder.specs.HandOut as Out;
-ghost use Rattle.mpeg1.specs.Memory.{memory, roomy, recordOf, isRecord, Holds};
+ghost use Rattle.memory.specs.Memory.{memory, roomy, recordOf, isRecord, Holds};
 ghost use Rattle.mpeg1.specs.Calls.{kept, shows, openingNumber, convertedNumber, opensIn, HandsOut, decodesIn, unclocked, converts, convertsIn};
 
 fn opening_number(x: Opening) -> u32

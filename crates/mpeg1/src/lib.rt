@@ -1,6 +1,3 @@
-// The calls of `decoder` for C and Rust hosts. The record crosses in memory that the host owns, each field in its own type.
+// The calls of `decoder` for C and Rust hosts. The record crosses in memory that the host owns (crate `memory`).
 mod calls;
-mod copies;
-mod reading;
 mod views;
-mod writing;

@@ -1,9 +1,9 @@
 // What a host reads of a record, and the sizes that it needs, so that none counts fields or repeats the layout of a store.
-use crate::reading::sequence_in;
 use decoder::possible::possible_sequence;
 use decoder::possible::sizes_of;
 use decoder::record::Sequence;
 use decoder::record::fresh;
+use memory::reading::sequence_in;
 use prediction::planes::Plane;
 use prediction::planes::block_size;
 use prediction::planes::plane_length;

@@ -4,8 +4,8 @@ use denote.Ref.{now}
 use Rattle.decoder.specs.declared.record.Decoder.{Decoder}
 use Rattle.decoder.specs.HandOut.{handOut}
 use Rattle.decoder.specs.Record.{left}
-use Rattle.mpeg1.specs.Memory.{Memory, memory, written, recordOf, Holds}
-use Rattle.mpeg1.proofs.Answers.{record-roomy, readable}
+use Rattle.memory.specs.Memory.{Memory, memory, written, recordOf, Holds}
+use Rattle.memory.proofs.Room.{record-roomy, readable}
 use Rattle.mpeg1.proofs.calls.hand_out.Statement.{statement}
 use Rattle.mpeg1.proofs.calls.hand_out.Tie as tie
 

@@ -4,7 +4,7 @@ use borrow.Author.Needs.{needs}
 use borrow.Author.Tests.{not-true, not-false, lt-leb}
 use denote.Ref.{now}
 use lib.ListN.{length}
-use Rattle.mpeg1.specs.Memory.{Memory, memory, isRecord}
+use Rattle.memory.specs.Memory.{Memory, memory, isRecord}
 use Rattle.mpeg1.proofs.Answers.{decodes-1, decodes-2, decodes-picture, decodes-number}
 use Rattle.mpeg1.proofs.calls.mpeg1_decode.Statement.{statement}
 use Rattle.mpeg1.proofs.calls.mpeg1_decode.Tie as tie

@@ -4,7 +4,7 @@ use borrow.Author.Needs.{needs}
 use borrow.Author.Tests.{not-true, not-false}
 use denote.Ref.{now}
 use Rattle.decoder.specs.declared.record.Decoder.{Decoder}
-use Rattle.mpeg1.specs.Memory.{Memory, memory, roomy, Holds}
+use Rattle.memory.specs.Memory.{Memory, memory, roomy, Holds}
 use Rattle.mpeg1.proofs.Answers.{opens-2, opens}
 use Rattle.mpeg1.proofs.calls.mpeg1_open.Statement.{statement}
 use Rattle.mpeg1.proofs.calls.mpeg1_open.Tie as tie

@@ -8,9 +8,10 @@ use lib.Ieee.{Float}
 use lib.Ieee.{binary64, ofBits}
 use lib.ListN.{replicate}
 use Rattle.decoder.specs.Conversion as Conversion
-use Rattle.mpeg1.specs.Memory.{Memory, memory, recordOf, isRecord}
+use Rattle.memory.specs.Memory.{Memory, memory, recordOf, isRecord}
+use Rattle.memory.proofs.Room.{readable}
 use Rattle.mpeg1.specs.Calls.{still}
-use Rattle.mpeg1.proofs.Answers.{readable, converts-2, converts-record}
+use Rattle.mpeg1.proofs.Answers.{converts-2, converts-record}
 use Rattle.mpeg1.proofs.Seen.{still-is}
 use Rattle.mpeg1.proofs.calls.mpeg1_write_rgb_scaled.Statement.{statement}
 use Rattle.mpeg1.proofs.calls.mpeg1_write_rgb_scaled.Tie as tie

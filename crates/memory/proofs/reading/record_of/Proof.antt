@@ -1,0 +1,13 @@
+use borrow.Author.Needs.{needs}
+use Rattle.memory.specs.Memory.{recordOf}
+use Rattle.memory.proofs.reading.record_of.Statement.{statement}
+use Rattle.memory.proofs.reading.record_of.Tie as tie
+
+returns : tie.Need-returns
+unfolding recordOf
+returns c = let p = c .before .before .before .before in rw (p .before .sequence-in .ensures, p .picture-in .ensures, c .clock-in .ensures)
+
+pub record-of-spec : {M : Type 1} → statement M
+record-of-spec =
+    tie.close (tie.spec (λ c. search needs) (λ c κs. search needs) (λ c κs. search needs) (λ c. search needs) (λ c. search needs) (λ c. search needs)
+    (λ c. search needs) (λ c. search needs) (λ c κs. search needs) returns)

@@ -1,0 +1,62 @@
+use mathlib.Core.List.{_++_}
+use mathlib.Core.Path.{_≡_, refl, sym, ap, _∙_}
+use native.Mathlib.Omega.{arith}
+use borrow.Author.Needs.{needs}
+use borrow.Rule.Slice.PartMut.{putMid}
+use denote.Ref.{now}
+use lib.ListN.{length, length-append}
+use Rattle.memory.specs.Memory.{headIntegers, integersOf}
+use Rattle.memory.specs.Types.{TypedPicture}
+use Rattle.memory.proofs.Copying.{put-next, put-first}
+use Rattle.memory.proofs.writing.put_integers.Statement.{statement}
+use Rattle.memory.proofs.writing.put_integers.Tie as tie
+
+-- of the types of their fields
+typed : (s : tie.Start) → TypedPicture (s .args .p)
+typed s = record {
+  predictors = search needs;
+  left = search needs;
+  type = search needs;
+  scale = search needs;
+  forward = search needs;
+  backward = search needs;
+}
+
+-- the entry, of the first copy
+abbrev entry : tie.After-copy-integers → tie.Start
+entry c = c .before .before .before .before .before .before .before
+
+copy-integers-requires-2 : tie.Need-copy-integers-requires-2
+copy-integers-requires-2 c κs =
+    let f = c .before .before .before in
+    omega (arith, entry f .pre, typed (entry f) .predictors, f .copy-integers .kept .0)
+
+slice-aggregate-copy-integers-3 : tie.Need-slice-aggregate-copy-integers-3
+slice-aggregate-copy-integers-3 c = let p = c .before .before .before .before in sym (typed (entry (p .before .before .before)) .left)
+
+copy-integers-requires-3 : tie.Need-copy-integers-requires-3
+copy-integers-requires-3 c κs =
+    let p = c .before .before .before in let f = p .before .before .before .before in
+    omega (arith, entry f .pre, typed (entry f) .left, f .copy-integers .kept .0, p .copy-integers2 .kept .0)
+
+returns : tie.Need-returns
+returns c =
+    let p = c .before .before .before .before .before in let f = p .before .before .before .before in let s = entry f in
+    let x = s .args .p in let t = typed s in
+    let l = now (s .args .integers) in
+    let head = headIntegers x in
+    let dc = x .slice .«dc_predictor» in
+    let whole : length (integersOf x) ≡ 73 =
+    length-append (head ++ dc) (x .slice .«block_data») ∙ omega (arith, length-append head dc, t .predictors, t .left) in
+    let first = f .copy-integers .ensures ∙ ap (λ z. putMid 0 (length z) l z) (f .before .before .before .head-integers .ensures) in (
+      put-next 0 9 64 l (head ++ dc) (x .slice .«block_data») (length-append head dc ∙ omega (arith, t .predictors)) (omega (arith, s .pre))
+          (put-next 0 6 3 l head dc refl (omega (arith, s .pre)) first (t .predictors) (p .copy-integers2 .ensures))
+          (t .left) (c .before .copy-integers3 .ensures)
+          ∙ put-first 73 l (integersOf x) whole,
+      t,
+    )
+
+pub put-integers-spec : {M : Type 1} → statement M
+put-integers-spec =
+    tie.close (tie.spec (λ c κs. search needs) (λ c. search needs) (λ c κs. search needs) (λ c. search needs) copy-integers-requires-2
+    slice-aggregate-copy-integers-3 copy-integers-requires-3 (λ c. search needs) returns)

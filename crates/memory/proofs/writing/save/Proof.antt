@@ -1,0 +1,54 @@
+use mathlib.Core.Path.{_≡_, sym, subst}
+use Prim.Native.Nat.{_≤_}
+use borrow.Author.Needs.{needs}
+use denote.Ref.{now}
+use Rattle.memory.specs.Memory.{Memory, memory, written, Holds}
+use Rattle.memory.proofs.Room.{room}
+use Rattle.memory.proofs.RoundTrip.{held, wrote-all}
+use Rattle.memory.proofs.writing.save.Statement.{statement}
+use Rattle.memory.proofs.writing.save.Tie as tie
+
+-- the memory that is lent
+abbrev lent : tie.Start → Memory
+lent s = memory (now (s .args .numbers)) (now (s .args .integers)) (now (s .args .matrices)) (now (s .args .clock))
+
+abbrev entry : tie.After-put-numbers → tie.Start
+entry c = c .before .before .before .before .before
+
+-- of the types of its fields
+handed : (s : tie.Start) → s .args .d .«frames_decoded» ≤ 4294967295
+handed s = search needs
+
+stop : (s : tie.Start) → s .args .d .stop ≤ 4294967295
+stop s = search needs
+
+put-numbers-requires : tie.Need-put-numbers-requires
+put-numbers-requires c κs = let s = c .before .before .before .before in room (lent s) (s .pre) .numbers
+
+put-integers-requires : tie.Need-put-integers-requires
+put-integers-requires c κs = let s = entry (c .before .before .before) in room (lent s) (s .pre) .integers
+
+put-matrices-requires : tie.Need-put-matrices-requires
+put-matrices-requires c κs = let p = c .before .before in let s = entry (p .before .before .before .before) in room (lent s) (s .pre) .matrices
+
+put-clock-requires : tie.Need-put-clock-requires
+put-clock-requires c κs =
+    let m = c .before .before .before in let p = m .before .before .before in let s = entry (p .before .before .before .before) in
+    room (lent s) (s .pre) .clock
+
+returns : tie.Need-returns
+returns c =
+    let k = c .before .before in let m = k .before .before .before .before in let p = m .before .before .before in
+    let n = p .before .before .before .before in let s = entry n in let d = s .args .d in
+    let x = p .put-integers .ensures in let y = m .put-matrices .ensures in
+    let wrote : memory (n .put-numbers .last .0) (p .put-integers .last .0) (m .put-matrices .last .0) (k .put-clock .last .0) ≡ written d (lent s) =
+    wrote-all d (lent s) (n .put-numbers .ensures) (x .0) (y .0) (k .put-clock .ensures) in (
+      wrote,
+      subst (λ (z : Memory). Holds z d) (sym wrote)
+          (held d (record { matrices = y .1; picture = x .1; handed = handed s; stop = stop s }) (lent s)),
+    )
+
+pub save-spec : {M : Type 1} → statement M
+save-spec =
+    tie.close (tie.spec put-numbers-requires put-integers-requires put-matrices-requires put-clock-requires (λ c. search needs) (λ c. search needs)
+    (λ c. search needs) (λ c. search needs) returns)

@@ -1,0 +1,4 @@
+// The record in memory that a host owns, each field in its own type.
+mod copies;
+pub mod reading;
+pub mod writing;
