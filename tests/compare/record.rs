@@ -1,4 +1,4 @@
-// The decoder's record in the four parts of its memory (crates/mpeg1 says their order), and question 2 about it.
+// The decoder's record in the four parts of its memory (crates/memory says their order), and question 2 about it.
 use crate::rust::unchanged::video::premultiplier;
 
 // How many elements the parts have.

@@ -11,7 +11,7 @@ use lib.IntN.{ℤ}
 use lib.ListN.{length, take, drop, length-append}
 use lib.Seq.{drop-at, take-at}
 use Rattle.decoder.specs.declared.record.Decoder.{Decoder}
-use Rattle.memory.specs.Memory.{Memory, memory, flag, flagOf, numbersOf, headIntegers, integersOf, matricesOf, clockOf, over, written}
+use Rattle.memory.specs.Memory.{Memory, memory, flag, flagOf, numbersOf, integersOf, matricesOf, clockOf, over, written}
 use Rattle.memory.specs.Memory.{sequenceIn, pictureIn, recordOf, isRecord, Holds}
 use Rattle.memory.specs.Types.{Typed}
 

@@ -22,26 +22,31 @@ typed s = record {
   backward = search needs;
 }
 
--- the entry, of the first copy
-abbrev entry : tie.After-copy-integers → tie.Start
-entry c = c .before .before .before .before .before .before .before
+-- the second copy, the first one, and the entry
+abbrev second : tie.After-left2 → tie.After-copy-integers2
+second c = c .before .before .before
+
+abbrev first : tie.After-predictors2 → tie.After-copy-integers
+first c = c .before .before .before
+
+abbrev entry : tie.After-head → tie.Start
+entry c = c .before .before .before .before .before .before
 
 copy-integers-requires-2 : tie.Need-copy-integers-requires-2
 copy-integers-requires-2 c κs =
-    let f = c .before .before .before in
-    omega (arith, entry f .pre, typed (entry f) .predictors, f .copy-integers .kept .0)
+    let f = first c in let s = entry (f .before) in omega (arith, s .pre, typed s .predictors, f .copy-integers .kept .0)
 
 slice-aggregate-copy-integers-3 : tie.Need-slice-aggregate-copy-integers-3
-slice-aggregate-copy-integers-3 c = let p = c .before .before .before .before in sym (typed (entry (p .before .before .before)) .left)
+slice-aggregate-copy-integers-3 c = sym (typed (entry (first (second c .before) .before)) .left)
 
 copy-integers-requires-3 : tie.Need-copy-integers-requires-3
 copy-integers-requires-3 c κs =
-    let p = c .before .before .before in let f = p .before .before .before .before in
-    omega (arith, entry f .pre, typed (entry f) .left, f .copy-integers .kept .0, p .copy-integers2 .kept .0)
+    let p = second c in let f = first (p .before) in let s = entry (f .before) in
+    omega (arith, s .pre, typed s .left, f .copy-integers .kept .0, p .copy-integers2 .kept .0)
 
 returns : tie.Need-returns
 returns c =
-    let p = c .before .before .before .before .before in let f = p .before .before .before .before in let s = entry f in
+    let p = second (c .before .before) in let f = first (p .before) in let s = entry (f .before) in
     let x = s .args .p in let t = typed s in
     let l = now (s .args .integers) in
     let head = headIntegers x in

@@ -14,17 +14,23 @@ use Rattle.memory.proofs.writing.put_matrices.Tie as tie
 typed : (s : tie.Start) → TypedMatrices (s .args .m)
 typed s = record { intra = search needs; other = search needs }
 
+-- the first copy, and the entry
+abbrev first : tie.After-non-intra2 → tie.After-copy-bytes
+first c = c .before .before .before .before
+
+abbrev entry : tie.After-intra2 → tie.Start
+entry c = c .before .before .before .before .before
+
 copy-bytes-requires : tie.Need-copy-bytes-requires
-copy-bytes-requires c κs = let s = c .before .before .before .before .before in omega (arith, s .pre, typed s .intra)
+copy-bytes-requires c κs = let s = entry c in omega (arith, s .pre, typed s .intra)
 
 copy-bytes-requires-2 : tie.Need-copy-bytes-requires-2
 copy-bytes-requires-2 c κs =
-    let f = c .before .before .before .before in let s = f .before .before .before .before .before .before in
-    omega (arith, s .pre, typed s .other, f .copy-bytes .kept .0)
+    let f = first c in let s = entry (f .before) in omega (arith, s .pre, typed s .other, f .copy-bytes .kept .0)
 
 returns : tie.Need-returns
 returns c =
-    let o = c .before .before in let f = o .before .before .before .before .before in let s = f .before .before .before .before .before .before in
+    let o = c .before .before in let f = first (o .before) in let s = entry (f .before) in
     let l = now (s .args .matrices) in
     let intra = s .args .m .«intra_quant_matrix» in let other = s .args .m .«non_intra_quant_matrix» in
     let whole : length (matricesOf (s .args .m)) ≡ 128 = length-append intra other ∙ omega (arith, typed s .intra, typed s .other) in (

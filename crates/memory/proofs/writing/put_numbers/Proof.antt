@@ -9,10 +9,13 @@ use Rattle.memory.proofs.Copying.{put-next}
 use Rattle.memory.proofs.writing.put_numbers.Statement.{statement}
 use Rattle.memory.proofs.writing.put_numbers.Tie as tie
 
+abbrev entry : tie.After-put-head → tie.Start
+entry c = c .before .before .before .before .before
+
 returns : tie.Need-returns
 returns c =
     let e = c .before .before in let k = e .before .before .before .before in let f = k .before .before .before .before in
-    let t = f .before .before .before .before in let h = t .before .before .before .before in let s = h .before .before .before .before .before in
+    let t = f .before .before .before .before in let h = t .before .before .before .before in let s = entry h in
     let d = s .args .d in
     let l = now (s .args .numbers) in
     let head = headNumbers (place d) (d .sequence) in

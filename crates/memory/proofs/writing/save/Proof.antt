@@ -3,7 +3,7 @@ use Prim.Native.Nat.{_≤_}
 use borrow.Author.Needs.{needs}
 use denote.Ref.{now}
 use Rattle.memory.specs.Memory.{Memory, memory, written, Holds}
-use Rattle.memory.proofs.Room.{room}
+use Rattle.memory.proofs.Room.{Room, room}
 use Rattle.memory.proofs.RoundTrip.{held, wrote-all}
 use Rattle.memory.proofs.writing.save.Statement.{statement}
 use Rattle.memory.proofs.writing.save.Tie as tie
@@ -12,8 +12,21 @@ use Rattle.memory.proofs.writing.save.Tie as tie
 abbrev lent : tie.Start → Memory
 lent s = memory (now (s .args .numbers)) (now (s .args .integers)) (now (s .args .matrices)) (now (s .args .clock))
 
-abbrev entry : tie.After-put-numbers → tie.Start
-entry c = c .before .before .before .before .before
+-- the calls, from the last one back to the entry
+abbrev at-matrices : tie.After-put-clock-arg → tie.After-put-matrices
+at-matrices c = c .before .before .before
+
+abbrev at-integers : tie.After-put-matrices-arg → tie.After-put-integers
+at-integers c = c .before .before
+
+abbrev at-numbers : tie.After-put-integers-arg → tie.After-put-numbers
+at-numbers c = c .before .before .before
+
+abbrev entry : tie.After-put-numbers-arg → tie.Start
+entry c = c .before .before .before .before
+
+roomed : (s : tie.Start) → Room (lent s)
+roomed s = room (lent s) (s .pre)
 
 -- of the types of its fields
 handed : (s : tie.Start) → s .args .d .«frames_decoded» ≤ 4294967295
@@ -23,23 +36,21 @@ stop : (s : tie.Start) → s .args .d .stop ≤ 4294967295
 stop s = search needs
 
 put-numbers-requires : tie.Need-put-numbers-requires
-put-numbers-requires c κs = let s = c .before .before .before .before in room (lent s) (s .pre) .numbers
+put-numbers-requires c κs = roomed (entry c) .numbers
 
 put-integers-requires : tie.Need-put-integers-requires
-put-integers-requires c κs = let s = entry (c .before .before .before) in room (lent s) (s .pre) .integers
+put-integers-requires c κs = roomed (entry (at-numbers c .before)) .integers
 
 put-matrices-requires : tie.Need-put-matrices-requires
-put-matrices-requires c κs = let p = c .before .before in let s = entry (p .before .before .before .before) in room (lent s) (s .pre) .matrices
+put-matrices-requires c κs = roomed (entry (at-numbers (at-integers c .before) .before)) .matrices
 
 put-clock-requires : tie.Need-put-clock-requires
-put-clock-requires c κs =
-    let m = c .before .before .before in let p = m .before .before .before in let s = entry (p .before .before .before .before) in
-    room (lent s) (s .pre) .clock
+put-clock-requires c κs = roomed (entry (at-numbers (at-integers (at-matrices c .before) .before) .before)) .clock
 
 returns : tie.Need-returns
 returns c =
-    let k = c .before .before in let m = k .before .before .before .before in let p = m .before .before .before in
-    let n = p .before .before .before .before in let s = entry n in let d = s .args .d in
+    let k = c .before .before in let m = at-matrices (k .before) in let p = at-integers (m .before) in let n = at-numbers (p .before) in
+    let s = entry (n .before) in let d = s .args .d in
     let x = p .put-integers .ensures in let y = m .put-matrices .ensures in
     let wrote : memory (n .put-numbers .last .0) (p .put-integers .last .0) (m .put-matrices .last .0) (k .put-clock .last .0) ≡ written d (lent s) =
     wrote-all d (lent s) (n .put-numbers .ensures) (x .0) (y .0) (k .put-clock .ensures) in (
