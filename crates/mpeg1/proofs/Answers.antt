@@ -9,15 +9,14 @@ use lib.ListN.{length}
 use Rattle.decoder.specs.declared.record.Decoder.{Decoder}
 use Rattle.decoder.specs.declared.answers.Opening.{Opening}
 use Rattle.decoder.specs.declared.answers.Outcome.{Outcome}
-use Rattle.decoder.specs.declared.answers.Outcome.the-variants.{Picture, Refused}
-use Rattle.decoder.specs.declared.answers.Shown.{Shown}
+use Rattle.decoder.specs.declared.answers.Outcome.the-variants as H
 use Rattle.decoder.specs.declared.answers.Converted.{Converted}
 use Rattle.decoder.specs.Record.{left}
 use Rattle.decoder.specs.Opening.{opening}
 use Rattle.decoder.specs.HandOut.{handOut}
 use Rattle.decoder.specs.Conversion as Conversion
 use Rattle.memory.specs.Memory.{Memory, written, recordOf, roomy, isRecord}
-use Rattle.mpeg1.specs.Calls.{kept, shows, openingNumber, opensIn, HandsOut, decodesIn, convertedNumber, converts, convertsIn}
+use Rattle.mpeg1.specs.Calls.{kept, Shows, shows, openingNumber, opensIn, HandsOut, decodesIn, convertedNumber, converts, convertsIn}
 
 -- ---- opening
 
@@ -33,6 +32,10 @@ module _ (s l : List ℕ) (x : Memory) where
 
 -- ---- the hand-out
 
+-- what is left and shown of an answer
+abbrev pub told : Outcome → List ℕ → Memory → ℕ → Float → Shows
+told a store z k t = elim a [ H.Picture p ↦ shows (kept 0 store z) (p .store) (p .time) | H.Refused n ↦ shows (kept n store z) k t ]
+
 module _ (s l : List ℕ) (x : Memory) (shown : ℕ) (time : Float) where
   pub decodes-1 : 16777216 < length s → shows (kept 1 l x) shown time ≡ decodesIn s l x shown time
   unfolding decodesIn
@@ -43,14 +46,10 @@ module _ (s l : List ℕ) (x : Memory) (shown : ℕ) (time : Float) where
     unfolding decodesIn
     decodes-2 e = rw (le-leb (length s) 16777216 h, e)
 
-    module _ (i : isRecord x ≡ true) {a : Outcome} {store : List ℕ} {z : Memory} (o : HandsOut a store z (handOut (recordOf x) s l) x) where
-      pub decodes-picture : {p : Shown} → a ≡ Picture p → shows (kept 0 store z) (p .store) (p .time) ≡ decodesIn s l x shown time
-      unfolding decodesIn
-      decodes-picture e = rw (le-leb (length s) 16777216 h, i, ← o .answered, e, o .stored, o .wrote)
-
-      pub decodes-number : {n : ℕ} → a ≡ Refused n → shows (kept n store z) shown time ≡ decodesIn s l x shown time
-      unfolding decodesIn
-      decodes-number e = rw (le-leb (length s) 16777216 h, i, ← o .answered, e, o .stored, o .wrote)
+    pub decodes : {a : Outcome} {store : List ℕ} {z : Memory} → isRecord x ≡ true → HandsOut a store z (handOut (recordOf x) s l) x
+        → told a store z shown time ≡ decodesIn s l x shown time
+    unfolding decodesIn
+    decodes i o = rw (le-leb (length s) 16777216 h, i, o .answered, o .stored, o .wrote)
 
 -- ---- the conversion
 

@@ -1,5 +1,5 @@
 -- What the views of a record are made of.
-use mathlib.Core.Path.{_≡_, refl, ap}
+use mathlib.Core.Path.{_≡_, refl, ap, _∙_}
 use mathlib.Core.Bool.{true, false}
 use mathlib.Core.List.{List}
 use Prim.Native.Nat.{ℕ, _≤_, _<_}
@@ -50,10 +50,11 @@ around-possible q e = rw (e, fresh-starts .picture)
 pub few : {q : Sequence} → possibleSequence q ≡ true → Few q
 few {q} e = let f = fit-of (around-possible q e) in record { across = f .across; size = size-few f }
 
-pub few-fresh : Few freshSequence
-few-fresh = record { across = omega arith; size = omega arith }
-
 module _ (n : List ℕ) where
+  -- a fresh sequence, and why it is the one seen
+  pub none-seen : {q : Sequence} → q ≡ freshSequence → freshSequence ≡ seen n → (q ≡ seen n) × Few q
+  none-seen e f = (e ∙ f, rw e (record { across = omega arith; size = omega arith }))
+
   pub seen-short : length n < 21 → freshSequence ≡ seen n
   unfolding seen
   seen-short h = rw (lt-leb 21 (length n) h)

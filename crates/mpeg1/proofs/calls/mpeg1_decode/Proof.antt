@@ -4,8 +4,10 @@ use borrow.Author.Needs.{needs}
 use borrow.Author.Tests.{not-true, not-false, lt-leb}
 use denote.Ref.{now}
 use lib.ListN.{length}
+use Rattle.decoder.specs.declared.answers.Outcome.{Outcome}
 use Rattle.memory.specs.Memory.{Memory, memory, isRecord}
-use Rattle.mpeg1.proofs.Answers.{decodes-1, decodes-2, decodes-picture, decodes-number}
+use Rattle.mpeg1.specs.Calls.{decodesIn}
+use Rattle.mpeg1.proofs.Answers.{decodes-1, decodes-2, told, decodes}
 use Rattle.mpeg1.proofs.calls.mpeg1_decode.Statement.{statement}
 use Rattle.mpeg1.proofs.calls.mpeg1_decode.Tie as tie
 
@@ -23,23 +25,26 @@ asked c = c .before .before .before .before .before
 abbrev small : tie.After-is-record → tie.Else1
 small c = c .before .before .before .before .before
 
-abbrev entry : tie.After-is-record → tie.Start
-entry c = small c .before .before .before .before .before .before
+abbrev entry : tie.After-slice-known4 → tie.Start
+entry c = c .before .before .before .before .before
+
+abbrev begun : tie.After-is-record → tie.Start
+begun c = entry (small c .before)
 
 -- behind the questions
-is : (c : tie.Else2) → isRecord (lent (entry (c .before))) ≡ true
+is : (c : tie.Else2) → isRecord (lent (begun (c .before))) ≡ true
 is c = sym (c .before .is-record .ensures) ∙ not-false (c .before .is-record .result) (c .if2 .left)
 
 returns : tie.Need-returns
 returns c =
-    let s = c .before .before .before .before .before .before in (
+    let s = entry (c .before) in (
       decodes-1 (now (s .args .stream)) (now (s .args .store)) (lent s) (now (s .args .shown)) (now (s .args .time)) (c .if1 .taken),
       λ i h. absurd (false≢true (sym (lt-leb (length (now (s .args .stream))) 16777216 (c .if1 .taken)) ∙ h)),
     )
 
 returns-2 : tie.Need-returns-2
 returns-2 c =
-    let s = entry (c .before) in
+    let s = begun (c .before) in
     let e = sym (c .before .is-record .ensures) ∙ not-true (c .before .is-record .result) (c .if2 .taken) in (
       decodes-2 (now (s .args .stream)) (now (s .args .store)) (lent s) (now (s .args .shown)) (now (s .args .time)) (small (c .before) .if1 .left) e,
       λ i h. absurd (false≢true (sym e ∙ i)),
@@ -54,23 +59,20 @@ module _ (c : tie.After-slice-known8) where
   ready = asked (gave .before)
 
   abbrev start : tie.Start
-  start = entry (ready .before)
+  start = begun (ready .before)
+
+  abbrev memory-left : Memory
+  memory-left = let x = gave .hand-out .last .1 .1 in memory (x .0) (x .1 .0) (x .1 .1 .0) (x .1 .1 .1 .0)
+
+  gives : {a : Outcome} → gave .hand-out .result ≡ a → told a (gave .hand-out .last .1 .0) memory-left (now (start .args .shown)) (now (start .args .time))
+      ≡ decodesIn (now (start .args .stream)) (now (start .args .store)) (lent start) (now (start .args .shown)) (now (start .args .time))
+  gives e = rw (← e) (decodes _ _ _ _ _ (small (ready .before) .if1 .left) (is ready) (gave .hand-out .ensures))
 
 returns-3 : tie.Need-returns-3
-returns-3 c =
-    let p = c .before .before .before in let s = start p in let o = gave p .hand-out .ensures in (
-      decodes-picture (now (s .args .stream)) (now (s .args .store)) (lent s) (now (s .args .shown)) (now (s .args .time))
-          (small (ready p .before) .if1 .left) (is (ready p)) o (c .before .outcome .given .1),
-      λ i h. o .holds,
-    )
+returns-3 c = let p = c .before .before .before in (gives p (c .before .outcome .given .1), λ i h. gave p .hand-out .ensures .holds)
 
 returns-4 : tie.Need-returns-4
-returns-4 c =
-    let p = c .before .before .before in let s = start p in let o = gave p .hand-out .ensures in (
-      decodes-number (now (s .args .stream)) (now (s .args .store)) (lent s) (now (s .args .shown)) (now (s .args .time))
-          (small (ready p .before) .if1 .left) (is (ready p)) o (c .before .outcome2 .given .1),
-      λ i h. o .holds,
-    )
+returns-4 c = let p = c .before .before .before in (gives p (c .before .outcome2 .given .1), λ i h. gave p .hand-out .ensures .holds)
 
 pub mpeg1-decode-spec : {M : Type 1} → statement M
 mpeg1-decode-spec =

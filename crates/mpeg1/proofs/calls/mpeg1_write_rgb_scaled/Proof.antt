@@ -1,11 +1,9 @@
-use mathlib.Core.Bool.{true}
 use mathlib.Core.List.{List}
 use mathlib.Core.Path.{_≡_, sym, ap, _∙_}
 use borrow.Author.Needs.{needs}
 use borrow.Author.Tests.{not-true, not-false}
 use denote.Ref.{now}
-use lib.Ieee.{Float}
-use lib.Ieee.{binary64, ofBits}
+use lib.Ieee.{Float, binary64, ofBits}
 use lib.ListN.{replicate}
 use Rattle.decoder.specs.Conversion as Conversion
 use Rattle.memory.specs.Memory.{Memory, memory, recordOf, isRecord}

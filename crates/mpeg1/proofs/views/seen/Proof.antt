@@ -4,7 +4,7 @@ use borrow.Author.Tests.{not-true, not-false}
 use denote.Ref.{now}
 use Rattle.decoder.specs.Possible.{possibleSequence}
 use Rattle.mpeg1.specs.Views.{sequenceSeen}
-use Rattle.mpeg1.proofs.Seen.{few, few-fresh, seen-short, seen-flag, seen-impossible, seen-is}
+use Rattle.mpeg1.proofs.Seen.{few, none-seen, seen-short, seen-flag, seen-impossible, seen-is}
 use Rattle.mpeg1.proofs.views.seen.Statement.{statement}
 use Rattle.mpeg1.proofs.views.seen.Tie as tie
 
@@ -17,13 +17,12 @@ entry c = c .before .before
 
 returns : tie.Need-returns
 returns c =
-    let s = c .before .before .before in
-    (c .fresh-sequence .ensures ∙ seen-short (now (s .args .numbers)) (c .before .if1 .taken), rw (c .fresh-sequence .ensures) few-fresh)
+    let n = now (c .before .before .before .args .numbers) in none-seen n (c .fresh-sequence .ensures) (seen-short n (c .before .if1 .taken))
 
 returns-2 : tie.Need-returns-2
 returns-2 c =
-    let e = c .before .before .before in
-    (c .fresh-sequence2 .ensures ∙ seen-flag (now (entry e .args .numbers)) (e .if1 .left) (c .before .if2 .taken), rw (c .fresh-sequence2 .ensures) few-fresh)
+    let e = c .before .before .before in let n = now (entry e .args .numbers) in
+    none-seen n (c .fresh-sequence2 .ensures) (seen-flag n (e .if1 .left) (c .before .if2 .taken))
 
 -- what was read, and the answer to the question
 read : (c : tie.After-possible-sequence) → let s = entry (asked c .before .before) in c .before .sequence-in .result ≡ sequenceSeen (now (s .args .numbers))
@@ -35,12 +34,9 @@ test c = c .possible-sequence .ensures ∙ ap possibleSequence (read c)
 
 returns-3 : tie.Need-returns-3
 returns-3 c =
-    let p = c .before .before in let q = asked p in let e = q .before .before in (
-      c .fresh-sequence3 .ensures
-          ∙ seen-impossible (now (entry e .args .numbers)) (e .if1 .left) (q .if2 .left)
-          (sym (test p) ∙ not-true (p .possible-sequence .result) (c .before .if3 .taken)),
-      rw (c .fresh-sequence3 .ensures) few-fresh,
-    )
+    let p = c .before .before in let q = asked p in let e = q .before .before in let n = now (entry e .args .numbers) in
+    none-seen n (c .fresh-sequence3 .ensures)
+    (seen-impossible n (e .if1 .left) (q .if2 .left) (sym (test p) ∙ not-true (p .possible-sequence .result) (c .before .if3 .taken)))
 
 returns-4 : tie.Need-returns-4
 returns-4 c =
