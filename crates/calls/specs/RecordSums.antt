@@ -11,8 +11,8 @@ use Rattle.picture.specs.declared.state.Matrices.{Matrices}
 use Rattle.picture.specs.declared.state.Motion.{Motion}
 use Rattle.picture.specs.declared.state.Picture.{Picture}
 use Rattle.picture.specs.declared.state.Slice.{Slice}
+use Rattle.header.specs.declared.state.Sequence.{Sequence}
 use Rattle.decoder.specs.declared.record.Clock.{Clock}
-use Rattle.decoder.specs.declared.record.Sequence.{Sequence}
 use Rattle.decoder.specs.declared.record.Decoder.{Decoder}
 use Rattle.decoder.specs.Record.{place}
 use Rattle.calls.specs.Sums.{summed, summedBelow}

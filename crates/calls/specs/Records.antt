@@ -13,8 +13,8 @@ use Rattle.lists.specs.Numbers.{numberAt}
 use Rattle.picture.specs.declared.state.Motion.{Motion}
 use Rattle.picture.specs.declared.state.Picture.{Picture}
 use Rattle.picture.specs.declared.state.Slice.{Slice}
+use Rattle.header.specs.declared.state.Sequence.{Sequence}
 use Rattle.decoder.specs.declared.record.Clock.{Clock}
-use Rattle.decoder.specs.declared.record.Sequence.{Sequence}
 use Rattle.decoder.specs.declared.record.Decoder.{Decoder}
 
 abbrev pub flagAt : List ℕ → ℕ → Bool

@@ -5,7 +5,7 @@ use crate::sums::sum_bytes;
 use crate::sums::sum_numbers;
 use decoder::record::Clock;
 use decoder::record::Decoder;
-use decoder::record::Sequence;
+use header::state::Sequence;
 use lists::numbers::held;
 use picture::state::Matrices;
 use picture::state::Motion;

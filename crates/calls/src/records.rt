@@ -4,7 +4,7 @@ use bits::position::BitPosition;
 use bits::reader::Reader;
 use decoder::record::Clock;
 use decoder::record::Decoder;
-use decoder::record::Sequence;
+use header::state::Sequence;
 use lists::block::block_of;
 use lists::block::matrix_of;
 use lists::bytes::part;

@@ -10,9 +10,9 @@ use borrow.Author.Tests.{le-leb, lt-leb}
 use Rattle.bits.specs.Bits.{has}
 use Rattle.bits.specs.Programs.{Out, eqZ}
 use Rattle.bits.specs.Runs.{Runs}
+use Rattle.header.specs.Sequences.{Size, Rest, size, rest}
 use Rattle.decoder.specs.declared.record.Decoder.{Decoder}
 use Rattle.decoder.specs.Record.{place, startCode, storeBytes}
-use Rattle.decoder.specs.Sequences.{Size, Rest, size, rest}
 use Rattle.decoder.specs.Headers.{refused, passed, sized, accepted, findSequence, askSize, askHeader, askStore}
 use Rattle.decoder.specs.Asking.{asked}
 

@@ -1,33 +1,21 @@
 -- RULES O.4: accepting a header sets the first 1,152 × macroblocks bytes of the store to 0, and later ones stay.
-use mathlib.Core.Path.{_≡_, refl, sym, ap, subst, _∙_}
+use mathlib.Core.Path.{_≡_, refl, subst}
 use mathlib.Core.Bool.{false}
-use mathlib.Core.List.{List, _++_}
-use Prim.Native.Nat.{ℕ, _+_, _≤_}
-use native.Mathlib.Omega.{arith}
+use mathlib.Core.List.{List}
+use Prim.Native.Nat.{ℕ, _≤_}
 use lib.Dec.{leb}
-use lib.ListN.{length, getD, drop, replicate, length-replicate, length-drop, length-append}
+use lib.ListN.{length}
 use borrow.Author.Tests.{leb-true}
-use lib.Seq.{getD-drop, getD-append-add}
 use Rattle.laws.proofs.Tests.{by-case}
+use Rattle.header.specs.Store.{cleared}
 use Rattle.decoder.specs.declared.record.Decoder.{Decoder}
 use Rattle.decoder.specs.declared.answers.Opening.{Opening}
 use Rattle.decoder.specs.declared.answers.Opening.the-variants as O
-use Rattle.decoder.specs.Record.{Left, fresh, storeBytes, cleared}
+use Rattle.decoder.specs.Record.{Left, fresh, storeBytes}
 use Rattle.decoder.specs.Headers.{Asked, refused, passed, askHeader, askStore}
 use Rattle.decoder.specs.Opening.{opened, openingFrom, opening}
 use Rattle.decoder.specs.Turns.{going}
 use Rattle.decoder.specs.HandOut.{begun}
-
-pub cleared-later : (n : ℕ) (l : List ℕ) (i : ℕ) → getD (cleared n l) (n + i) 0 ≡ getD l (n + i) 0
-unfolding cleared
-cleared-later n l i =
-    ap (λ (m : ℕ). getD (replicate n 0 ++ drop n l) (m + i) 0) (sym (length-replicate {A = ℕ} n 0))
-    ∙ getD-append-add (replicate n 0) (drop n l) i 0
-    ∙ getD-drop n l i 0
-
-pub cleared-length : (n : ℕ) (l : List ℕ) → n ≤ length l → length (cleared n l) ≡ length l
-unfolding cleared
-cleared-length n l h = omega (arith, length-append (replicate n 0) (drop n l), length-replicate {A = ℕ} n 0, length-drop n l)
 
 -- what a call that accepts a header leaves in the store
 abbrev Clears : List ℕ → Decoder → List ℕ → Type 0

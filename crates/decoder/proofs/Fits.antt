@@ -1,61 +1,30 @@
 -- Where a record fits: what question 2 asks for is enough, and the changes of the record keep it. Assumes nothing.
 use mathlib.Core.Path.{_≡_, refl, subst}
-use mathlib.Core.Bool.{Bool, true, false, cond, _&&_, _||_}
+use mathlib.Core.Bool.{true, _||_}
 use mathlib.Core.List.{List, [], _∷_}
-use Prim.Native.Nat.{ℕ, _*_, _≤_}
+use Prim.Native.Nat.{ℕ, _≤_}
 use native.Mathlib.Omega.{arith}
 use lib.Dec.{eqb, leb}
 use lib.IntN.{ℤ, pos, negℤ}
-use borrow.Author.Tests.{eqb-true, leb-true}
+use borrow.Author.Tests.{leb-true}
 use Rattle.laws.proofs.Tests.{each}
 use Rattle.bits.specs.declared.reader.Reader.{Reader}
 use Rattle.bits.specs.Programs.{Out, findStartCode}
 use Rattle.bits.specs.Runs.{Reading}
-use Rattle.picture.specs.declared.state.Sizes.{Sizes}
 use Rattle.picture.specs.Possible.{between, possiblePicture}
 use Rattle.picture.proofs.Possible.{picture-of}
-use Rattle.decoder.specs.declared.record.Sequence.{Sequence}
+use Rattle.header.specs.Possible.{possibleSequence}
+use Rattle.header.specs.Sequences.{Size, Rest}
+use Rattle.header.proofs.Sizing.{sized-of, possible-sized}
 use Rattle.decoder.specs.declared.record.Decoder.{Decoder}
 use Rattle.decoder.specs.Record.{place, fresh, searchedAs}
-use Rattle.decoder.specs.Possible.{across, sizesOf, sameSizes, possibleSequence, possible}
-use Rattle.decoder.specs.Sequences.{Size, Rest}
+use Rattle.decoder.specs.Possible.{possible}
 use Rattle.decoder.specs.Headers.{sized, accepted}
 use Rattle.decoder.specs.Fit.{Fit}
 use Rattle.decoder.proofs.Searches.{Sought, hit, miss, sought}
 use Rattle.decoder.proofs.Starts.{fresh-starts}
 
 -- ---- question 2
-
--- the sizes are of this many macroblocks
-record Sized (z : Sizes) : Type 0 where
-  pub across : z .«mb_width» ≤ 256
-  pub down : z .«mb_height» ≤ 256
-  pub size : z .«mb_size» ≡ z .«mb_width» * z .«mb_height»
-
-sized-as : (x z : Sizes) → sameSizes x z ≡ true → Sized z → Sized x
-sized-as x z e k =
-    let h = each _ (_ ∷ _ ∷ []) e in
-    let a : x .«mb_width» ≡ z .«mb_width» = eqb-true _ _ (h 0) in
-    let b : x .«mb_height» ≡ z .«mb_height» = eqb-true _ _ (h 1) in
-    let c : x .«mb_size» ≡ z .«mb_size» = eqb-true _ _ (h 2) in
-    record { across = rw a (k .across); down = rw b (k .down); size = rw (a, b, c) (k .size) }
-
-sized-of : (w h : ℕ) → w ≤ 4095 → h ≤ 4095 → Sized (sizesOf w h)
-sized-of w h p q = record { across = omega arith; down = omega arith; size = refl }
-
--- what the header says of the sizes
-abbrev sizesTest : Sequence → Bool → Bool
-sizesTest q b =
-    cond b (leb 1 (q .width) && leb 1 (q .height) && sameSizes (q .sizes) (sizesOf (q .width) (q .height)))
-    (sameSizes (q .sizes) (record { «mb_width» = 0; «mb_height» = 0; «mb_size» = 0 }))
-
-sized-by : (q : Sequence) → q .width ≤ 4095 → q .height ≤ 4095 → (b : Bool) → sizesTest q b ≡ true → Sized (q .sizes)
-sized-by q w h true e =
-    sized-as (q .sizes) (sizesOf (q .width) (q .height))
-    (each (leb 1 (q .width)) (leb 1 (q .height) ∷ sameSizes (q .sizes) (sizesOf (q .width) (q .height)) ∷ []) e 2)
-    (sized-of (q .width) (q .height) w h)
-sized-by q w h false e =
-    sized-as (q .sizes) (record { «mb_width» = 0; «mb_height» = 0; «mb_size» = 0 }) e (record { across = omega arith; down = omega arith; size = refl })
 
 -- its parts
 pub possible-parts : (d : Decoder) → possible d ≡ true
@@ -70,15 +39,12 @@ possible-parts d e =
 pub fit-of : {d : Decoder} → possible d ≡ true → Fit d
 fit-of {d} e =
     let p = possible-parts d e in
-    let q = d .sequence in
-    let h = each (leb (q .width) 4095) (leb (q .height) 4095 ∷ sizesTest q (q .«has_sequence_header») ∷ []) (p .1) in
-    let w : q .width ≤ 4095 = leb-true _ _ (h 0) in
-    let v : q .height ≤ 4095 = leb-true _ _ (h 1) in
-    let z = sized-by q w v (q .«has_sequence_header») (h 2) in
+    let k = possible-sized (d .sequence) (p .1) in
+    let z = k .2 in
     record {
       place = p .0;
-      wide = w;
-      high = v;
+      wide = k .0;
+      high = k .1;
       across = z .across;
       down = z .down;
       size = z .size;

@@ -8,11 +8,12 @@ use lib.ListN.{length}
 use borrow.Author.Tests.{le-leb, lt-leb, eq-eqb, ne-eqb}
 use Rattle.laws.specs.Turns.{Turn, again, stop}
 use Rattle.laws.proofs.Loops.{turns-again, turns-stop}
+use Rattle.header.specs.Store.{cleared}
 use Rattle.decoder.specs.declared.record.Decoder.{Decoder}
 use Rattle.decoder.specs.declared.turns.Turned.{Turned}
 use Rattle.decoder.specs.declared.answers.Outcome.{Outcome}
 use Rattle.decoder.specs.declared.answers.Outcome.the-variants.{Refused}
-use Rattle.decoder.specs.Record.{stopAs, Left, left, storeBytes, cleared}
+use Rattle.decoder.specs.Record.{stopAs, Left, left, storeBytes}
 use Rattle.decoder.specs.Possible.{possibleWith}
 use Rattle.bits.specs.Programs.{if_then_else_}
 use Rattle.decoder.specs.Headers.{Asked, passed, askHeader, askStore}

@@ -1,12 +1,8 @@
-pub mod Entries
-pub mod Floats
 pub mod Asking
 pub mod Openings
 pub mod Converting
-pub mod Sizing
 pub mod Starts
 pub mod TwoTurns
-pub mod Clearing
 pub mod Seeking
 pub mod Fits
 pub mod Showing

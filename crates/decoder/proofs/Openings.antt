@@ -5,9 +5,10 @@ use Prim.Native.Nat.{ℕ, zero, suc, _≤_, _<_}
 use native.Mathlib.Omega.{arith}
 use lib.ListN.{length}
 use borrow.Author.Tests.{le-leb, lt-leb}
+use Rattle.header.specs.Store.{cleared}
 use Rattle.decoder.specs.declared.record.Decoder.{Decoder}
 use Rattle.decoder.specs.declared.answers.Opening.the-variants.{Ready, Refused}
-use Rattle.decoder.specs.Record.{fresh, left, storeBytes, cleared}
+use Rattle.decoder.specs.Record.{fresh, left, storeBytes}
 use Rattle.decoder.specs.Headers.{askHeader, askStore}
 use Rattle.decoder.specs.Opening.{opened, openingFrom, opening}
 use Rattle.decoder.specs.Asking.{asked}

@@ -6,10 +6,11 @@ use lib.Dec.{eqb, leb}
 use lib.ListN.{length}
 use Rattle.laws.specs.Turns.{turns}
 use Rattle.bits.specs.Programs.{if_then_else_}
+use Rattle.header.specs.Store.{cleared}
 use Rattle.decoder.specs.declared.record.Decoder.{Decoder}
 use Rattle.decoder.specs.declared.answers.Outcome.{Outcome}
 use Rattle.decoder.specs.declared.answers.Outcome.the-variants.{Refused}
-use Rattle.decoder.specs.Record.{stopAs, Left, left, storeBytes, cleared}
+use Rattle.decoder.specs.Record.{stopAs, Left, left, storeBytes}
 use Rattle.decoder.specs.Possible.{possibleWith}
 use Rattle.decoder.specs.Headers.{Asked, refused, passed, askHeader, askStore}
 use Rattle.decoder.specs.Turns.{Going, going, Ended, gave, stopped, pictureTurn}

@@ -7,11 +7,11 @@ use lib.IntN.{pos, negsuc}
 use lib.ListN.{length}
 use Rattle.bits.specs.Bits.{has}
 use Rattle.bits.specs.Programs.{Out, run, eqZ, findStartCode, if_then_else_}
-use Rattle.picture.specs.State.{storesAs}
+use Rattle.picture.specs.State.{storesAs, firstStores}
+use Rattle.header.specs.Possible.{sizesOf}
+use Rattle.header.specs.Sequences.{Size, Rest, size, rest, aspectOf, rateOf}
 use Rattle.decoder.specs.declared.record.Decoder.{Decoder}
-use Rattle.decoder.specs.Record.{place, startCode, firstStores, placeAs, pictureAs, sequenceAs, clockAs, searchedAs, storeBytes}
-use Rattle.decoder.specs.Possible.{sizesOf}
-use Rattle.decoder.specs.Sequences.{Size, Rest, size, rest, aspectOf, rateOf}
+use Rattle.decoder.specs.Record.{place, startCode, placeAs, pictureAs, sequenceAs, clockAs, searchedAs, storeBytes}
 
 -- the answer to some questions: the first "no" with its number and the record that it leaves, or the record with which the call goes on
 pub data Asked : Type 0 where

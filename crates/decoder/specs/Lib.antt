@@ -3,8 +3,6 @@ pub mod Answers
 pub mod Possible
 pub mod Fit
 pub mod Asking
-pub mod Headed
-pub mod Sequences
 pub mod Headers
 pub mod Opening
 pub mod Turns

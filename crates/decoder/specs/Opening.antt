@@ -4,10 +4,11 @@ use Prim.Native.Nat.{ℕ}
 use lib.Dec.{leb}
 use lib.ListN.{length}
 use Rattle.bits.specs.Programs.{if_then_else_}
+use Rattle.header.specs.Store.{cleared}
 use Rattle.decoder.specs.declared.record.Decoder.{Decoder}
 use Rattle.decoder.specs.declared.answers.Opening.{Opening}
 use Rattle.decoder.specs.declared.answers.Opening.the-variants.{Ready, Refused}
-use Rattle.decoder.specs.Record.{fresh, Left, left, storeBytes, cleared}
+use Rattle.decoder.specs.Record.{fresh, Left, left, storeBytes}
 use Rattle.decoder.specs.Headers.{Asked, refused, passed, askHeader, askStore}
 
 -- the store becomes 0 where a header is accepted

@@ -1,33 +1,12 @@
 -- RULES Q2: is a record possible?
-use mathlib.Core.Bool.{Bool, cond, _&&_, _||_}
+use mathlib.Core.Bool.{Bool, _&&_, _||_}
 use mathlib.Core.List.{List}
-use Prim.Native.Nat.{ℕ, _+_, _*_, _/_}
+use Prim.Native.Nat.{ℕ}
 use lib.Dec.{eqb, leb}
-use Rattle.picture.specs.declared.state.Sizes.{Sizes}
 use Rattle.picture.specs.Possible.{possiblePicture}
-use Rattle.decoder.specs.declared.record.Sequence.{Sequence}
+use Rattle.header.specs.Possible.{possibleSequence}
 use Rattle.decoder.specs.declared.record.Decoder.{Decoder}
 use Rattle.decoder.specs.Record.{place}
-
--- RULES O.4: macroblocks in a row, and rows of them
-abbrev pub across : ℕ → ℕ
-across width = (width + 15) / 16
-
--- RULES O.4: the macroblock sizes of a picture
-abbrev pub sizesOf : ℕ → ℕ → Sizes
-sizesOf width height = record { «mb_width» = across width; «mb_height» = across height; «mb_size» = across width * across height }
-
--- RULES Q2: are they the same?
-abbrev pub sameSizes : Sizes → Sizes → Bool
-sameSizes x z = eqb (x .«mb_width») (z .«mb_width») && eqb (x .«mb_height») (z .«mb_height») && eqb (x .«mb_size») (z .«mb_size»)
-
--- width and height, and the macroblock sizes that follow from them; these are 0 with no header
-abbrev pub possibleSequence : Sequence → Bool
-possibleSequence q =
-    leb (q .width) 4095 && leb (q .height) 4095 &&
-    cond (q .«has_sequence_header»)
-    (leb 1 (q .width) && leb 1 (q .height) && sameSizes (q .sizes) (sizesOf (q .width) (q .height)))
-    (sameSizes (q .sizes) (record { «mb_width» = 0; «mb_height» = 0; «mb_size» = 0 }))
 
 -- position, count of pictures handed out, stop mark, and the parts above: the question as a conversion puts it, which is given no stream
 unfoldable pub possible : Decoder → Bool

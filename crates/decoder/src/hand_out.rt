@@ -5,17 +5,17 @@ use crate::headers::Asked;
 use crate::headers::ask_header;
 use crate::possible::possible_with;
 use crate::record::Decoder;
-use crate::record::clear;
 use crate::record::store_bytes;
 use crate::turns::Turned;
 use crate::turns::picture_turn;
+use header::store::begin;
 ghost use mathlib.Core.Path.{_≡_};
 ghost use mathlib.Core.List.{List};
 ghost use Prim.Native.Nat.{ℕ, _≤_};
 ghost use lib.ListN.{length};
 ghost use Rattle.bits.specs.Programs.{if_then_else_};
 ghost use Rattle.decoder.specs.declared.answers.Outcome.the-variants as Outcomes;
-ghost use Rattle.decoder.specs.Record.{left, storeBytes, cleared};
+ghost use Rattle.decoder.specs.Record.{left, storeBytes};
 ghost use Rattle.decoder.specs.Fit.{Fit};
 ghost use Rattle.decoder.specs.Headers.{passed, askHeader};
 ghost use Rattle.decoder.specs.Asking.{asked};
@@ -60,17 +60,6 @@ fn ask_first(s: &[u8], d: Decoder) -> Asked
         };
     }
     ask_header(s, d)
-}
-
-// RULES O.4: a header that this call has accepted sets the store to 0.
-fn begin(store: &mut [u8], had_header: bool, n: usize)
-    requires { ⌜ n ≤ length (now store) ⌝ }
-    ensures { λ r. ⌜ now (store .exit) ≡ (if «had_header» then now (store .entry) else cleared n (now (store .entry))) ⌝ }
-{
-    if had_header {
-        return;
-    }
-    clear(store, n);
 }
 
 // RULES part 8: the pictures, from the record d on; `before` is the one passed in, which 8 and 9 leave with the stop mark (8.14).

@@ -1,16 +1,16 @@
 // RULES Q3 to Q6: the questions on the sequence header, and its acceptance.
-use crate::possible::sizes_of;
 use crate::record::Clock;
 use crate::record::Decoder;
-use crate::record::Sequence;
 use crate::record::has_code;
 use crate::record::searched_as;
 use crate::record::store_bytes;
-use crate::sequences::RestRead;
-use crate::sequences::aspect_of;
-use crate::sequences::rate_of;
-use crate::sequences::read_rest;
-use crate::sequences::read_size;
+use header::possible::sizes_of;
+use header::sequences::RestRead;
+use header::sequences::aspect_of;
+use header::sequences::rate_of;
+use header::sequences::read_rest;
+use header::sequences::read_size;
+use header::state::Sequence;
 use picture::state::Stores;
 ghost use mathlib.Core.Path.{_≡_};
 ghost use Prim.Native.Nat.{_≤_, _<_};

@@ -1,18 +1,14 @@
 // The decoder's record, by value, and its changes.
 use bits::position::BitPosition;
 use bits::reader::Reader;
-use picture::state::Matrices;
-use picture::state::Motion;
+use header::state::Sequence;
+use header::state::fresh_sequence;
+use picture::fresh::fresh_picture;
 use picture::state::Picture;
-use picture::state::Sizes;
-use picture::state::Slice;
-use picture::state::Stores;
 ghost use mathlib.Core.Path.{_≡_};
-ghost use Prim.Native.Nat.{_≤_};
-ghost use lib.ListN.{length};
 ghost use Rattle.bits.specs.Programs.{eqZ};
 ghost use Rattle.decoder.specs.Fit.{Fit};
-ghost use Rattle.decoder.specs.Record.{searchedAs, storeBytes, cleared, freshMotion, freshPicture, freshSequence, fresh};
+ghost use Rattle.decoder.specs.Record.{searchedAs, storeBytes, fresh};
 ghost use Rattle.decoder.specs.Turns.{timeOf, counted};
 
 // RULES 8.12: rate, aspect, the next time and the time shown.
@@ -21,15 +17,6 @@ pub struct Clock {
     pub pixel_aspect_ratio: f64,
     pub time: f64,
     pub last_frame_time: f64,
-}
-
-// What a sequence header sets.
-pub struct Sequence {
-    pub has_sequence_header: bool,
-    pub width: usize,
-    pub height: usize,
-    pub sizes: Sizes,
-    pub matrices: Matrices,
 }
 
 // `stop` is the stop mark: 0, 8 or 9.
@@ -61,18 +48,6 @@ pub fn store_bytes(d: Decoder) -> usize
 {
     let n = d.sequence.sizes.mb_size;
     1152 * n
-}
-
-// RULES O.4: the first n bytes become 0.
-pub fn clear(store: &mut [u8], n: usize)
-    requires { ⌜ n ≤ length (now store) ⌝ }
-    ensures { λ r. ⌜ now (store .exit) ≡ cleared n (now (store .entry)) ⌝ }
-{
-    let mut i: usize = 0;
-    while i < n {
-        store[i] = 0;
-        i += 1;
-    }
 }
 
 // RULES 8.9: the time of n pictures at a rate, rounded once.
@@ -108,69 +83,6 @@ pub fn has_code(p: Picture, code: i32) -> bool
 {
     let last = p.start_code;
     last == code
-}
-
-fn fresh_motion() -> Motion
-    ensures { λ r. ⌜ r ≡ freshMotion ⌝ }
-{
-    Motion {
-        full_px: false,
-        is_set: false,
-        r_size: 0,
-        h: 0,
-        v: 0,
-    }
-}
-
-fn fresh_picture() -> Picture
-    ensures { λ r. ⌜ r ≡ freshPicture ⌝ }
-{
-    let stores = Stores {
-        cur: 0,
-        fwd: 1,
-        bwd: 2,
-    };
-    let motion_forward = fresh_motion();
-    let motion_backward = fresh_motion();
-    let dc_predictor = [128i32; 3];
-    let block_data = [0i32; 64];
-    let slice = Slice {
-        quantizer_scale: 0,
-        macroblock_address: 0,
-        motion_forward,
-        motion_backward,
-        dc_predictor,
-        block_data,
-    };
-    Picture {
-        picture_type: 0,
-        start_code: -1,
-        stores,
-        slice,
-    }
-}
-
-fn fresh_sequence() -> Sequence
-    ensures { λ r. ⌜ r ≡ freshSequence ⌝ }
-{
-    let sizes = Sizes {
-        mb_width: 0,
-        mb_height: 0,
-        mb_size: 0,
-    };
-    let intra_quant_matrix = [0u8; 64];
-    let non_intra_quant_matrix = [0u8; 64];
-    let matrices = Matrices {
-        intra_quant_matrix,
-        non_intra_quant_matrix,
-    };
-    Sequence {
-        has_sequence_header: false,
-        width: 0,
-        height: 0,
-        sizes,
-        matrices,
-    }
 }
 
 // RULES O.1: the fresh record.

@@ -11,19 +11,22 @@ use borrow.Author.Tests.{eqb-true, leb-true, leb-false}
 use Rattle.laws.proofs.Tests.{by-case, each}
 use Rattle.picture.specs.Possible.{possiblePicture}
 use Rattle.picture.proofs.Possible.{stores-of, picture-of}
+use Rattle.picture.specs.State.{firstStores}
+use Rattle.header.specs.Store.{cleared}
+use Rattle.header.specs.Possible.{possibleSequence}
+use Rattle.header.proofs.Clearing.{cleared-later, cleared-length}
 use Rattle.decoder.specs.declared.record.Decoder.{Decoder}
 use Rattle.decoder.specs.declared.answers.Opening.{Opening}
 use Rattle.decoder.specs.declared.answers.Opening.the-variants as O
 use Rattle.decoder.specs.declared.answers.Shown.{Shown}
 use Rattle.decoder.specs.declared.answers.Outcome.{Outcome}
 use Rattle.decoder.specs.declared.answers.Outcome.the-variants as H
-use Rattle.decoder.specs.Record.{Left, fresh, firstStores, place, storeBytes, cleared}
-use Rattle.decoder.specs.Possible.{possibleSequence, possible, possibleWith}
+use Rattle.decoder.specs.Record.{Left, fresh, place, storeBytes}
+use Rattle.decoder.specs.Possible.{possible, possibleWith}
 use Rattle.decoder.specs.Headers.{Asked, refused, passed, accepted, askHeader, askStore}
 use Rattle.decoder.specs.Opening.{opened, openingFrom, opening}
 use Rattle.decoder.specs.Turns.{Going, going, Ended}
 use Rattle.decoder.specs.HandOut.{ended, askFirst, begun, goOn, handOut}
-use Rattle.decoder.proofs.Cleared.{cleared-later, cleared-length}
 use Rattle.demands.specs.Questions.{withHeader, headed}
 use Rattle.demands.specs.Stores.{SameFrom}
 use Rattle.demands.specs.After as A

@@ -13,9 +13,9 @@ use Rattle.bits.specs.Bits.{has, bitsAt}
 use Rattle.bits.specs.Programs.{Out, run, bind, eqZ, findStartCode}
 use Rattle.bits.proofs.Programs.{served-got, served-next}
 use Rattle.laws.proofs.Tests.{by-case}
+use Rattle.header.specs.Sequences.{size}
 use Rattle.decoder.specs.declared.record.Decoder.{Decoder}
 use Rattle.decoder.specs.Record.{place, startCode, searchedAs}
-use Rattle.decoder.specs.Sequences.{size}
 use Rattle.decoder.specs.Headers.{Asked, refused, passed, findSequence, askSize, askHeader}
 use Rattle.decoder.proofs.Searches.{eqZ-is}
 use Rattle.demands.specs.Codes.{NoneFound}

@@ -10,10 +10,11 @@ use Rattle.codes.specs.Matrices.{premultiplierMatrix, bounded}
 use Rattle.argb.specs.Pixel.{luma, red, green, blue, argb}
 use Rattle.argb.specs.Scaled.{samplePixel, outputPixel, pixelAt, scaled}
 use Rattle.laws.specs.Each.{allBelow}
+use Rattle.header.specs.Possible.{sizesOf}
 use Rattle.decoder.specs.declared.record.Decoder.{Decoder}
 use Rattle.decoder.specs.declared.answers.Converted.the-variants.{Written}
 use Rattle.decoder.specs.Record.{fresh, sequenceAs}
-use Rattle.decoder.specs.Possible.{sizesOf, possible}
+use Rattle.decoder.specs.Possible.{possible}
 use Rattle.decoder.specs.Conversion.{area, converted}
 
 -- the fresh record with a header of 1 × 1 samples

@@ -9,6 +9,7 @@ use native.Mathlib.Omega.{arith}
 use lib.Dec.{leb}
 use lib.ListN.{length}
 use borrow.Author.Tests.{leb-true, leb-false}
+use Rattle.conversion.specs.Pictures.{fits}
 use Rattle.decoder.specs.declared.record.Decoder.{Decoder}
 use Rattle.decoder.specs.declared.answers.Opening.{Opening}
 use Rattle.decoder.specs.declared.answers.Opening.the-variants as O
@@ -20,7 +21,7 @@ use Rattle.decoder.specs.declared.answers.Converted.{Converted}
 use Rattle.decoder.specs.declared.answers.Converted.the-variants as C
 use Rattle.decoder.specs.Record.{Left, fresh, storeBytes}
 use Rattle.decoder.specs.Possible.{possible}
-use Rattle.decoder.specs.Conversion.{Area, fits}
+use Rattle.decoder.specs.Conversion.{Area}
 use Rattle.demands.specs.Calls.{Opens, Decodes, Converts, openingNumber, handOutNumber, conversionNumber}
 use Rattle.demands.specs.Questions.{firstNo, IsFirstNo, withHeader, headed, openingAsks, handOutAsks, conversionAsks}
 use Rattle.demands.specs.Numbers.{among, openingNumbers, handOutNumbers, conversionNumbers}

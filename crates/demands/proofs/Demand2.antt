@@ -15,6 +15,7 @@ use Rattle.argb.specs.Scaled.{pixelAt, scaled}
 use Rattle.argb.proofs.Pointwise.{scaled-inside, scaled-outside, scaled-none}
 use Rattle.laws.proofs.Lists.{length-row}
 use Rattle.laws.proofs.Tests.{each}
+use Rattle.conversion.specs.Pictures.{pictureIn, fits}
 use Rattle.decoder.specs.declared.record.Decoder.{Decoder}
 use Rattle.decoder.specs.declared.answers.Opening.{Opening}
 use Rattle.decoder.specs.declared.answers.Opening.the-variants as O
@@ -27,7 +28,7 @@ use Rattle.decoder.specs.declared.answers.Converted.{Converted}
 use Rattle.decoder.specs.declared.answers.Converted.the-variants as C
 use Rattle.decoder.specs.Record.{Left, fresh, storeBytes}
 use Rattle.decoder.specs.Possible.{possible}
-use Rattle.decoder.specs.Conversion.{Area, pictureIn, fits}
+use Rattle.decoder.specs.Conversion.{Area}
 use Rattle.demands.specs.Calls.{Opens, Decodes, Converts, openingNumber, handOutNumber, conversionNumber}
 use Rattle.demands.specs.Questions.{ask, firstNo, this-one, withHeader, headed, openingAsks, handOutAsks, conversionAsks}
 use Rattle.demands.specs.Stores.{SameFrom}
@@ -116,9 +117,9 @@ module _ (d : Decoder) (l : List ℕ) (k : ℕ) (a : List ℕ) (w h : ℕ) (r : 
   pub convert-no-question : r ≡ C.Written → firstNo (conversionAsks d l k a w h) ≡ 0
   convert-no-question e = sym (D1.convert-number d l k a w h r b gave) ∙ ap conversionNumber e
 
-  pub convert-area : r ≡ C.Written → b ≡ scaled (pictureIn d l k) w h a
+  pub convert-area : r ≡ C.Written → b ≡ scaled (pictureIn (d .sequence) l k) w h a
   convert-area e =
-      subst (λ (x : Area). x .answer ≡ C.Written → x .area ≡ scaled (pictureIn d l k) w h a) (sym gave) (conversion-written d l k a w h) e
+      subst (λ (x : Area). x .answer ≡ C.Written → x .area ≡ scaled (pictureIn (d .sequence) l k) w h a) (sym gave) (conversion-written d l k a w h) e
 
   -- D2.3: numbers from w × h on stay, whatever the answer
   pub convert-same : SameFrom (w * h) a b
@@ -128,12 +129,12 @@ module _ (d : Decoder) (l : List ℕ) (k : ℕ) (a : List ℕ) (w h : ℕ) (r : 
       go : (o : Converted) → r ≡ o → SameFrom (w * h) a b
       go C.Written q =
           subst (SameFrom (w * h) a) (sym (convert-area q))
-          (record { long = length-row a 0 (pixelAt (pictureIn d l k) w h) (w * h); same = scaled-outside (pictureIn d l k) w h a })
+          (record { long = length-row a 0 (pixelAt (pictureIn (d .sequence) l k) w h) (w * h); same = scaled-outside (pictureIn (d .sequence) l k) w h a })
       go (C.Refused n) q = subst (SameFrom (w * h) a) (sym (D1.convert-left d l k a w h r b gave n q .1)) same-from
 
   -- D2.2, pixel by pixel: RULES 9.1 to 9.3
   pub convert-pixel : r ≡ C.Written → (x y : ℕ) → x < w → y < h
-      → let p = pictureIn d l k in
+      → let p = pictureIn (d .sequence) l k in
       let sx = x * p .width / w in
       let sy = y * p .height / h in
       let c = sy / 2 * (p .lumaWidth / 2) + sx / 2 in
@@ -142,7 +143,7 @@ module _ (d : Decoder) (l : List ℕ) (k : ℕ) (a : List ℕ) (w h : ℕ) (r : 
       let f = each (leb w 4096) (leb h 4096 ∷ leb (w * h) (length a) ∷ [])
       (all-yes (possible d) (leb (storeBytes d) (length l)) (d .sequence .«has_sequence_header» && leb k 2) (fits w h a) (convert-no-question e)) 2 in
       ap (λ (z : List ℕ). getD z (y * w + x) 0) (convert-area e)
-      ∙ scaled-inside (pictureIn d l k) w h a (leb-true (w * h) (length a) f) x y p q
+      ∙ scaled-inside (pictureIn (d .sequence) l k) w h a (leb-true (w * h) (length a) f) x y p q
 
   -- QE: a size of 0 succeeds and writes nothing, whatever the area's length
   pub convert-nothing : possible d ≡ true → storeBytes d ≤ length l → d .sequence .«has_sequence_header» ≡ true → k ≤ 2 → w ≤ 4096 → h ≤ 4096
@@ -152,4 +153,4 @@ module _ (d : Decoder) (l : List ℕ) (k : ℕ) (a : List ℕ) (w h : ℕ) (r : 
       let none : w * h ≡ 0 = ⊎-elim (λ g. ap (λ (n : ℕ). n * h) g ∙ zero-mul h) (λ g. ap (λ (n : ℕ). w * n) g ∙ mul-zero w) z in
       let fit : leb (w * h) (length a) ≡ true = le-leb (w * h) (length a) (omega arith) in
       let i = convert-written (rw (p, le-leb (storeBytes d) (length l) q, e, le-leb k 2 f, le-leb w 4096 u, le-leb h 4096 v, fit)) in
-      (i, convert-area i ∙ scaled-none (pictureIn d l k) w h a z)
+      (i, convert-area i ∙ scaled-none (pictureIn (d .sequence) l k) w h a z)

@@ -11,10 +11,11 @@ use borrow.Author.Tests.{le-leb, eq-eqb}
 use Rattle.laws.specs.Turns.{Turn, again, stop}
 use Rattle.laws.proofs.Tests.{by-case}
 use Rattle.picture.proofs.Possible.{picture-of}
+use Rattle.header.specs.Store.{cleared}
 use Rattle.decoder.specs.declared.record.Decoder.{Decoder}
 use Rattle.decoder.specs.declared.answers.Outcome.{Outcome}
 use Rattle.decoder.specs.declared.answers.Outcome.the-variants as H
-use Rattle.decoder.specs.Record.{Left, stopAs, storeBytes, cleared}
+use Rattle.decoder.specs.Record.{Left, stopAs, storeBytes}
 use Rattle.decoder.specs.Possible.{possibleWith}
 use Rattle.decoder.specs.Headers.{Asked, refused, passed, askHeader, askStore}
 use Rattle.decoder.specs.Turns.{Going, going, Ended, gave, stopped, nextPicture}

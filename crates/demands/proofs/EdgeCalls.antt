@@ -12,12 +12,13 @@ use borrow.Author.Tests.{le-leb, lt-leb}
 use Rattle.laws.specs.Turns.{Turn, again, stop}
 use Rattle.laws.proofs.Tests.{by-case}
 use Rattle.bits.specs.Programs.{eqZ}
+use Rattle.header.specs.Store.{cleared}
 use Rattle.decoder.specs.declared.record.Decoder.{Decoder}
 use Rattle.decoder.specs.declared.answers.Opening.the-variants as O
 use Rattle.decoder.specs.declared.answers.Opened.{Opened}
 use Rattle.decoder.specs.declared.answers.Outcome.the-variants as H
 use Rattle.decoder.specs.declared.answers.Handed.{Handed}
-use Rattle.decoder.specs.Record.{fresh, place, startCode, storeBytes, cleared}
+use Rattle.decoder.specs.Record.{fresh, place, startCode, storeBytes}
 use Rattle.decoder.specs.Possible.{possible}
 use Rattle.decoder.specs.Turns.{Going, going, Ended, nextPicture, pictureTurn}
 use Rattle.demands.specs.Calls.{Opens, Decodes}

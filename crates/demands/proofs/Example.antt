@@ -36,11 +36,12 @@ use Rattle.picture.specs.Blocks.{results, written, blockEnd, oneBlock, lastBloc
 use Rattle.picture.specs.Macroblocks.{skipReset, advance, predictUnlessIntra, body, firstOf, laterOf, macroblock}
 use Rattle.picture.specs.Slices.{extraTurn, extra, pastMacroblock, sliceTurn, slice}
 use Rattle.picture.specs.Pictures as P
-use Rattle.decoder.specs.Record.{Left, fresh, cleared}
+use Rattle.header.specs.Store.{cleared}
+use Rattle.header.specs.Sequences.{matrix, size, rest}
+use Rattle.decoder.specs.Record.{Left, fresh}
 use Rattle.decoder.specs.Answers.{picture, number, outcomeSays}
 use Rattle.laws.specs.Each.{allBelow}
 use Rattle.decoder.specs.Possible.{possible}
-use Rattle.decoder.specs.Sequences.{matrix, size, rest}
 use Rattle.decoder.specs.Headers.{findSequence, accepted, askSize, askHeader, askStore}
 use Rattle.decoder.specs.Opening.{opened, openingFrom, opening}
 use Rattle.decoder.specs.Turns.{nextPicture, isFollowed, timeOf, counted, handed, shown, flushed, pastPicture, decoded, searched, pictureTurn}

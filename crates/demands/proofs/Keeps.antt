@@ -16,10 +16,10 @@ use Rattle.picture.specs.State.{startCodeAs}
 use Rattle.picture.specs.Possible.{between, possiblePicture}
 use Rattle.picture.specs.Pictures.{picture}
 use Rattle.picture.proofs.Possible.{picture-of, picture-by}
-use Rattle.decoder.specs.declared.record.Sequence.{Sequence}
+use Rattle.header.specs.declared.state.Sequence.{Sequence}
+use Rattle.header.specs.Possible.{across, sizesOf, sameSizes, possibleSequence}
 use Rattle.decoder.specs.declared.record.Decoder.{Decoder}
 use Rattle.decoder.specs.Record.{place, startCode, heldAs, searchedAs, storeBytes}
-use Rattle.decoder.specs.Possible.{across, sizesOf, sameSizes, possibleSequence}
 use Rattle.decoder.specs.Turns.{counted}
 
 -- what a record keeps from an accepted header on, with no stop mark. 29 bits are read for each picture handed out; before a picture start code that

@@ -11,11 +11,12 @@ use Rattle.bits.specs.Programs.{run, bind, loop, findTurn, findStartCode}
 use Rattle.codes.specs.Matrices.{intraQuantMatrix, nonIntraQuantMatrix, premultiplierMatrix, bounded}
 use Rattle.picture.specs.Ways.{leave, onward}
 use Rattle.picture.specs.Pictures as P
-use Rattle.decoder.specs.Record.{Left, fresh, cleared}
+use Rattle.header.specs.Store.{cleared}
+use Rattle.header.specs.Sequences.{matrix, size, rest}
+use Rattle.decoder.specs.Record.{Left, fresh}
 use Rattle.decoder.specs.Answers.{success, picture, number, openingSays, outcomeSays}
 use Rattle.laws.specs.Each.{allBelow}
 use Rattle.decoder.specs.Possible.{possible}
-use Rattle.decoder.specs.Sequences.{matrix, size, rest}
 use Rattle.decoder.specs.Headers.{findSequence, accepted, askSize, askHeader, askStore}
 use Rattle.decoder.specs.Opening.{opened, openingFrom, opening}
 use Rattle.decoder.specs.Turns.{nextPicture, isFollowed, timeOf, counted, handed, shown, pastPicture, decoded, searched, pictureTurn}

@@ -9,13 +9,14 @@ use lib.Dec.{leb}
 use lib.ListN.{length}
 use Rattle.laws.proofs.Tests.{by-case}
 use Rattle.picture.specs.declared.state.Sizes.{Sizes}
+use Rattle.conversion.specs.Pictures.{pictureIn, fits}
 use Rattle.decoder.specs.declared.record.Decoder.{Decoder}
 use Rattle.decoder.specs.declared.answers.Converted.{Converted}
 use Rattle.decoder.specs.declared.answers.Converted.the-variants as C
 use Rattle.decoder.specs.Record.{storeBytes}
 use Rattle.decoder.specs.Possible.{possible}
 use Rattle.argb.specs.Scaled.{scaled}
-use Rattle.decoder.specs.Conversion.{Area, pictureIn, fits, converted}
+use Rattle.decoder.specs.Conversion.{Area, converted}
 use Rattle.demands.specs.Causes.{Cause, dc, prediction}
 use Rattle.demands.specs.After as A
 use Rattle.demands.specs.After.{AfterOpening, AfterHandOut}
@@ -62,10 +63,10 @@ abbrev Row : List ℕ → List ℕ → Converted → List ℕ → Type 0
 Row a p o b = elim o [ C.Written ↦ b ≡ p | C.Refused n ↦ (among n conversionNumbers ≡ true) × (b ≡ a) ]
 
 area-row : (d : Decoder) (l : List ℕ) (k : ℕ) (a : List ℕ) (w h : ℕ)
-    → Row a (scaled (pictureIn d l k) w h a) (converted d l k a w h .answer) (converted d l k a w h .area)
+    → Row a (scaled (pictureIn (d .sequence) l k) w h a) (converted d l k a w h .answer) (converted d l k a w h .area)
 unfolding converted among
 area-row d l k a w h =
-    let P : Area → Type 0 = λ r. Row a (scaled (pictureIn d l k) w h a) (r .answer) (r .area) in
+    let P : Area → Type 0 = λ r. Row a (scaled (pictureIn (d .sequence) l k) w h a) (r .answer) (r .area) in
     by-case P (not (possible d)) (λ e. (refl, refl)) (λ e.
     by-case P (not (leb (storeBytes d) (length l))) (λ e. (refl, refl)) (λ e.
     by-case P (not (d .sequence .«has_sequence_header» && leb k 2)) (λ e. (refl, refl)) (λ e.
@@ -74,13 +75,13 @@ area-row d l k a w h =
 pub conversion-after : (d : Decoder) (l : List ℕ) (k : ℕ) (a : List ℕ) (w h n : ℕ) → converted d l k a w h .answer ≡ C.Refused n
     → (among n conversionNumbers ≡ true) × (converted d l k a w h .area ≡ a)
 conversion-after d l k a w h n e =
-    subst (λ (o : Converted). Row a (scaled (pictureIn d l k) w h a) o (converted d l k a w h .area)) e (area-row d l k a w h)
+    subst (λ (o : Converted). Row a (scaled (pictureIn (d .sequence) l k) w h a) o (converted d l k a w h .area)) e (area-row d l k a w h)
 
 -- RULES D2.2
 pub conversion-written : (d : Decoder) (l : List ℕ) (k : ℕ) (a : List ℕ) (w h : ℕ) → converted d l k a w h .answer ≡ C.Written
-    → converted d l k a w h .area ≡ scaled (pictureIn d l k) w h a
+    → converted d l k a w h .area ≡ scaled (pictureIn (d .sequence) l k) w h a
 conversion-written d l k a w h e =
-    subst (λ (o : Converted). Row a (scaled (pictureIn d l k) w h a) o (converted d l k a w h .area)) e (area-row d l k a w h)
+    subst (λ (o : Converted). Row a (scaled (pictureIn (d .sequence) l k) w h a) o (converted d l k a w h .area)) e (area-row d l k a w h)
 
 pub opening-positive : (n : ℕ) → among n openingNumbers ≡ true → 1 ≤ n
 unfolding among

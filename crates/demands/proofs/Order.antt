@@ -9,10 +9,11 @@ use lib.Dec.{eqb}
 use lib.ListN.{length}
 use borrow.Author.Tests.{le-leb, lt-leb, eq-eqb, ne-eqb}
 use Rattle.picture.specs.Ways.{out}
+use Rattle.header.specs.Store.{cleared}
 use Rattle.decoder.specs.declared.record.Decoder.{Decoder}
 use Rattle.decoder.specs.declared.answers.Outcome.the-variants as H
 use Rattle.decoder.specs.declared.answers.Handed.{Handed}
-use Rattle.decoder.specs.Record.{storeBytes, cleared}
+use Rattle.decoder.specs.Record.{storeBytes}
 use Rattle.decoder.specs.Possible.{possible}
 use Rattle.decoder.specs.Turns.{going, nextPicture}
 use Rattle.decoder.specs.HandOut.{begun}

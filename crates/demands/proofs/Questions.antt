@@ -15,6 +15,7 @@ use Rattle.laws.proofs.Tests.{by-case}
 use Rattle.picture.specs.Ways.{Way, on, out}
 use Rattle.picture.specs.Pictures.{Frame, picture}
 use Rattle.picture.proofs.Kept.{Ends, SameLength, picture-leaves}
+use Rattle.conversion.specs.Pictures.{fits}
 use Rattle.decoder.specs.declared.record.Decoder.{Decoder}
 use Rattle.decoder.specs.declared.answers.Opening.{Opening}
 use Rattle.decoder.specs.declared.answers.Outcome.{Outcome}
@@ -26,7 +27,7 @@ use Rattle.decoder.specs.Opening.{opened, openingFrom, opening}
 use Rattle.decoder.specs.Turns.{Going, Ended, gave, stopped, nextPicture, hasEnded, isFollowed, isReference}
 use Rattle.decoder.specs.Turns.{handed, shown, flushed, pastPicture, decoded, searched, pictureTurn}
 use Rattle.decoder.specs.HandOut.{pictures, ended, askFirst, begun, goOn, handOut}
-use Rattle.decoder.specs.Conversion.{Area, fits, converted}
+use Rattle.decoder.specs.Conversion.{Area, converted}
 use Rattle.decoder.proofs.TwoTurns.{Holds, isStop, goes-held, held-stops}
 use Rattle.demands.specs.Calls.{openingNumber, handOutNumber, conversionNumber}
 use Rattle.demands.specs.Questions as Q

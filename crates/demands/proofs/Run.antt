@@ -9,11 +9,12 @@ use lib.Dec.{leb}
 use lib.ListN.{length, getD}
 use borrow.Author.Tests.{leb-true}
 use Rattle.laws.proofs.Tests.{by-case}
+use Rattle.header.specs.Store.{cleared}
 use Rattle.decoder.specs.declared.record.Decoder.{Decoder}
 use Rattle.decoder.specs.declared.answers.Opening.{Opening}
 use Rattle.decoder.specs.declared.answers.Outcome.{Outcome}
 use Rattle.decoder.specs.declared.answers.Outcome.the-variants as H
-use Rattle.decoder.specs.Record.{Left, left, fresh, storeBytes, cleared}
+use Rattle.decoder.specs.Record.{Left, left, fresh, storeBytes}
 use Rattle.decoder.specs.Possible.{possibleWith}
 use Rattle.decoder.specs.Headers.{Asked, refused, passed, askHeader, askStore}
 use Rattle.decoder.specs.Opening.{opened, openingFrom, opening}

@@ -10,17 +10,19 @@ use lib.ListN.{length, getD}
 use borrow.Author.Tests.{leb-true, le-leb, eq-eqb}
 use Rattle.laws.proofs.Loops.{turns-stop}
 use Rattle.laws.proofs.Tests.{by-case}
+use Rattle.header.specs.Store.{cleared}
+use Rattle.header.proofs.Clearing.{cleared-length}
 use Rattle.decoder.specs.declared.record.Decoder.{Decoder}
 use Rattle.decoder.specs.declared.answers.Shown.{Shown}
 use Rattle.decoder.specs.declared.answers.Outcome.{Outcome}
 use Rattle.decoder.specs.declared.answers.Outcome.the-variants as H
-use Rattle.decoder.specs.Record.{Left, left, place, stopAs, storeBytes, cleared}
+use Rattle.decoder.specs.Record.{Left, left, place, stopAs, storeBytes}
 use Rattle.decoder.specs.Possible.{possible, possibleWith}
 use Rattle.decoder.specs.Headers.{Asked, refused, passed, askHeader, askStore}
 use Rattle.decoder.specs.Turns.{Going, going, Ended, gave, stopped, pictureTurn}
 use Rattle.decoder.specs.HandOut.{pictures, ended, askFirst, begun, goOn, handOut}
 use Rattle.decoder.specs.Run.{call, behind, pictureIn}
-use Rattle.decoder.proofs.Cleared.{begun-clears, cleared-length}
+use Rattle.decoder.proofs.Cleared.{begun-clears}
 use Rattle.demands.specs.After.{AfterHeader, after-3, after-4, after-5}
 use Rattle.demands.specs.Calls.{handOutNumber}
 use Rattle.demands.proofs.AfterHeader.{AskAfter, header-after}

@@ -15,13 +15,13 @@ use Rattle.bits.proofs.Programs.{run-most}
 use Rattle.laws.proofs.Tests.{by-case}
 use Rattle.picture.specs.declared.state.Sizes.{Sizes}
 use Rattle.picture.specs.declared.state.Picture.{Picture}
-use Rattle.picture.specs.State.{storesAs}
+use Rattle.picture.specs.State.{storesAs, firstStores}
 use Rattle.picture.specs.Possible.{possiblePicture}
 use Rattle.picture.proofs.Possible.{stores-of, picture-of, picture-by}
+use Rattle.header.specs.Possible.{across, sizesOf, sameSizes, possibleSequence}
+use Rattle.header.specs.Sequences.{size, rest}
 use Rattle.decoder.specs.declared.record.Decoder.{Decoder}
-use Rattle.decoder.specs.Record.{fresh, firstStores, place, startCode, searchedAs, storeBytes}
-use Rattle.decoder.specs.Possible.{across, sizesOf, sameSizes, possibleSequence}
-use Rattle.decoder.specs.Sequences.{size, rest}
+use Rattle.decoder.specs.Record.{fresh, place, startCode, searchedAs, storeBytes}
 use Rattle.decoder.specs.Headers.{Asked, refused, passed, findSequence, accepted, askSize, askHeader}
 use Rattle.decoder.proofs.Starts.{fresh-starts}
 use Rattle.demands.specs.After.{had-it, found-it}

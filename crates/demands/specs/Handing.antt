@@ -8,9 +8,10 @@ use lib.ListN.{length}
 use Rattle.bits.specs.Programs.{Out, run}
 use Rattle.picture.specs.Ways.{Way, on}
 use Rattle.picture.specs.Pictures.{Frame, picture}
+use Rattle.header.specs.Store.{cleared}
 use Rattle.decoder.specs.declared.record.Decoder.{Decoder}
 use Rattle.decoder.specs.declared.answers.Shown.{Shown}
-use Rattle.decoder.specs.Record.{fresh, place, placeAs, pictureAs, heldAs, storeBytes, cleared}
+use Rattle.decoder.specs.Record.{fresh, place, placeAs, pictureAs, heldAs, storeBytes}
 use Rattle.decoder.specs.Turns.{Going, nextPicture, counted}
 use Rattle.decoder.specs.HandOut.{begun}
 use Rattle.demands.specs.Questions.{withHeader, headed, isThere, isFlush}

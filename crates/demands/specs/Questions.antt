@@ -11,14 +11,14 @@ use Rattle.bits.specs.Bits.{has}
 use Rattle.bits.specs.Programs.{run, eqZ, if_then_else_}
 use Rattle.picture.specs.Ways.{Way, on, out}
 use Rattle.picture.specs.Pictures.{Frame, picture}
+use Rattle.header.specs.Sequences.{size, rest}
+use Rattle.conversion.specs.Pictures.{fits}
 use Rattle.decoder.specs.declared.record.Decoder.{Decoder}
 use Rattle.decoder.specs.Record.{fresh, place, startCode, storeBytes}
 use Rattle.decoder.specs.Possible.{possible, possibleWith}
-use Rattle.decoder.specs.Sequences.{size, rest}
 use Rattle.decoder.specs.Headers.{findSequence, sized, accepted}
 use Rattle.decoder.specs.Turns.{Going, nextPicture, hasEnded, isFollowed, isReference, pictureTurn}
 use Rattle.decoder.specs.HandOut.{begun}
-use Rattle.decoder.specs.Conversion.{fits}
 
 -- a question: its number, and whether its answer is "yes"
 pub record Question : Type 0 where

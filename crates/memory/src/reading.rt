@@ -5,7 +5,7 @@ use bits::position::BitPosition;
 use bits::reader::Reader;
 use decoder::record::Clock;
 use decoder::record::Decoder;
-use decoder::record::Sequence;
+use header::state::Sequence;
 use picture::state::Matrices;
 use picture::state::Motion;
 use picture::state::Picture;

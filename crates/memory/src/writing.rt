@@ -3,7 +3,7 @@ use crate::copies::copy_bytes;
 use crate::copies::copy_integers;
 use decoder::record::Clock;
 use decoder::record::Decoder;
-use decoder::record::Sequence;
+use header::state::Sequence;
 use picture::state::Matrices;
 use picture::state::Motion;
 use picture::state::Picture;

@@ -3,6 +3,7 @@ use mathlib.Core.Path.{_≡_, refl, ap, _∙_}
 use mathlib.Core.Bool.{true, false}
 use mathlib.Core.List.{List}
 use Prim.Native.Nat.{ℕ, _≤_, _<_}
+use native.Mathlib.Nat.{mul-le-mul}
 use native.Mathlib.Omega.{arith}
 use borrow.Author.Tests.{le-leb, lt-leb}
 use lib.Ieee.{binary64, ofBits, ofInt}
@@ -10,13 +11,10 @@ use lib.ListN.{length, replicate}
 use Rattle.prediction.specs.declared.planes.Plane.{Plane}
 use Rattle.prediction.specs.declared.planes.Plane.the-variants.{Y, Cr, Cb}
 use Rattle.prediction.specs.Planes.{blockSize}
-use Rattle.decoder.specs.declared.record.Sequence.{Sequence}
-use Rattle.decoder.specs.declared.record.Decoder.{Decoder}
-use Rattle.decoder.specs.Record.{noTime, freshSequence, fresh}
-use Rattle.decoder.specs.Possible.{possibleSequence, possible}
-use Rattle.decoder.proofs.Fits.{fit-of}
-use Rattle.decoder.proofs.Starts.{fresh-starts}
-use Rattle.decoder.proofs.Converting.{size-few}
+use Rattle.header.specs.declared.state.Sequence.{Sequence}
+use Rattle.header.specs.State.{noTime, freshSequence}
+use Rattle.header.specs.Possible.{possibleSequence}
+use Rattle.header.proofs.Sizing.{possible-sized}
 use Rattle.memory.specs.Memory.{number}
 use Rattle.mpeg1.specs.Calls.{still}
 use Rattle.mpeg1.specs.Views.{Few, sequenceSeen, seen, numberSeen}
@@ -31,24 +29,9 @@ still-is = ap (replicate 4) zero-is
 
 -- ---- the sequence
 
--- a record with a sequence, all else fresh
-abbrev around : Sequence → Decoder
-around q = record {
-  reader = fresh .reader;
-  sequence = q;
-  picture = fresh .picture;
-  clock = fresh .clock;
-  «has_reference_frame» = fresh .«has_reference_frame»;
-  «frames_decoded» = fresh .«frames_decoded»;
-  stop = fresh .stop;
-}
-
-around-possible : (q : Sequence) → possibleSequence q ≡ true → possible (around q) ≡ true
-unfolding possible fresh
-around-possible q e = rw (e, fresh-starts .picture)
-
 pub few : {q : Sequence} → possibleSequence q ≡ true → Few q
-few {q} e = let f = fit-of (around-possible q e) in record { across = f .across; size = size-few f }
+few {q} e =
+    let z = possible-sized q e .2 in record { across = z .across; size = omega (arith, z .size, mul-le-mul (z .across) (z .down)) }
 
 module _ (n : List ℕ) where
   -- a fresh sequence, and why it is the one seen

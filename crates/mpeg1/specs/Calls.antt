@@ -8,13 +8,14 @@ use lib.Ieee.{Float}
 use lib.IntN.{ℤ}
 use lib.ListN.{length, replicate}
 use Rattle.bits.specs.Programs.{if_then_else_}
+use Rattle.header.specs.State.{noTime}
 use Rattle.decoder.specs.declared.answers.Opening.{Opening}
 use Rattle.decoder.specs.declared.answers.Opening.the-variants as O
 use Rattle.decoder.specs.declared.answers.Outcome.{Outcome}
 use Rattle.decoder.specs.declared.answers.Outcome.the-variants as H
 use Rattle.decoder.specs.declared.answers.Converted.{Converted}
 use Rattle.decoder.specs.declared.answers.Converted.the-variants as C
-use Rattle.decoder.specs.Record.{Left, noTime}
+use Rattle.decoder.specs.Record.{Left}
 use Rattle.decoder.specs.Opening.{opening}
 use Rattle.decoder.specs.HandOut.{handOut}
 use Rattle.decoder.specs.Conversion as Conversion

@@ -9,9 +9,9 @@ use Rattle.bits.specs.Programs.{if_then_else_}
 use Rattle.prediction.specs.declared.planes.Plane.{Plane}
 use Rattle.prediction.specs.declared.planes.Plane.the-variants.{Y, Cr, Cb}
 use Rattle.prediction.specs.Planes.{blockSize, planeLength, planeStart}
-use Rattle.decoder.specs.declared.record.Sequence.{Sequence}
-use Rattle.decoder.specs.Record.{noTime, freshSequence}
-use Rattle.decoder.specs.Possible.{sizesOf, possibleSequence}
+use Rattle.header.specs.declared.state.Sequence.{Sequence}
+use Rattle.header.specs.State.{noTime, freshSequence}
+use Rattle.header.specs.Possible.{sizesOf, possibleSequence}
 use Rattle.memory.specs.Memory.{number, sequenceIn}
 
 -- what numbers 1 to 6 say of the sequence; no view reads a matrix

@@ -1,8 +1,8 @@
 // What a host reads of a record, and the sizes that it needs, so that none counts fields or repeats the layout of a store.
-use decoder::possible::possible_sequence;
-use decoder::possible::sizes_of;
-use decoder::record::Sequence;
-use decoder::record::fresh;
+use header::possible::possible_sequence;
+use header::possible::sizes_of;
+use header::state::Sequence;
+use header::state::fresh_sequence;
 use memory::reading::sequence_in;
 use prediction::planes::Plane;
 use prediction::planes::block_size;
@@ -10,15 +10,7 @@ use prediction::planes::plane_length;
 use prediction::planes::plane_start;
 ghost use mathlib.Core.Path.{_≡_};
 ghost use Prim.Native.Nat.{_<_, _≤_};
-ghost use Rattle.decoder.specs.Record.{freshSequence};
 ghost use Rattle.mpeg1.specs.Views as View;
-
-fn fresh_sequence() -> Sequence
-    ensures { λ r. ⌜ r ≡ freshSequence ⌝ }
-{
-    let d = fresh();
-    d.sequence
-}
 
 fn seen(numbers: &[usize]) -> Sequence
     ensures { λ r. ⌜ (r ≡ View.seen (now (numbers .entry))) × View.Few r ⌝ }

@@ -1,8 +1,8 @@
 -- The state of a picture, and the changes that the rules of part 7 make in it.
-use mathlib.Core.Bool.{Bool}
+use mathlib.Core.Bool.{Bool, false}
 use mathlib.Core.List.{List}
 use Prim.Native.Nat.{ℕ}
-use lib.IntN.{ℤ, pos}
+use lib.IntN.{ℤ, pos, negsuc}
 use lib.ListN.{replicate}
 use Rattle.picture.specs.declared.state.Motion.{Motion}
 use Rattle.picture.specs.declared.state.Stores.{Stores}
@@ -101,3 +101,26 @@ storesAs t p = record { «picture_type» = p .«picture_type»; «start_code» =
 
 abbrev pub sliceAs : Slice → Picture → Picture
 sliceAs s p = record { «picture_type» = p .«picture_type»; «start_code» = p .«start_code»; stores = p .stores; slice = s }
+
+-- RULES O.4: the numbers of the stores at the beginning
+abbrev pub firstStores : Stores
+firstStores = record { cur = 0; fwd = 1; bwd = 2 }
+
+-- RULES O.1: the state in a fresh record
+abbrev pub freshMotion : Motion
+freshMotion = record { «full_px» = false; «is_set» = false; «r_size» = 0; h = pos 0; v = pos 0 }
+
+abbrev pub freshPicture : Picture
+freshPicture = record {
+  «picture_type» = 0;
+  «start_code» = negsuc 0;
+  stores = firstStores;
+  slice = record {
+    «quantizer_scale» = 0;
+    «macroblock_address» = pos 0;
+    «motion_forward» = freshMotion;
+    «motion_backward» = freshMotion;
+    «dc_predictor» = replicate 3 (pos 128);
+    «block_data» = replicate 64 (pos 0);
+  };
+}

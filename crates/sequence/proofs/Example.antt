@@ -35,10 +35,11 @@ use Rattle.standard.specs.Standard.Words as Words
 use Rattle.standard.specs.Standard.State.{inTable}
 use Rattle.standard.specs.Standard.Prediction as Prediction
 use Rattle.standard.specs.Standard.Block as Block
+use Rattle.header.specs.Store.{cleared}
+use Rattle.header.specs.Sequences.{matrix, size, rest}
 use Rattle.decoder.specs.declared.answers.Opening.{Opening}
 use Rattle.decoder.specs.declared.answers.Opening.the-variants.{Ready}
-use Rattle.decoder.specs.Record.{Left, fresh, cleared, place}
-use Rattle.decoder.specs.Sequences.{matrix, size, rest}
+use Rattle.decoder.specs.Record.{Left, fresh, place}
 use Rattle.decoder.specs.Headers.{findSequence, accepted, askSize, askHeader, askStore}
 use Rattle.decoder.specs.Opening.{opened, openingFrom, opening}
 use Rattle.sequence.specs.Sequence.{following, begins, pictures}

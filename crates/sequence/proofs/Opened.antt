@@ -11,11 +11,12 @@ use Rattle.laws.proofs.Tests.{by-case}
 use Rattle.bits.specs.Bits.{has}
 use Rattle.bits.specs.Programs.{Out, run, eqZ, findStartCode}
 use Rattle.standard.specs.Standard.State.{zero-vector}
+use Rattle.header.specs.Store.{cleared}
+use Rattle.header.specs.Sequences.{size}
 use Rattle.decoder.specs.declared.record.Decoder.{Decoder}
 use Rattle.decoder.specs.declared.answers.Opening.{Opening}
 use Rattle.decoder.specs.declared.answers.Opening.the-variants as O
-use Rattle.decoder.specs.Record.{Left, fresh, place, searchedAs, storeBytes, cleared}
-use Rattle.decoder.specs.Sequences.{size}
+use Rattle.decoder.specs.Record.{Left, fresh, place, searchedAs, storeBytes}
 use Rattle.decoder.specs.Headers.{Asked, refused, passed, findSequence, accepted, askSize, askHeader, askStore}
 use Rattle.decoder.specs.Opening.{opened, openingFrom, opening}
 use Rattle.decoder.proofs.Searches.{Sought, hit, miss, sought}

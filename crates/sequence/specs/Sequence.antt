@@ -15,7 +15,7 @@ use Rattle.picture.specs.Ways.{Way, on, also}
 use Rattle.standard.specs.Standard.Words.{forbidden}
 use Rattle.standard.specs.Standard.State.{Direction, Rules}
 use Rattle.standard.specs.Standard.{Decoded, picture}
-use Rattle.decoder.specs.Sequences.{size, rest}
+use Rattle.header.specs.Sequences.{size, rest}
 
 -- the numbers of two matrices
 abbrev pub alike : List ℕ → List ℕ → Bool

@@ -6,8 +6,8 @@ use native.Mathlib.Omega.{arith}
 use borrow.Author.Tests.{leb-true, not-true, not-false}
 use lib.Dec.{leb}
 use Rattle.laws.proofs.Tests.{each}
-use Rattle.decoder.specs.Possible.{across}
-use Rattle.decoder.proofs.Sizing.{size-most}
+use Rattle.header.specs.Possible.{across}
+use Rattle.header.proofs.Sizing.{size-most}
 use Rattle.mpeg1.proofs.views.mpeg1_store_bytes.Statement.{statement}
 use Rattle.mpeg1.proofs.views.mpeg1_store_bytes.Tie as tie
 

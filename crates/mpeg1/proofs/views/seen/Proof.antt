@@ -2,7 +2,7 @@ use mathlib.Core.Path.{_≡_, sym, ap, _∙_}
 use borrow.Author.Needs.{needs}
 use borrow.Author.Tests.{not-true, not-false}
 use denote.Ref.{now}
-use Rattle.decoder.specs.Possible.{possibleSequence}
+use Rattle.header.specs.Possible.{possibleSequence}
 use Rattle.mpeg1.specs.Views.{sequenceSeen}
 use Rattle.mpeg1.proofs.Seen.{few, none-seen, seen-short, seen-flag, seen-impossible, seen-is}
 use Rattle.mpeg1.proofs.views.seen.Statement.{statement}

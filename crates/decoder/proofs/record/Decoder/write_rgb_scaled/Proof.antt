@@ -7,11 +7,12 @@ use borrow.Author.Tests.{leb-true}
 use lib.Dec.{leb}
 use lib.ListN.{length}
 use Rattle.laws.proofs.Tests.{both}
+use Rattle.conversion.specs.Pictures.{fits}
+use Rattle.conversion.proofs.Planes.{room-of}
 use Rattle.decoder.specs.Record.{storeBytes}
 use Rattle.decoder.specs.Possible.{possible}
-use Rattle.decoder.specs.Conversion.{fits}
 use Rattle.decoder.proofs.Fits.{fit-of}
-use Rattle.decoder.proofs.Converting.{headed, room-of, convert-2, convert-6, convert-10, convert-11, convert-yes}
+use Rattle.decoder.proofs.Converting.{headed, convert-2, convert-6, convert-10, convert-11, convert-yes}
 use Rattle.decoder.proofs.record.Decoder.write_rgb_scaled.Statement.{statement}
 use Rattle.decoder.proofs.record.Decoder.write_rgb_scaled.Tie as tie
 

@@ -1,0 +1,4 @@
+pub mod Clearing
+pub mod Entries
+pub mod Floats
+pub mod Sizing

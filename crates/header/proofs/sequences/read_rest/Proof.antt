@@ -1,0 +1,68 @@
+use native.Mathlib.Omega.{arith}
+use borrow.Author.Needs.{needs}
+use Rattle.bits.proofs.Gives.{given-by, g-reads}
+use Rattle.bits.proofs.Rules.{r-reads, r-call, r-done}
+use Rattle.header.specs.Sequences.{rest}
+use Rattle.header.proofs.sequences.read_rest.Statement.{statement}
+use Rattle.header.proofs.sequences.read_rest.Tie as tie
+
+read-requires : tie.Need-read-requires
+read-requires c κs = search needs
+
+read-requires-2 : tie.Need-read-requires-2
+read-requires-2 c κs = search needs
+
+skip-requires : tie.Need-skip-requires
+skip-requires c κs = search needs
+
+intra-quant-matrix-requires : tie.Need-intra-quant-matrix-requires
+intra-quant-matrix-requires c κs = search needs
+
+read-matrix-requires : tie.Need-read-matrix-requires
+read-matrix-requires c κs = search needs
+
+non-intra-quant-matrix-requires : tie.Need-non-intra-quant-matrix-requires
+non-intra-quant-matrix-requires c κs = search needs
+
+read-matrix-requires-2 : tie.Need-read-matrix-requires-2
+read-matrix-requires-2 c κs = search needs
+
+cast-aspect : tie.Need-cast-aspect
+cast-aspect c = search needs
+
+cast-rate : tie.Need-cast-rate
+cast-rate c = search needs
+
+returns : tie.Need-returns
+unfolding rest
+returns c =
+    let o = c .before .before .before .before .before in
+    let i = o .before .before in
+    let k = i .before .before in
+    let b = k .before in
+    let a = b .before in
+    let intra = rw (i .before .intra-quant-matrix .ensures) at (i .read-matrix .ensures .runs) in
+    let other = rw (o .before .non-intra-quant-matrix .ensures) at (o .read-matrix2 .ensures .runs) in (
+      record {
+        runs =
+            r-call _ (r-reads 4 (omega arith) (a .read .ensures .runs)) (r-call _ (r-reads 4 (omega arith) (b .read2 .ensures .runs))
+            (r-call _ (k .skip .ensures .runs) (r-call _ intra (r-call _ other r-done))));
+        inside = o .read-matrix2 .ensures .inside;
+      },
+      omega (arith, given-by (g-reads 4) (b .read2 .ensures .runs)),
+    )
+
+pub read-rest-spec : {M : Type 1} → statement M
+read-rest-spec =
+    tie.close
+    (tie.spec
+    read-requires
+    read-requires-2
+    skip-requires
+    intra-quant-matrix-requires
+    read-matrix-requires
+    non-intra-quant-matrix-requires
+    read-matrix-requires-2
+    cast-aspect
+    cast-rate
+    returns)

@@ -1,0 +1,4 @@
+pub mod State
+pub mod Possible
+pub mod Store
+pub mod Sequences

@@ -1,0 +1,135 @@
+// RULES O.3 (11172-2, 2.4.2.3): the sequence header, from behind its start code on.
+use bits::reader::Reader;
+use codes::matrices::intra_quant_matrix;
+use codes::matrices::non_intra_quant_matrix;
+use codes::matrices::zig_zag;
+use codes::rates::picture_rate;
+use codes::rates::pixel_aspect_ratio;
+use picture::state::Matrices;
+ghost use mathlib.Core.Path.{_≡_};
+ghost use Prim.Native.Nat.{_≤_, _<_};
+ghost use lib.ListN.{replicate};
+ghost use Rattle.bits.specs.Runs.{Inside, Reading};
+ghost use Rattle.header.specs.Sequences as Header;
+
+pub struct MatrixRead {
+    pub reader: Reader,
+    pub matrix: [u8; 64],
+}
+
+pub struct SizeRead {
+    pub reader: Reader,
+    pub width: usize,
+    pub height: usize,
+}
+
+// `aspect` and `rate` are codes.
+pub struct RestRead {
+    pub reader: Reader,
+    pub aspect: usize,
+    pub rate: usize,
+    pub matrices: Matrices,
+}
+
+// 64 bytes in zig-zag order.
+fn read_entries(s: &[u8], reader: Reader) -> MatrixRead
+    requires { ⌜ Inside (now s) reader ⌝ }
+    ensures { λ r. ⌜ Reading (Header.lastEntries 64 (replicate 64 0)) (now (s .entry)) reader (r .matrix) (r .reader) ⌝ }
+{
+    let order = zig_zag();
+    let mut matrix = [0u8; 64];
+    let mut at = reader;
+    let mut i: usize = 0;
+    while i < 64 {
+        let entry = at.read(s, 8);
+        at = entry.reader;
+        let place = order[i] as usize;
+        matrix[place] = entry.value as u8;
+        i += 1;
+    }
+    MatrixRead { reader: at, matrix }
+}
+
+// One bit: if 1, a matrix of 64 bytes, else the default one.
+fn read_matrix(s: &[u8], reader: Reader, default: [u8; 64]) -> MatrixRead
+    requires { ⌜ Inside (now s) reader ⌝ }
+    ensures { λ r. ⌜ Reading (Header.matrix default) (now (s .entry)) reader (r .matrix) (r .reader) ⌝ }
+{
+    let loaded = reader.read_bit(s);
+    let after = loaded.reader;
+    if loaded.value == 0 {
+        return MatrixRead {
+            reader: after,
+            matrix: default,
+        };
+    }
+    read_entries(s, after)
+}
+
+pub fn read_size(s: &[u8], reader: Reader) -> SizeRead
+    requires { ⌜ Inside (now s) reader ⌝ }
+    ensures { λ r. ⌜ Reading Header.size (now (s .entry)) reader (record { width = r .width; height = r .height }) (r .reader) ⌝ }
+    ensures { λ r. ⌜ (r .width ≤ 4095) × (r .height ≤ 4095) ⌝ }
+{
+    let first = reader.read(s, 12);
+    let second = first.reader.read(s, 12);
+    let after = second.reader;
+    let width = first.value as usize;
+    let height = second.value as usize;
+    SizeRead {
+        reader: after,
+        width,
+        height,
+    }
+}
+
+// 30 bits, which the decoder does not use, are passed over.
+pub fn read_rest(s: &[u8], reader: Reader) -> RestRead
+    requires { ⌜ Inside (now s) reader ⌝ }
+    ensures { λ r. ⌜ Reading Header.rest (now (s .entry)) reader
+        (record { aspect = r .aspect; rate = r .rate; matrices = r .matrices }) (r .reader) ⌝ }
+    ensures { λ r. ⌜ r .rate < 16 ⌝ }
+{
+    let first = reader.read(s, 4);
+    let second = first.reader.read(s, 4);
+    let intra = read_matrix(s, second.reader.skip(s, 30), intra_quant_matrix());
+    let other = read_matrix(s, intra.reader, non_intra_quant_matrix());
+    let after = other.reader;
+    let intra_matrix = intra.matrix;
+    let other_matrix = other.matrix;
+    let matrices = Matrices {
+        intra_quant_matrix: intra_matrix,
+        non_intra_quant_matrix: other_matrix,
+    };
+    let aspect = first.value as usize;
+    let rate = second.value as usize;
+    RestRead {
+        reader: after,
+        aspect,
+        rate,
+        matrices,
+    }
+}
+
+// RULES 2.8: code 0 gives what 1 gives, and 15 what 14 gives.
+pub fn aspect_of(code: usize) -> f64
+    ensures { λ r. ⌜ r ≡ Header.aspectOf code ⌝ }
+{
+    let table = pixel_aspect_ratio();
+    if code == 0 {
+        return table[0];
+    }
+    if 14 < code {
+        return table[13];
+    }
+    table[code - 1]
+}
+
+// RULES 2.9.
+pub fn rate_of(code: usize) -> f64
+    requires { ⌜ code < 16 ⌝ }
+    ensures { λ r. ⌜ r ≡ Header.rateOf code ⌝ }
+{
+    let table = picture_rate();
+    table[code]
+}

@@ -1,0 +1,47 @@
+// RULES O.1: the state of a picture in a fresh record.
+use crate::state::Motion;
+use crate::state::Picture;
+use crate::state::Slice;
+use crate::state::Stores;
+ghost use mathlib.Core.Path.{_≡_};
+ghost use Rattle.picture.specs.State.{freshMotion, freshPicture};
+
+fn fresh_motion() -> Motion
+    ensures { λ r. ⌜ r ≡ freshMotion ⌝ }
+{
+    Motion {
+        full_px: false,
+        is_set: false,
+        r_size: 0,
+        h: 0,
+        v: 0,
+    }
+}
+
+pub fn fresh_picture() -> Picture
+    ensures { λ r. ⌜ r ≡ freshPicture ⌝ }
+{
+    let stores = Stores {
+        cur: 0,
+        fwd: 1,
+        bwd: 2,
+    };
+    let motion_forward = fresh_motion();
+    let motion_backward = fresh_motion();
+    let dc_predictor = [128i32; 3];
+    let block_data = [0i32; 64];
+    let slice = Slice {
+        quantizer_scale: 0,
+        macroblock_address: 0,
+        motion_forward,
+        motion_backward,
+        dc_predictor,
+        block_data,
+    };
+    Picture {
+        picture_type: 0,
+        start_code: -1,
+        stores,
+        slice,
+    }
+}
