@@ -8,7 +8,7 @@ use native.Mathlib.Omega.{arith}
 use lib.Dec.{T, ltb, ltb→lt, leb, leb→le, le→leb}
 use lib.IntN.{ℤ, pos, natAbs}
 use lib.ListN.{length, getD, set, take, drop, length-set, length-append, length-take}
-use lib.Seq.{set-append-left, take-set-lt, drop-set-lt, take-at, drop-at, getD-append-add, take-all, take-paste, length-paste, paste-zero, paste-suc, paste}
+use lib.Seq.{take-append-add, drop-drop, drop-paste, set-append-left, take-set-lt, drop-set-lt, take-at, drop-at, getD-append-add, take-all, take-paste, length-paste, paste-zero, paste-suc, paste}
 use Rattle.laws.proofs.Tables.{anywhere}
 use Rattle.codes.specs.Lent.{Lent, fixedTables, tablesWith, matrixOf, isByte}
 use Rattle.codes.specs.Matrices.{zigZag, downFrom, diagonals, intraQuantMatrix, nonIntraQuantMatrix, premultiplierMatrix}
@@ -18,6 +18,7 @@ use Rattle.codes.specs.Tables.{codeBlockPatternIndex, codeBlockPatternValue, mo
 use Rattle.codes.specs.Tables.{dctSizeLuminanceIndex, dctSizeLuminanceValue, dctSizeChrominanceIndex, dctSizeChrominanceValue, dctCoeffIndex}
 use Rattle.codes.specs.Tables.{dctCoeffValue}
 use Rattle.codes.proofs.Parts.{length-map, back}
+use Rattle.tables.specs.Halves.{macroblockCodes, blockCodes}
 
 -- ---- the tables as they are made
 
@@ -102,6 +103,48 @@ module _ (before first second : List ℤ) where
         ∙ ap (λ (t : List ℤ). t ++ take 64 second) (take-paste before 0 first 64 (omega arith) (omega arith))
         ∙ rw (take-all 64 first (omega arith), take-all 64 second (omega arith))
 
+-- a table behind another
+paste-on : (t a b : List ℤ) (at n m : ℕ) → length a ≡ n → m ≤ length b → at + n + m ≤ length t
+    → paste (paste t at a n) (at + n) b m ≡ paste t at (a ++ b) (n + m)
+paste-on t a b at n m l k h =
+    let front : take n a ≡ a = take-all n a (omega arith) in
+    let both : take (n + m) (a ++ b) ≡ a ++ take m b = ap (λ (i : ℕ). take (i + m) (a ++ b)) (sym l) ∙ take-append-add a b m in
+    let behind : drop (at + n + m) (paste t at a n) ≡ drop (at + n + m) t =
+    sym (drop-drop m (at + n) (paste t at a n)) ∙ ap (drop m) (drop-paste t at a n (omega arith) (omega arith)) ∙ drop-drop m (at + n) t in
+    let sum : at + n + m ≡ at + (n + m) = omega arith in
+    ap (λ (x : List ℤ). x ++ take m b ++ drop (at + n + m) (paste t at a n)) (take-paste t at a n (omega arith) (omega arith))
+    ∙ ap (λ (x : List ℤ). take at t ++ x ++ take m b ++ drop (at + n + m) (paste t at a n)) front
+    ∙ ap (λ (x : List ℤ). take at t ++ a ++ take m b ++ x) (behind ∙ ap (λ (i : ℕ). drop i t) sum)
+    ∙ ap (λ (x : List ℤ). x ++ drop (at + (n + m)) t) (append-assoc (take at t) a (take m b))
+    ∙ ap (λ (x : List ℤ). take at t ++ x ++ drop (at + (n + m)) t) (sym both)
+
+-- of the numbers t the n from `at` on have become those of `laid`, which has as many
+pub record Laid (before : List ℤ) (at : ℕ) (laid : List ℤ) (n : ℕ) (t : List ℤ) : Type 0 where
+  pub long : length laid ≡ n
+  pub inside : at + n ≤ length before
+  pub is : t ≡ paste before at laid n
+
+pub laid-first : {before t : List ℤ} (at : ℕ) (table : List ℤ) (n : ℕ) {m : ℕ} → length before ≡ 1404 → length table ≡ n → T (leb (at + n) 1404)
+    → m ≡ n
+    → t ≡ paste before at table m → Laid before at table n t
+laid-first {before} at table n l k h q r =
+    record { long = k; inside = rw l (leb→le (at + n) 1404 h); is = r ∙ ap (paste before at table) q }
+
+-- one table more, of m entries, which are k
+pub laid-on : {before t after laid : List ℤ} {at n : ℕ} (table : List ℤ) (k : ℕ) {m : ℕ} → length before ≡ 1404 → Laid before at laid n t
+    → length table ≡ k → T (leb (at + n + k) 1404) → m ≡ k
+    → after ≡ paste t (at + n) table m → Laid before at (laid ++ table) (n + k) after
+laid-on {before} {t} {after} {laid} {at} {n} table k l f w h q r =
+    let most = leb→le (at + n + k) 1404 h in
+    record {
+      long = length-append laid table ∙ rw (f .long, w) refl;
+      inside = omega (arith, l, most);
+      is =
+          r ∙ ap (paste t (at + n) table) q
+          ∙ ap (λ (x : List ℤ). paste x (at + n) table k) (f .is)
+          ∙ paste-on before laid table at n k (f .long) (omega arith) (omega (arith, l, most));
+    }
+
 -- the first n of the numbers t are those of `front`
 pub record Front (t : List ℤ) (n : ℕ) (front : List ℤ) : Type 0 where
   pub long : length t ≡ 1404
@@ -137,12 +180,24 @@ pub record Bytes64 (m : List ℕ) : Type 0 where
   pub long : length m ≡ 64
   pub bytes : (k : ℕ) → getD m k 0 < 256
 
-fixed-length : length fixedTables ≡ 1276
-unfolding fixedTables macroblockAddressIncrementIndex macroblockAddressIncrementValue macroblockTypeIntraIndex macroblockTypeIntraValue
+pub macroblock-codes-length : length macroblockCodes ≡ 492
+unfolding macroblockCodes macroblockAddressIncrementIndex macroblockAddressIncrementValue macroblockTypeIntraIndex macroblockTypeIntraValue
     macroblockTypePredictiveIndex macroblockTypePredictiveValue macroblockTypeBIndex macroblockTypeBValue codeBlockPatternIndex codeBlockPatternValue
-    motionIndex motionValue dctSizeLuminanceIndex dctSizeLuminanceValue dctSizeChrominanceIndex dctSizeChrominanceValue dctCoeffIndex dctCoeffValue
+macroblock-codes-length = refl
+
+pub block-codes-length : length blockCodes ≡ 784
+unfolding blockCodes motionIndex motionValue dctSizeLuminanceIndex dctSizeLuminanceValue dctSizeChrominanceIndex dctSizeChrominanceValue dctCoeffIndex dctCoeffValue
     zigZag downFrom diagonals premultiplierMatrix
-fixed-length = refl
+block-codes-length = refl
+
+pub halves : macroblockCodes ++ blockCodes ≡ fixedTables
+unfolding macroblockCodes blockCodes fixedTables
+halves = simp append-assoc refl
+
+fixed-length : length fixedTables ≡ 1276
+fixed-length =
+    ap length (sym halves) ∙ length-append macroblockCodes blockCodes ∙ ap (λ (n : ℕ). n + length blockCodes) macroblock-codes-length
+    ∙ ap (λ (n : ℕ). 492 + n) block-codes-length
 
 -- bytes, as they stand in the tables
 bytes-in : (l m : List ℕ) → ((k : ℕ) → getD l k 0 < 256) → ((k : ℕ) → getD m k 0 < 256) → (j : ℕ)

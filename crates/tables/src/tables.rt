@@ -48,6 +48,7 @@ ghost use lib.IntN.{pos};
 ghost use lib.ListN.{length};
 ghost use lib.Seq.{paste};
 ghost use Rattle.codes.specs.Lent.{tablesWith};
+ghost use Rattle.tables.specs.Halves.{macroblockCodes, blockCodes};
 
 fn put(tables: &mut [i32], at: usize, table: &[i32])
     requires { ⌜ at + length (now table) ≤ length (now tables) ⌝ }
@@ -90,39 +91,45 @@ fn widened(intra_matrix: &[u8], other_matrix: &[u8]) -> [i32; 128]
     wide
 }
 
+// The code tables of increments, types and patterns.
+fn put_macroblock_codes(t: &mut Tables)
+    ensures { λ _. ⌜ now (t .exit) ≡ paste (now (t .entry)) 0 macroblockCodes 492 ⌝ }
+{
+    put(t, INCREMENT_INDEX, &MACROBLOCK_ADDRESS_INCREMENT_INDEX);
+    put(t, INCREMENT_VALUE, &MACROBLOCK_ADDRESS_INCREMENT_VALUE);
+    put(t, TYPE_I_INDEX, &MACROBLOCK_TYPE_INTRA_INDEX);
+    put(t, TYPE_I_VALUE, &MACROBLOCK_TYPE_INTRA_VALUE);
+    put(t, TYPE_P_INDEX, &MACROBLOCK_TYPE_PREDICTIVE_INDEX);
+    put(t, TYPE_P_VALUE, &MACROBLOCK_TYPE_PREDICTIVE_VALUE);
+    put(t, TYPE_B_INDEX, &MACROBLOCK_TYPE_B_INDEX);
+    put(t, TYPE_B_VALUE, &MACROBLOCK_TYPE_B_VALUE);
+    put(t, PATTERN_INDEX, &CODE_BLOCK_PATTERN_INDEX);
+    put(t, PATTERN_VALUE, &CODE_BLOCK_PATTERN_VALUE);
+}
+
+// The code tables of vectors, DC sizes and coefficients, the zig-zag order and the premultipliers.
+fn put_block_codes(t: &mut Tables)
+    ensures { λ _. ⌜ now (t .exit) ≡ paste (now (t .entry)) 492 blockCodes 784 ⌝ }
+{
+    put(t, VECTOR_INDEX, &MOTION_INDEX);
+    put(t, VECTOR_VALUE, &MOTION_VALUE);
+    put(t, LUMINANCE_INDEX, &DCT_SIZE_LUMINANCE_INDEX);
+    put(t, LUMINANCE_VALUE, &DCT_SIZE_LUMINANCE_VALUE);
+    put(t, CHROMINANCE_INDEX, &DCT_SIZE_CHROMINANCE_INDEX);
+    put(t, CHROMINANCE_VALUE, &DCT_SIZE_CHROMINANCE_VALUE);
+    put(t, COEFFICIENT_INDEX, &DCT_COEFF_INDEX);
+    put(t, COEFFICIENT_VALUE, &DCT_COEFF_VALUE);
+    put_bytes(t, ORDER, &ZIG_ZAG);
+    put(t, PREMULTIPLIERS, &PREMULTIPLIER_MATRIX);
+}
+
 // The tables with these matrices.
 pub fn tables_with(intra_matrix: &[u8; 64], other_matrix: &[u8; 64]) -> Tables
     ensures { λ r. ⌜ r ≡ tablesWith (now («intra_matrix» .entry)) (now («other_matrix» .entry)) ⌝ }
 {
     let mut tables = [0i32; 1404];
-    put(
-        &mut tables,
-        INCREMENT_INDEX,
-        &MACROBLOCK_ADDRESS_INCREMENT_INDEX,
-    );
-    put(
-        &mut tables,
-        INCREMENT_VALUE,
-        &MACROBLOCK_ADDRESS_INCREMENT_VALUE,
-    );
-    put(&mut tables, TYPE_I_INDEX, &MACROBLOCK_TYPE_INTRA_INDEX);
-    put(&mut tables, TYPE_I_VALUE, &MACROBLOCK_TYPE_INTRA_VALUE);
-    put(&mut tables, TYPE_P_INDEX, &MACROBLOCK_TYPE_PREDICTIVE_INDEX);
-    put(&mut tables, TYPE_P_VALUE, &MACROBLOCK_TYPE_PREDICTIVE_VALUE);
-    put(&mut tables, TYPE_B_INDEX, &MACROBLOCK_TYPE_B_INDEX);
-    put(&mut tables, TYPE_B_VALUE, &MACROBLOCK_TYPE_B_VALUE);
-    put(&mut tables, PATTERN_INDEX, &CODE_BLOCK_PATTERN_INDEX);
-    put(&mut tables, PATTERN_VALUE, &CODE_BLOCK_PATTERN_VALUE);
-    put(&mut tables, VECTOR_INDEX, &MOTION_INDEX);
-    put(&mut tables, VECTOR_VALUE, &MOTION_VALUE);
-    put(&mut tables, LUMINANCE_INDEX, &DCT_SIZE_LUMINANCE_INDEX);
-    put(&mut tables, LUMINANCE_VALUE, &DCT_SIZE_LUMINANCE_VALUE);
-    put(&mut tables, CHROMINANCE_INDEX, &DCT_SIZE_CHROMINANCE_INDEX);
-    put(&mut tables, CHROMINANCE_VALUE, &DCT_SIZE_CHROMINANCE_VALUE);
-    put(&mut tables, COEFFICIENT_INDEX, &DCT_COEFF_INDEX);
-    put(&mut tables, COEFFICIENT_VALUE, &DCT_COEFF_VALUE);
-    put_bytes(&mut tables, ORDER, &ZIG_ZAG);
-    put(&mut tables, PREMULTIPLIERS, &PREMULTIPLIER_MATRIX);
+    put_macroblock_codes(&mut tables);
+    put_block_codes(&mut tables);
     let matrices = widened(intra_matrix, other_matrix);
     put(&mut tables, INTRA_MATRIX, &matrices);
     tables

@@ -1,0 +1,66 @@
+-- Each table is laid behind the one before it.
+use mathlib.Core.Path.{refl}
+use mathlib.Core.List.{map}
+use denote.Ref.{now}
+use borrow.Author.Needs.{needs}
+use lib.IntN.{pos}
+use Rattle.codes.specs.Tables.{macroblockAddressIncrementIndex, macroblockAddressIncrementValue, macroblockTypeIntraIndex, macroblockTypeIntraValue}
+use Rattle.codes.specs.Tables.{macroblockTypePredictiveIndex, macroblockTypePredictiveValue, macroblockTypeBIndex, macroblockTypeBValue}
+use Rattle.codes.specs.Tables.{codeBlockPatternIndex, codeBlockPatternValue}
+use Rattle.tables.specs.Halves.{macroblockCodes}
+use Rattle.tables.proofs.Made.{laid-first, laid-on}
+use Rattle.tables.proofs.tables.put_macroblock_codes.Statement.{statement}
+use Rattle.tables.proofs.tables.put_macroblock_codes.Tie as tie
+
+returns : tie.Need-returns
+unfolding macroblockCodes macroblockAddressIncrementIndex macroblockAddressIncrementValue macroblockTypeIntraIndex macroblockTypeIntraValue
+    macroblockTypePredictiveIndex macroblockTypePredictiveValue macroblockTypeBIndex macroblockTypeBValue codeBlockPatternIndex
+    codeBlockPatternValue
+returns x10 =
+    let x9 = x10 .before .before .before in
+    let x8 = x9 .before .before .before in
+    let x7 = x8 .before .before .before in
+    let x6 = x7 .before .before .before in
+    let x5 = x6 .before .before .before in
+    let x4 = x5 .before .before .before in
+    let x3 = x4 .before .before .before in
+    let x2 = x3 .before .before .before in
+    let x1 = x2 .before .before .before in
+    let long = x1 .before .before .put-arg .given .0 .1 in
+    let f1 = laid-first {before = now (x1 .before .before .before .args .t)} 0 macroblockAddressIncrementIndex 80 long refl tt refl (x1 .put .ensures) in
+    let f2 = laid-on (map pos macroblockAddressIncrementValue) 80 long f1 refl tt refl (x2 .put2 .ensures) in
+    let f3 = laid-on macroblockTypeIntraIndex 4 long f2 refl tt refl (x3 .put3 .ensures) in
+    let f4 = laid-on (map pos macroblockTypeIntraValue) 4 long f3 refl tt refl (x4 .put4 .ensures) in
+    let f5 = laid-on macroblockTypePredictiveIndex 14 long f4 refl tt refl (x5 .put5 .ensures) in
+    let f6 = laid-on (map pos macroblockTypePredictiveValue) 14 long f5 refl tt refl (x6 .put6 .ensures) in
+    let f7 = laid-on macroblockTypeBIndex 22 long f6 refl tt refl (x7 .put7 .ensures) in
+    let f8 = laid-on (map pos macroblockTypeBValue) 22 long f7 refl tt refl (x8 .put8 .ensures) in
+    let f9 = laid-on codeBlockPatternIndex 126 long f8 refl tt refl (x9 .put9 .ensures) in
+    let f10 = laid-on (map pos codeBlockPatternValue) 126 long f9 refl tt refl (x10 .put10 .ensures) in
+    f10 .is
+
+pub put-macroblock-codes-spec : {M : Type 1} → statement M
+put-macroblock-codes-spec =
+    tie.close
+    (tie.spec
+    (λ c. search needs)
+    (λ c κs. search needs)
+    (λ c. search needs)
+    (λ c κs. search needs)
+    (λ c. search needs)
+    (λ c κs. search needs)
+    (λ c. search needs)
+    (λ c κs. search needs)
+    (λ c. search needs)
+    (λ c κs. search needs)
+    (λ c. search needs)
+    (λ c κs. search needs)
+    (λ c. search needs)
+    (λ c κs. search needs)
+    (λ c. search needs)
+    (λ c κs. search needs)
+    (λ c. search needs)
+    (λ c κs. search needs)
+    (λ c. search needs)
+    (λ c κs. search needs)
+    returns)
