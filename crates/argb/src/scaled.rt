@@ -6,26 +6,34 @@ ghost use lib.ListN.{length};
 ghost use Rattle.laws.specs.Stores.{storeRow};
 ghost use Rattle.argb.specs.Scaled.{picture, Whole, outputPixel, scaled};
 
+// The size that is shown, and the width of plane Y.
+pub struct Display {
+    pub width: usize,
+    pub height: usize,
+    pub luma_width: usize,
+}
+
 // Row ty of the output.
 fn write_row(
     y: &[u8],
     cr: &[u8],
     cb: &[u8],
-    width: usize,
-    height: usize,
-    luma_width: usize,
+    size: Display,
     dst: &mut [u32],
     dst_w: usize,
     dst_h: usize,
     ty: usize,
 )
-    requires { ⌜ Whole (picture width height «luma_width» (now y) (now cr) (now cb)) ⌝ }
+    requires { ⌜ Whole (picture (size .width) (size .height) (size .«luma_width») (now y) (now cr) (now cb)) ⌝ }
     requires { ⌜ («dst_w» ≤ 4096) × («dst_h» ≤ 4096) × (ty < «dst_h») ⌝ }
     requires { ⌜ «dst_w» * «dst_h» ≤ length (now dst) ⌝ }
     ensures { λ r. ⌜ now (dst .exit) ≡ storeRow (now (dst .entry)) (ty * «dst_w»)
-        (outputPixel (picture width height «luma_width» (now (y .entry)) (now (cr .entry)) (now (cb .entry))) «dst_w» «dst_h» ty)
+        (outputPixel (picture (size .width) (size .height) (size .«luma_width») (now (y .entry)) (now (cr .entry)) (now (cb .entry))) «dst_w» «dst_h» ty)
         «dst_w» ⌝ }
 {
+    let width = size.width;
+    let height = size.height;
+    let luma_width = size.luma_width;
     let sy = ty * height / dst_h;
     let y_row = sy * luma_width;
     let c_row = sy / 2 * (luma_width / 2);
@@ -44,23 +52,21 @@ pub fn write_rgb_scaled(
     y: &[u8],
     cr: &[u8],
     cb: &[u8],
-    width: usize,
-    height: usize,
-    luma_width: usize,
+    size: Display,
     dst: &mut [u32],
     dst_w: usize,
     dst_h: usize,
 )
-    requires { ⌜ Whole (picture width height «luma_width» (now y) (now cr) (now cb)) ⌝ }
+    requires { ⌜ Whole (picture (size .width) (size .height) (size .«luma_width») (now y) (now cr) (now cb)) ⌝ }
     requires { ⌜ («dst_w» ≤ 4096) × («dst_h» ≤ 4096) ⌝ }
     requires { ⌜ «dst_w» * «dst_h» ≤ length (now dst) ⌝ }
     ensures { λ r. ⌜ now (dst .exit) ≡ scaled
-        (picture width height «luma_width» (now (y .entry)) (now (cr .entry)) (now (cb .entry)))
+        (picture (size .width) (size .height) (size .«luma_width») (now (y .entry)) (now (cr .entry)) (now (cb .entry)))
         «dst_w» «dst_h» (now (dst .entry)) ⌝ }
 {
     let mut ty: usize = 0;
     while ty < dst_h {
-        write_row(y, cr, cb, width, height, luma_width, dst, dst_w, dst_h, ty);
+        write_row(y, cr, cb, size, dst, dst_w, dst_h, ty);
         ty += 1;
     }
 }

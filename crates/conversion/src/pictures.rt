@@ -1,4 +1,6 @@
 // RULES part 9: the picture in a store, and the area that it is converted into.
+use argb::scaled::Display;
+use argb::scaled::write_rgb_scaled;
 use header::state::Sequence;
 use prediction::planes::Plane;
 use prediction::planes::plane_length;
@@ -52,5 +54,10 @@ pub fn write_picture(q: Sequence, store: &[u8], index: usize, area: &mut [u32], 
     let width = q.width;
     let height = q.height;
     let luma_width = q.sizes.mb_width * 16;
-    argb::scaled::write_rgb_scaled(y, cr, cb, width, height, luma_width, area, w, h);
+    let size = Display {
+        width,
+        height,
+        luma_width,
+    };
+    write_rgb_scaled(y, cr, cb, size, area, w, h);
 }

@@ -14,13 +14,13 @@ use Rattle.argb.proofs.scaled.write_rgb_scaled.Statement.{statement}
 use Rattle.argb.proofs.scaled.write_rgb_scaled.Tie as tie
 
 abbrev Inv-loop : tie.InvT-loop
-Inv-loop y cr cb width height luma-width dst₀ dst-w dst-h ty₀ dst ty =
+Inv-loop y cr cb size dst₀ dst-w dst-h ty₀ dst ty =
     (ty ≤ dst-h)
     × (length dst ≡ length dst₀)
-    × (dst ≡ storeRow dst₀ 0 (pixelAt (picture width height luma-width y cr cb) dst-w dst-h) (ty * dst-w))
+    × (dst ≡ storeRow dst₀ 0 (pixelAt (picture (size .width) (size .height) (size .«luma_width») y cr cb) dst-w dst-h) (ty * dst-w))
 
 abbrev μ-loop : tie.MeasureT-loop
-μ-loop y cr cb width height luma-width dst₀ dst-w dst-h ty₀ dst ty = dst-h - ty
+μ-loop y cr cb size dst₀ dst-w dst-h ty₀ dst ty = dst-h - ty
 
 -- where the function began, from the head of the loop
 abbrev start : tie.At-loop Inv-loop μ-loop → tie.Start Inv-loop μ-loop
@@ -28,7 +28,7 @@ start l = l .before .before .before .before .before
 
 -- the picture that is written
 abbrev p : tie.At-loop Inv-loop μ-loop → Picture
-p l = let a = start l .args in picture (a .width) (a .height) (a .luma-width) (now (a .y)) (now (a .cr)) (now (a .cb))
+p l = let a = start l .args in picture (a .size .width) (a .size .height) (a .size .«luma_width») (now (a .y)) (now (a .cr)) (now (a .cb))
 
 loop-holds : tie.Need-loop-holds Inv-loop μ-loop
 unfolding storeRow

@@ -13,17 +13,17 @@ use Rattle.argb.proofs.scaled.write_row.Statement.{statement}
 use Rattle.argb.proofs.scaled.write_row.Tie as tie
 
 abbrev Inv-loop : tie.InvT-loop
-Inv-loop y cr cb width height luma-width dst₀ dst-w dst-h ty sy y-row c-row d-row tx₀ dst tx =
+Inv-loop y cr cb dst₀ dst-w dst-h ty width height luma-width sy y-row c-row d-row tx₀ dst tx =
     (tx ≤ dst-w)
     × (length dst ≡ length dst₀)
     × (dst ≡ storeRow dst₀ (ty * dst-w) (outputPixel (picture width height luma-width y cr cb) dst-w dst-h ty) tx)
 
 abbrev μ-loop : tie.MeasureT-loop
-μ-loop y cr cb width height luma-width dst₀ dst-w dst-h ty sy y-row c-row d-row tx₀ dst tx = dst-w - tx
+μ-loop y cr cb dst₀ dst-w dst-h ty width height luma-width sy y-row c-row d-row tx₀ dst tx = dst-w - tx
 
 -- the row of the samples
-row-most : (s : tie.Start Inv-loop μ-loop) → s .args .ty * s .args .height / s .args .dst-h ≤ 4096
-row-most s = omega (arith, nearest-below (s .args .ty) (s .args .dst-h) (s .args .height) (omega arith) (omega arith))
+row-most : (s : tie.Start Inv-loop μ-loop) → s .args .ty * s .args .size .height / s .args .dst-h ≤ 4096
+row-most s = omega (arith, nearest-below (s .args .ty) (s .args .dst-h) (s .args .size .height) (omega arith) (omega arith))
 
 -- where the function began, from the head of the loop
 abbrev start : tie.At-loop Inv-loop μ-loop → tie.Start Inv-loop μ-loop
@@ -35,7 +35,7 @@ module _ (c : tie.In-loop Inv-loop μ-loop) where
   s = start (c .before)
 
   abbrev p : Picture
-  p = let a = s .args in picture (a .width) (a .height) (a .luma-width) (now (a .y)) (now (a .cr)) (now (a .cb))
+  p = let a = s .args in picture (a .size .width) (a .size .height) (a .size .«luma_width») (now (a .y)) (now (a .cr)) (now (a .cb))
 
   abbrev tx : ℕ
   tx = c .before .loop .tx
@@ -47,19 +47,19 @@ module _ (c : tie.In-loop Inv-loop μ-loop) where
   place = omega (arith, place-below (s .args .ty) tx (s .args .dst-h) (s .args .dst-w) (omega arith) (omega arith))
 
 mul-sy : tie.Need-mul-sy Inv-loop μ-loop
-mul-sy c = let a = c .before .before .before .before .args in omega (arith, product-most (a .ty) (a .height) (omega arith) (omega arith))
+mul-sy c = let a = c .before .before .before .before .args in omega (arith, product-most (a .ty) (a .size .height) (omega arith) (omega arith))
 
 mul-y-row : tie.Need-mul-y-row Inv-loop μ-loop
 mul-y-row c =
     let s = c .before .before .before .before in
     let a = s .args in
-    omega (arith, product-most (a .ty * a .height / a .dst-h) (a .luma-width) (row-most s) (omega arith))
+    omega (arith, product-most (a .ty * a .size .height / a .dst-h) (a .size .«luma_width») (row-most s) (omega arith))
 
 mul-c-row : tie.Need-mul-c-row Inv-loop μ-loop
 mul-c-row c =
     let s = c .before .before .before .before in
     let a = s .args in
-    omega (arith, product-most (a .ty * a .height / a .dst-h / 2) (a .luma-width / 2) (omega (arith, row-most s)) (omega arith))
+    omega (arith, product-most (a .ty * a .size .height / a .dst-h / 2) (a .size .«luma_width» / 2) (omega (arith, row-most s)) (omega arith))
 
 mul-d-row : tie.Need-mul-d-row Inv-loop μ-loop
 mul-d-row c = let a = c .before .before .before .before .args in omega (arith, product-most (a .ty) (a .dst-w) (omega arith) (omega arith))
