@@ -17,7 +17,7 @@ ghost use Prim.Native.Nat.{_≤_, _<_};
 ghost use Rattle.decoder.specs.Record.{left};
 ghost use Rattle.decoder.specs.Opening.{opening};
 ghost use Rattle.decoder.specs.HandOut.{handOut};
-ghost use Rattle.calls.specs.Cases.{openingNumber, outcomeNumber};
+ghost use Rattle.decoder.specs.Answers.{openingNumber, handOutNumber};
 
 fn show_sum(sum: u64) {
     io::write_all(STDOUT_FILENO, b" ");
@@ -45,7 +45,7 @@ fn opening_number(opening: Opening) -> u32
 }
 
 pub fn number_of(outcome: Outcome) -> u32
-    ensures { λ r. ⌜ r ≡ outcomeNumber outcome ⌝ }
+    ensures { λ r. ⌜ r ≡ handOutNumber outcome ⌝ }
 {
     match outcome {
         Outcome::Picture(_) => 0,

@@ -1,4 +1,4 @@
--- RULES C.3, Q: what each answer says: a result with its values, or a number.
+-- RULES C.3, Q: what each answer says: a result with its values, or a number; and the number alone.
 use Prim.Native.Nat.{ℕ}
 use lib.Ieee.{Float}
 use Rattle.decoder.specs.declared.answers.Opening.{Opening}
@@ -25,3 +25,13 @@ outcomeSays x = elim x [ H.Picture p ↦ picture (p .store) (p .time) | H.Refuse
 -- RULES Q: of the conversion (C.3 asks for it of each answer that is an enum)
 abbrev pub convertedSays : Converted → Said
 convertedSays x = elim x [ C.Written ↦ success | C.Refused n ↦ number n ]
+
+-- RULES C.3: an answer as a number, 0 for a result
+abbrev pub openingNumber : Opening → ℕ
+openingNumber x = elim x [ O.Ready ↦ 0 | O.Refused n ↦ n ]
+
+abbrev pub handOutNumber : Outcome → ℕ
+handOutNumber x = elim x [ H.Picture p ↦ 0 | H.Refused n ↦ n ]
+
+abbrev pub conversionNumber : Converted → ℕ
+conversionNumber x = elim x [ C.Written ↦ 0 | C.Refused n ↦ n ]

@@ -22,7 +22,8 @@ use Rattle.decoder.specs.declared.answers.Converted.the-variants as C
 use Rattle.decoder.specs.Record.{Left, fresh, storeBytes}
 use Rattle.decoder.specs.Possible.{possible}
 use Rattle.decoder.specs.Conversion.{Area}
-use Rattle.demands.specs.Calls.{Opens, Decodes, Converts, openingNumber, handOutNumber, conversionNumber}
+use Rattle.decoder.specs.Answers.{openingNumber, handOutNumber, conversionNumber}
+use Rattle.demands.specs.Calls.{Opens, Decodes, Converts}
 use Rattle.demands.specs.Questions.{firstNo, IsFirstNo, withHeader, headed, openingAsks, handOutAsks, conversionAsks}
 use Rattle.demands.specs.Numbers.{among, openingNumbers, handOutNumbers, conversionNumbers}
 use Rattle.demands.specs.After.{AfterHeader, AfterOpening, AfterHandOut}

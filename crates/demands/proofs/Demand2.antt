@@ -29,7 +29,8 @@ use Rattle.decoder.specs.declared.answers.Converted.the-variants as C
 use Rattle.decoder.specs.Record.{Left, fresh, storeBytes}
 use Rattle.decoder.specs.Possible.{possible}
 use Rattle.decoder.specs.Conversion.{Area}
-use Rattle.demands.specs.Calls.{Opens, Decodes, Converts, openingNumber, handOutNumber, conversionNumber}
+use Rattle.decoder.specs.Answers.{openingNumber, handOutNumber, conversionNumber}
+use Rattle.demands.specs.Calls.{Opens, Decodes, Converts}
 use Rattle.demands.specs.Questions.{ask, firstNo, this-one, withHeader, headed, openingAsks, handOutAsks, conversionAsks}
 use Rattle.demands.specs.Stores.{SameFrom}
 use Rattle.demands.specs.Handing.{Opened, HandsOut}

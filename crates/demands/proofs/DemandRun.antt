@@ -16,7 +16,8 @@ use Rattle.decoder.specs.Record.{Left}
 use Rattle.decoder.specs.Possible.{possible}
 use Rattle.decoder.specs.Turns.{Going, going}
 use Rattle.decoder.specs.Run.{behind, begin, pictureIn}
-use Rattle.demands.specs.Calls.{Opens, Calls, none, and-then, handOutNumber, picturesIn, AllSeven, StaySeven}
+use Rattle.decoder.specs.Answers.{handOutNumber}
+use Rattle.demands.specs.Calls.{Opens, Calls, none, and-then, picturesIn, AllSeven, StaySeven}
 use Rattle.demands.proofs.Waiting.{fresh-waits}
 use Rattle.demands.proofs.RunCall.{Between, Resting, waits-possible, stuck-call, call-on, few, admitted}
 use Rattle.demands.proofs.Run.{by-length, opening-begins, long-call, long-begin}

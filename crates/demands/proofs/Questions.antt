@@ -29,7 +29,7 @@ use Rattle.decoder.specs.Turns.{handed, shown, flushed, pastPicture, decoded, s
 use Rattle.decoder.specs.HandOut.{pictures, ended, askFirst, begun, goOn, handOut}
 use Rattle.decoder.specs.Conversion.{Area, converted}
 use Rattle.decoder.proofs.TwoTurns.{Holds, isStop, goes-held, held-stops}
-use Rattle.demands.specs.Calls.{openingNumber, handOutNumber, conversionNumber}
+use Rattle.decoder.specs.Answers.{openingNumber, handOutNumber, conversionNumber}
 use Rattle.demands.specs.Questions as Q
 use Rattle.demands.specs.Questions.{Question, ask, firstNo, IsFirstNo, this-one, a-later, withSize, withHeader, turnAsks, picturesAsk}
 

@@ -21,7 +21,7 @@ use Rattle.decoder.specs.Opening.{opened, openingFrom, opening}
 use Rattle.decoder.specs.Turns.{Going, going}
 use Rattle.decoder.specs.HandOut.{handOut}
 use Rattle.decoder.specs.Run.{call, behind, begin, before, answer, handedOut}
-use Rattle.demands.specs.Calls.{handOutNumber}
+use Rattle.decoder.specs.Answers.{handOutNumber}
 use Rattle.demands.proofs.Waiting.{Waits, Accepted, fresh-waits, Accepts, header-accepts}
 use Rattle.demands.proofs.RunCall.{Between, waiting, live, Resting, accepted-keeps, waits-possible, stuck-call, call-on, few, admitted}
 

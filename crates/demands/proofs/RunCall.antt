@@ -24,7 +24,7 @@ use Rattle.decoder.specs.HandOut.{pictures, ended, askFirst, begun, goOn, handO
 use Rattle.decoder.specs.Run.{call, behind, pictureIn}
 use Rattle.decoder.proofs.Cleared.{begun-clears}
 use Rattle.demands.specs.After.{AfterHeader, after-3, after-4, after-5}
-use Rattle.demands.specs.Calls.{handOutNumber}
+use Rattle.decoder.specs.Answers.{handOutNumber}
 use Rattle.demands.proofs.AfterHeader.{AskAfter, header-after}
 use Rattle.demands.proofs.Keeps.{Keeps}
 use Rattle.demands.proofs.RunTurns.{Stuck, Ends, hands, flushes, seven, stops, pictures-row}

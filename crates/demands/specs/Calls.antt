@@ -3,14 +3,10 @@ use mathlib.Core.Path.{_≡_}
 use mathlib.Core.List.{List, [], _∷_}
 use Prim.Native.Nat.{ℕ, _+_}
 use Rattle.decoder.specs.declared.record.Decoder.{Decoder}
-use Rattle.decoder.specs.declared.answers.Opening.{Opening}
-use Rattle.decoder.specs.declared.answers.Opening.the-variants as O
 use Rattle.decoder.specs.declared.answers.Opened.{Opened}
-use Rattle.decoder.specs.declared.answers.Outcome.{Outcome}
 use Rattle.decoder.specs.declared.answers.Outcome.the-variants as H
 use Rattle.decoder.specs.declared.answers.Handed.{Handed}
 use Rattle.decoder.specs.declared.answers.Converted.{Converted}
-use Rattle.decoder.specs.declared.answers.Converted.the-variants as C
 use Rattle.decoder.specs.Record.{left}
 use Rattle.decoder.specs.Opening.{opening}
 use Rattle.decoder.specs.Turns.{Going, going}
@@ -29,16 +25,6 @@ Decodes d s l r m = left (r .outcome) (r .decoder) m ≡ handOut d s l
 -- contract of `write_rgb_scaled`: given the record d, the store l, the store number k, the area a and the sizes w and h it gave r, and left the area b
 abbrev pub Converts : Decoder → List ℕ → ℕ → List ℕ → ℕ → ℕ → Converted → List ℕ → Type 0
 Converts d l k a w h r b = area r b ≡ converted d l k a w h
-
--- RULES C.3: the number of an answer, 0 for a result
-abbrev pub openingNumber : Opening → ℕ
-openingNumber o = elim o [ O.Ready ↦ 0 | O.Refused n ↦ n ]
-
-abbrev pub handOutNumber : Outcome → ℕ
-handOutNumber o = elim o [ H.Picture p ↦ 0 | H.Refused n ↦ n ]
-
-abbrev pub conversionNumber : Converted → ℕ
-conversionNumber o = elim o [ C.Written ↦ 0 | C.Refused n ↦ n ]
 
 -- RULES R: calls with one stream, each given the record and the store that the one before it left; what they gave, and what the last one left
 pub data Calls (s : List ℕ) : Going → List Handed → Going → Type 0 where

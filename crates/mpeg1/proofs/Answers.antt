@@ -16,7 +16,8 @@ use Rattle.decoder.specs.Opening.{opening}
 use Rattle.decoder.specs.HandOut.{handOut}
 use Rattle.decoder.specs.Conversion as Conversion
 use Rattle.memory.specs.Memory.{Memory, written, recordOf, roomy, isRecord}
-use Rattle.mpeg1.specs.Calls.{kept, Shows, shows, openingNumber, opensIn, HandsOut, decodesIn, convertedNumber, converts, convertsIn}
+use Rattle.decoder.specs.Answers.{openingNumber, conversionNumber}
+use Rattle.mpeg1.specs.Calls.{kept, Shows, shows, opensIn, HandsOut, decodesIn, converts, convertsIn}
 
 -- ---- opening
 
@@ -59,6 +60,6 @@ module _ (l : List ℕ) (x : Memory) (k : ℕ) (a : List ℕ) (w h : ℕ) where
   converts-2 e = rw e
 
   pub converts-record : {y : Converted} {area : List ℕ} {r : ℕ} → isRecord x ≡ true → Conversion.area y area ≡ Conversion.converted (recordOf x) l k a w h
-      → r ≡ convertedNumber y → converts r area ≡ convertsIn l x k a w h
+      → r ≡ conversionNumber y → converts r area ≡ convertsIn l x k a w h
   unfolding convertsIn
   converts-record i e o = rw (i, ← e, o)

@@ -9,13 +9,10 @@ use lib.IntN.{ℤ}
 use lib.ListN.{length, replicate}
 use Rattle.bits.specs.Programs.{if_then_else_}
 use Rattle.header.specs.State.{noTime}
-use Rattle.decoder.specs.declared.answers.Opening.{Opening}
-use Rattle.decoder.specs.declared.answers.Opening.the-variants as O
 use Rattle.decoder.specs.declared.answers.Outcome.{Outcome}
 use Rattle.decoder.specs.declared.answers.Outcome.the-variants as H
-use Rattle.decoder.specs.declared.answers.Converted.{Converted}
-use Rattle.decoder.specs.declared.answers.Converted.the-variants as C
 use Rattle.decoder.specs.Record.{Left}
+use Rattle.decoder.specs.Answers.{openingNumber, conversionNumber}
 use Rattle.decoder.specs.Opening.{opening}
 use Rattle.decoder.specs.HandOut.{handOut}
 use Rattle.decoder.specs.Conversion as Conversion
@@ -38,13 +35,6 @@ pub record Shows : Type 0 where
 
 abbrev pub shows : Kept → ℕ → Float → Shows
 shows x shown time = record { kept = x; shown = shown; time = time }
-
--- RULES C.3, Q: an answer as a number
-abbrev pub openingNumber : Opening → ℕ
-openingNumber x = elim x [ O.Ready ↦ 0 | O.Refused n ↦ n ]
-
-abbrev pub convertedNumber : Converted → ℕ
-convertedNumber x = elim x [ C.Written ↦ 0 | C.Refused n ↦ n ]
 
 -- the record that a call of `decoder` leaves, over the beginning of the memory
 abbrev pub saved : {A : Type 0} → ℕ → Left A → Memory → Kept
@@ -94,4 +84,4 @@ converts answer area = record { answer = answer; area = area }
 unfoldable pub convertsIn : List ℕ → Memory → ℕ → List ℕ → ℕ → ℕ → Converts
 convertsIn l x k a w h =
     if not (isRecord x) then converts 2 a
-    else (let y = Conversion.converted (recordOf x) l k a w h in converts (convertedNumber (y .answer)) (y .area))
+    else (let y = Conversion.converted (recordOf x) l k a w h in converts (conversionNumber (y .answer)) (y .area))

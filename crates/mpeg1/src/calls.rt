@@ -13,8 +13,9 @@ ghost use lib.Dec.{leb};
 ghost use lib.ListN.{length};
 ghost use Rattle.decoder.specs.Opening as Open;
 ghost use Rattle.decoder.specs.HandOut as Out;
+ghost use Rattle.decoder.specs.Answers.{openingNumber, conversionNumber};
 ghost use Rattle.memory.specs.Memory.{memory, roomy, recordOf, isRecord, Holds};
-ghost use Rattle.mpeg1.specs.Calls.{kept, shows, openingNumber, convertedNumber, opensIn, HandsOut, decodesIn, unclocked, converts, convertsIn};
+ghost use Rattle.mpeg1.specs.Calls.{kept, shows, opensIn, HandsOut, decodesIn, unclocked, converts, convertsIn};
 
 fn opening_number(x: Opening) -> u32
     ensures { λ r. ⌜ r ≡ openingNumber x ⌝ }
@@ -26,7 +27,7 @@ fn opening_number(x: Opening) -> u32
 }
 
 fn converted_number(x: Converted) -> u32
-    ensures { λ r. ⌜ r ≡ convertedNumber x ⌝ }
+    ensures { λ r. ⌜ r ≡ conversionNumber x ⌝ }
 {
     match x {
         Converted::Written => 0,
