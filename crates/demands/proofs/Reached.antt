@@ -1,5 +1,5 @@
 -- RULES D2.3, Q7, Q8, Q9: how the turns of a hand-out end, and what of record and store they leave alone.
-use mathlib.Core.Path.{_≡_, refl, sym, ap, subst, _∙_}
+use mathlib.Core.Path.{_≡_, refl, ap, subst, _∙_}
 use mathlib.Core.Bool.{Bool, true, false, false≢true}
 use mathlib.Core.List.{List}
 use mathlib.Core.Logic.{inr}
@@ -12,10 +12,10 @@ use lib.ListN.{length}
 use Rattle.laws.specs.Turns.{Turn, again, stop, turns}
 use Rattle.bits.specs.Programs.{Out, run, eqZ}
 use Rattle.laws.proofs.Tests.{by-case}
-use Rattle.picture.specs.declared.state.Stores.{Stores}
 use Rattle.picture.specs.Ways.{Way, out}
 use Rattle.picture.specs.Possible.{PossibleStores}
 use Rattle.picture.specs.Pictures as P
+use Rattle.picture.proofs.Kept.{after-kept}
 use Rattle.decoder.specs.declared.record.Decoder.{Decoder}
 use Rattle.decoder.specs.declared.answers.Shown.{Shown}
 use Rattle.decoder.specs.declared.answers.Outcome.the-variants as H
@@ -59,10 +59,6 @@ pub next-sequence : (s : List ℕ) (d : Decoder) → nextPicture s d .sequence �
 unfolding nextPicture
 next-sequence s d = by-case (λ (x : Decoder). x .sequence ≡ d .sequence) (eqZ (startCode d) (pos 0)) (λ e. refl) (λ e. refl)
 
-after-possible : {t : Stores} → PossibleStores t → PossibleStores (P.after t)
-after-possible k =
-    record { cur = k .fwd; fwd = k .bwd; bwd = k .cur; cur-fwd = k .fwd-bwd; cur-bwd = λ e. k .cur-fwd (sym e); fwd-bwd = λ e. k .cur-bwd (sym e) }
-
 -- a picture that is read to its end, or leaves early
 module _ (s : List ℕ) {d : Decoder} {l : List ℕ} (k : Fit d l) where
   pub run-left : Ways (Left (d .sequence .sizes) (d .picture) l (run (P.pictureHeader (d .picture)) s (place d) .value .decoded))
@@ -89,7 +85,7 @@ module _ (s : List ℕ) {d : Decoder} {l : List ℕ} (k : Fit d l) where
       go : (b : Bool) → run (P.pictureHeader (d .picture)) s (place d) .value .decoded ≡ b
           → Left (d .sequence .sizes) (d .picture) l (run (P.pictureHeader (d .picture)) s (place d) .value .decoded) f → PossibleStores (f .picture .stores)
       go true e j =
-          rw (j .stores e) (by-case PossibleStores (eqb (f .picture .«picture_type») 3) (λ b. k .stores) (λ b. after-possible (k .stores)))
+          rw (j .stores e) (by-case PossibleStores (eqb (f .picture .«picture_type») 3) (λ b. k .stores) (λ b. after-kept (k .stores)))
       go false e j = rw (j .others e) (k .stores)
 
   pub past-same : {f : P.Frame} {a : ℕ} → Reads s d l f a → SameFrom (storeBytes d) l (f .store)

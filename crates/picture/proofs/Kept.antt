@@ -340,7 +340,8 @@ record PictureKept (H : Type 0) (n : ℕ) (f : P.Frame) : Type 0 where
   picture : H → PossiblePicture (f .picture)
   store : length (f .store) ≡ n
 
-after-kept : {t : Stores} → PossibleStores t → PossibleStores (P.after t)
+-- the turn of the stores keeps them possible
+pub after-kept : {t : Stores} → PossibleStores t → PossibleStores (P.after t)
 after-kept k = record { cur = k .fwd; fwd = k .bwd; bwd = k .cur; cur-fwd = k .fwd-bwd; cur-bwd = λ e. k .cur-fwd (sym e); fwd-bwd = λ e. k .cur-bwd (sym e) }
 
 module _ (H : Type 0) {s : List ℕ} (z : Sizes) (c : Domain H s z) (m : Matrices) (n : ℕ) where
