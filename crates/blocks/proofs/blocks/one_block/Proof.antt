@@ -94,15 +94,5 @@ returns-2 c =
 pub one-block-spec : {M : Type 1} → statement M
 one-block-spec =
     tie.close
-    (tie.spec
-    (λ c κs. search needs)
-    (λ c κs. search needs)
-    (λ c. search needs)
-    (λ c. search needs)
-    read-block-requires
-    (λ c. search needs)
-    returns
-    write-block-requires
-    predicted-requires
-    (λ c. search needs)
-    returns-2)
+    (tie.spec (λ c κs. search needs) (λ c κs. search needs) (λ c. search needs) (λ c. search needs) read-block-requires (λ c. search needs)
+    returns write-block-requires predicted-requires (λ c. search needs) returns-2)

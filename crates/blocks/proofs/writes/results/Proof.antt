@@ -38,8 +38,7 @@ first-is c =
 
 returns : tie.Need-returns
 returns c =
-    let f = if-one c .before in
-    let a = f .before .before .before .before .args in
+    let f = if-one c .before in let a = f .before .before .before .before .args in
     first-intra (a .q) (filled (now (a .values)) (a .n)) (a .di) (a .dw) (now (a .d)) (f .before .before .if1 .taken) (first-is f)
     (if-one c .if2 .taken) (c .before .before .before .clamp-u8 .ensures) (c .before .before .block-set-const .ensures)
 
@@ -51,43 +50,25 @@ block-set-add-const-requires c κs =
 
 returns-2 : tie.Need-returns-2
 returns-2 c =
-    let o = c .before .before .before .before in
-    let f = o .before in
-    let a = f .before .before .before .before .args in
+    let o = c .before .before .before .before in let f = o .before in let a = f .before .before .before .before .args in
     first-other (a .q) (filled (now (a .values)) (a .n)) (a .di) (a .dw) (now (a .d)) (f .before .before .if1 .taken) (first-is f)
     (o .if2 .left) (c .before .before .block-set-add-const .ensures)
 
 returns-3 : tie.Need-returns-3
 returns-3 c =
-    let i = if-all c .before in
-    let a = i .before .before .before .before .args in
+    let i = if-all c .before in let a = i .before .before .before .before .args in
     all-intra (a .q) (filled (now (a .values)) (a .n)) (a .di) (a .dw) (now (a .d)) (i .before .before .if1 .left) (i .idct .ensures .0)
     (if-all c .if3 .taken) (c .before .before .block-set-overwrite .ensures)
 
 returns-4 : tie.Need-returns-4
 returns-4 c =
-    let i = if-added c .before in
-    let a = i .before .before .before .before .args in
+    let i = if-added c .before in let a = i .before .before .before .before .args in
     all-other (a .q) (filled (now (a .values)) (a .n)) (a .di) (a .dw) (now (a .d)) (i .before .before .if1 .left) (i .idct .ensures .0)
     (if-added c .if3 .left) (c .before .before .block-set-add .ensures)
 
 pub results-spec : {M : Type 1} → statement M
 results-spec =
     tie.close
-    (tie.spec
-    (λ c. search needs)
-    dc-only-requires
-    (λ c κs. search needs)
-    (λ c κs. search needs)
-    (λ c. search needs)
-    returns
-    block-set-add-const-requires
-    (λ c. search needs)
-    returns-2
-    (λ c κs. search needs)
-    (λ c κs. search needs)
-    (λ c. search needs)
-    returns-3
-    (λ c κs. search needs)
-    (λ c. search needs)
-    returns-4)
+    (tie.spec (λ c. search needs) dc-only-requires (λ c κs. search needs) (λ c κs. search needs) (λ c. search needs) returns
+    block-set-add-const-requires (λ c. search needs) returns-2 (λ c κs. search needs) (λ c κs. search needs) (λ c. search needs) returns-3
+    (λ c κs. search needs) (λ c. search needs) returns-4)

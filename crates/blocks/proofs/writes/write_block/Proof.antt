@@ -9,16 +9,19 @@ use Rattle.blocks.proofs.BlockEnds.{not-whole}
 use Rattle.blocks.proofs.writes.write_block.Statement.{statement}
 use Rattle.blocks.proofs.writes.write_block.Tie as tie
 
--- once a whole block is written: where its end is known
+-- once a whole block is written: where it was, and where its end is known
+abbrev wrote : tie.After-left-over → tie.After-write-results
+wrote c = c .before .before .before .before
+
 abbrev whole : tie.After-left-over → tie.After-enum-told
-whole c = c .before .before .before .before .before .before .before
+whole c = wrote c .before .before .before
 
 returns : tie.Need-returns
 unfolding storeAfter leftOver
 returns c =
     let e = whole c .enum-told .given .1 in
     let s = whole c .before .before .before in
-    rw e (rw (toZ-ofZ (s .fits .address)) at (c .before .before .before .before .write-results .ensures), rw e at (c .left-over .ensures))
+    rw e (rw (toZ-ofZ (s .fits .address)) at (wrote c .write-results .ensures), rw e at (c .left-over .ensures))
 
 returns-2 : tie.Need-returns-2
 returns-2 c =
@@ -28,11 +31,4 @@ returns-2 c =
 
 pub write-block-spec : {M : Type 1} → statement M
 write-block-spec =
-    tie.close
-    (tie.spec
-    (λ c. search needs)
-    (λ c κs. search needs)
-    (λ c κs. search needs)
-    (λ c. search needs)
-    returns
-    returns-2)
+    tie.close (tie.spec (λ c. search needs) (λ c κs. search needs) (λ c κs. search needs) (λ c. search needs) returns returns-2)

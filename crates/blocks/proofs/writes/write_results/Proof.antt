@@ -13,15 +13,15 @@ use Rattle.blocks.proofs.Stores.{size-most, plane-most, block-in-part, 
 use Rattle.blocks.proofs.writes.write_results.Statement.{statement}
 use Rattle.blocks.proofs.writes.write_results.Tie as tie
 
--- where the plane is known, and the entry
+-- the entry, where the plane is known; where the block's place is known, and the plane from there
 abbrev entry : tie.After-plane-length → tie.Start
 entry c = c .before .before .before .before .before
 
-abbrev known : tie.After-slice-known2 → tie.After-plane-length
-known c = c .before .before .before .before .before .before .before
-
 abbrev placed : tie.After-slice-known2 → tie.After-block-width
 placed c = c .before .before .before .before .before
+
+abbrev known : tie.After-slice-known2 → tie.After-plane-length
+known c = placed c .before .before
 
 m-is : (c : tie.After-macroblock-at) → let a = c .before .before .args in
     c .macroblock-at .result ≡ macroblockAt (a .g .sizes .«mb_width») (a .g .sizes .«mb_height») (natAbs (a .address))
@@ -86,18 +86,6 @@ returns c =
 pub write-results-spec : {M : Type 1} → statement M
 write-results-spec =
     tie.close
-    (tie.spec
-    cast-macroblock-at
-    (λ c κs. search needs)
-    (λ c κs. search needs)
-    plane-start-requires
-    plane-length-requires
-    add-end
-    (λ c κs. search needs)
-    (λ c κs. search needs)
-    (λ c. search needs)
-    (λ c. search needs)
-    part-results-end
-    results-requires
-    (λ c. search needs)
-    returns)
+    (tie.spec cast-macroblock-at (λ c κs. search needs) (λ c κs. search needs) plane-start-requires plane-length-requires add-end
+    (λ c κs. search needs) (λ c κs. search needs) (λ c. search needs) (λ c. search needs) part-results-end results-requires
+    (λ c. search needs) returns)

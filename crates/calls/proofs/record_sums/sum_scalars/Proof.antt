@@ -8,6 +8,10 @@ use borrow.Author.Needs.{needs}
 use Rattle.calls.proofs.record_sums.sum_scalars.Statement.{statement}
 use Rattle.calls.proofs.record_sums.sum_scalars.Tie as tie
 
+-- the size, where the numbers behind it are summed
+abbrev sized : tie.After-sum-numbers → tie.After-size
+sized n = n .before .before .before .before .before
+
 returns : tie.Need-returns
 returns c =
     let f = c .before .before in
@@ -15,7 +19,7 @@ returns c =
     let p = k .before in
     let q = p .before in
     let n = q .before in
-    let z = n .before .before .before .before .before in
+    let z = sized n in
     let d = z .before .before .before .args .d in (
       c .sum-numbers2 .ensures .0
           ∙ ap (summed (k .sum-clock .result)) (f .flag .ensures then refl)

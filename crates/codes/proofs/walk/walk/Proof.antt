@@ -41,10 +41,13 @@ returns c =
     let ends = rw (toZ-ofZ (sfits-of (c .before .before .next .given))) at (c .if1 .taken) in
     (reading (x .before .before .before .pre .0) (loop-end (r .2) (r-call _ (x .read-bit .ensures .runs) (r-yes _ ends r-done))), omega (arith, bit x))
 
--- the entry that the walk goes on from
+-- where the bit is read from which the walk goes on, and the entry there
+abbrev read : tie.Else1 Inv-loop μ-loop → tie.After-read-bit Inv-loop μ-loop
+read c = c .before .before .before .before
+
 abbrev entry : tie.Else1 Inv-loop μ-loop → ℤ
 entry c =
-    let x = c .before .before .before .before in
+    let x = read c in
     getD (now (x .before .before .before .args .index)) (x .before .loop .at + x .read-bit .result .value) (pos 0)
 
 back : (c : tie.Else1 Inv-loop μ-loop) → reread w32 (entry c) ≡ entry c
@@ -52,12 +55,12 @@ back c = toZ-ofZ (sfits-of (c .before .before .next .given))
 
 record Next (c : tie.Else1 Inv-loop μ-loop) : Type 0 where
   is : reread w32 (entry c) ≡ pos (natAbs (entry c))
-  further : c .before .before .before .before .before .loop .at < natAbs (entry c)
-  inside : natAbs (entry c) + 1 < length (now (c .before .before .before .before .before .before .before .args .index))
+  further : read c .before .loop .at < natAbs (entry c)
+  inside : natAbs (entry c) + 1 < length (now (read c .before .before .before .args .index))
 
 next : (c : tie.Else1 Inv-loop μ-loop) → Next c
 next c =
-    let x = c .before .before .before .before in
+    let x = read c in
     let up = above (entry c) (rw (back c) at (c .if1 .left)) in
     let good = x .before .before .before .pre .1 .rule (x .before .loop .at + x .read-bit .result .value) (natAbs (entry c)) (omega (arith, bit x)) (up .0)
     (up .1) in
@@ -72,7 +75,7 @@ loop-less c = let n = next c in rw (n .is) (omega (arith, n .further, n .inside)
 loop-again : tie.Need-loop-again Inv-loop μ-loop
 unfolding walkTurn
 loop-again c =
-    let x = c .before .before .before .before in
+    let x = read c in
     let r = x .before .loop .inv in
     let n = next c in
     let goes = rw (back c) at (c .if1 .left) in

@@ -35,24 +35,29 @@ sum = var 0 ⊹ var 1
 abbrev first : Exp
 first = sum ×̇ cst 256
 
+-- the difference, where its value is judged
+abbrev difference : tie.After-dc-inside → tie.After-read-dc-difference
+difference c = c .before .before .before .before
+
 -- question 8, of the DC value
-inside : (c : tie.After-dc-inside) → let d = c .before .before .before .before in
+inside : (c : tie.After-dc-inside) → let d = difference c in
     c .dc-inside .result ≡ dcInside (begun d .args .predictor +ℤ d .read-dc-difference .result .value)
-inside c = c .dc-inside .ensures ∙ ap dcInside (value (ρ (c .before .before .before .before)) sum tt)
+inside c = c .dc-inside .ensures ∙ ap dcInside (value (ρ (difference c)) sum tt)
 
 returns : tie.Need-returns
 returns c =
     let i = c .before in
-    let d = i .before .before .before .before in
+    let d = difference i in
     let s = begun d in
     let a = s .args in
     let outside = sym (inside i) ∙ sym (Bool·not-not _) ∙ ap not (c .if1 .taken) in
     rw (toZ-ofZ (s .fits .predictor))
-    (reading (s .pre .0) (dc-outside _ (a .luminance) (a .predictor) (now (a .values)) (a .q) (s .pre .1 .1 .0) (d .read-dc-difference .ensures .runs) outside))
+    (reading (s .pre .0)
+    (dc-outside _ (a .luminance) (a .predictor) (now (a .values)) (a .q) (s .pre .1 .1 .0) (d .read-dc-difference .ensures .runs) outside))
 
 read-coefficients-requires : tie.Need-read-coefficients-requires
 read-coefficients-requires c κs =
-    let d = c .before .before .before .before .before .before in
+    let d = difference (c .before .before) in
     let s = begun d in
     (d .read-dc-difference .ensures .inside, (s .pre .1 .0, (omega arith, s .pre .1 .1 .1)))
 
@@ -61,7 +66,7 @@ returns-2 c =
     let r = c .before in
     let e = r .before .before in
     let i = e .before in
-    let d = i .before .before .before .before in
+    let d = difference i in
     let s = begun d in
     let a = s .args in
     let h = sym (inside i) ∙ sym (Bool·not-not _) ∙ ap not (e .if1 .left) in
@@ -78,7 +83,7 @@ read-intra-block-spec =
     (λ c. need (ρ (c .before .before .before)) sum tt)
     (λ c κs. search needs)
     returns
-    (λ c. need (ρ (c .before .before .before .before .before)) first tt)
+    (λ c. need (ρ (difference (c .before))) first tt)
     (λ c. search needs)
     read-coefficients-requires
     returns-2)

@@ -23,26 +23,30 @@ returns c = reading (c .before .before .before .pre) (r-yes _ (eq-eqb _ _ (c .be
 read-bit-requires : tie.Need-read-bit-requires
 read-bit-requires c κs = c .before .before .pre
 
+-- the entry, where the sign is read
+abbrev entry : tie.After-read-bit → tie.Start
+entry x = x .before .before .before
+
 cast-size : tie.Need-cast-size
-cast-size c = eval-fits (ρ (c .before .before .before .before)) (var 0) tt
+cast-size c = eval-fits (ρ (entry (c .before))) (var 0) tt
 
 returns-2 : tie.Need-returns-2
 unfolding runLevel
 returns-2 c =
     let x = c .before .before .before in
-    let s = x .before .before .before in
+    let s = entry x in
     let n = num-of (ρ s) (var 0) tt in
     rw (n .is)
     (reading (s .pre) (r-no _ (ne-eqb _ _ (x .before .if1 .left)) (r-call _ (x .read-bit .ensures .runs) (r-yes _ (eq-eqb _ _ (c .if2 .taken)) r-done))))
 
 sub-level : tie.Need-sub-level
-sub-level c = need (ρ (c .before .before .before .before .before .before)) (neg (var 0)) tt
+sub-level c = need (ρ (entry (c .before .before .before))) (neg (var 0)) tt
 
 returns-3 : tie.Need-returns-3
 unfolding runLevel
 returns-3 c =
     let x = c .before .before .before in
-    let s = x .before .before .before in
+    let s = entry x in
     let n = num-of (ρ s) (neg (var 0)) tt in
     rw (n .is)
     (reading (s .pre) (r-no _ (ne-eqb _ _ (x .before .if1 .left)) (r-call _ (x .read-bit .ensures .runs) (r-no _ (ne-eqb _ _ (c .if2 .left)) r-done))))

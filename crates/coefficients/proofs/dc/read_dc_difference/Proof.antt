@@ -9,6 +9,10 @@ use Rattle.coefficients.proofs.Sizes.{size-most}
 use Rattle.coefficients.proofs.dc.read_dc_difference.Statement.{statement}
 use Rattle.coefficients.proofs.dc.read_dc_difference.Tie as tie
 
+-- the size, where the difference is read
+abbrev size : tie.After-end → tie.After-read-dc-size
+size c = c .before .before .before .before .before
+
 returns : tie.Need-returns
 unfolding dcDifference
 returns c =
@@ -17,7 +21,7 @@ returns c =
 
 added-requires : tie.Need-added-requires
 added-requires c κs =
-    let x = c .before .before .before .before .before in (
+    let x = size c in (
       omega arith,
       given-by (size-most (x .before .before .args .luminance)) (x .read-dc-size .ensures .runs),
       given-by (g-reads _)
@@ -29,7 +33,7 @@ unfolding dcDifference
 returns-2 c =
     let r = c .before .before in
     let i = r .before in
-    let x = i .before .before .before in
+    let x = size (c .before) in
     let s = x .before .before in
     let small = given-by (size-most (s .args .luminance)) (x .read-dc-size .ensures .runs) in
     rw (toZ-ofZ (sfits-of (c .added .ok)), c .added .ensures .0)

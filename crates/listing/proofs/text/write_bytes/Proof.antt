@@ -20,16 +20,5 @@ returns c = copied-all (c .before .loop .inv) (c .loop-test .left)
 pub write-bytes-spec : {M : Type 1} → statement M
 write-bytes-spec =
     tie.close
-    (tie.spec
-    Inv-loop
-    μ-loop
-    (λ c. copied-none)
-    (λ c. omega arith)
-    (λ c. omega arith)
-    (λ c. omega arith)
-    (λ c. omega arith)
-    (λ c. omega arith)
-    loop-again
-    (λ c. omega arith)
-    (λ c. c .before .loop .inv .long)
-    returns)
+    (tie.spec Inv-loop μ-loop (λ c. copied-none) (λ c. omega arith) (λ c. omega arith) (λ c. omega arith) (λ c. omega arith)
+    (λ c. omega arith) loop-again (λ c. omega arith) (λ c. c .before .loop .inv .long) returns)

@@ -8,7 +8,7 @@ use Rattle.slices.proofs.turns.read_coded.Tie as tie
 
 -- the entry, the roles, and the state that the slices are read from
 abbrev entry : tie.After-tables-with → tie.Start
-entry x = x .before .before .before .before .before .before .before
+entry x = let intra = x .before .before .before .before in intra .before .before .before
 
 abbrev roles : tie.After-state-of → tie.After-roles-of
 roles o = o .before .before .before .before .before

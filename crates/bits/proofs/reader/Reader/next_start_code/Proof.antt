@@ -22,13 +22,17 @@ abbrev μ-loop : tie.MeasureT-loop
 loop-holds : tie.Need-loop-holds Inv-loop μ-loop
 loop-holds c = (omega arith, refl)
 
+-- the turn in which the prefix is asked for
+abbrev turn : tie.After-has-prefix Inv-loop μ-loop → tie.At-loop Inv-loop μ-loop
+turn p = p .before .before
+
 cast-t17 : tie.Need-cast-t17 Inv-loop μ-loop
-cast-t17 c = record { sfits = omega (arith, c .shared-slice-known2 .given (c .before .before .before .before .before .loop .b + 3)) }
+cast-t17 c = record { sfits = omega (arith, c .shared-slice-known2 .given (turn (c .before .before .before) .loop .b + 3)) }
 
 returns : tie.Need-returns Inv-loop μ-loop
 returns c =
     let p = c .before .before .before in
-    let x = p .before .before in
+    let x = turn p in
     let b = x .loop .b in
     let s = now (x .before .before .before .before .args .s) in
     let here = found-here s b (p .before .loop-test .taken) (sym (p .has-prefix .ensures) ∙ c .before .before .if1 .taken) in
@@ -39,7 +43,7 @@ returns c =
 loop-again : tie.Need-loop-again Inv-loop μ-loop
 loop-again c =
     let p = c .before in
-    let x = p .before .before in
+    let x = turn p in
     let s = now (x .before .before .before .before .args .s) in
     (omega arith, x .loop .inv .1 ∙ found-on-by-one s (x .loop .b) (p .before .loop-test .taken) (sym (p .has-prefix .ensures) ∙ c .if1 .left))
 
@@ -54,22 +58,6 @@ returns-2 c =
 pub next-start-code-spec : {M : Type 1} → statement M
 next-start-code-spec =
     tie.close
-    (tie.spec
-    Inv-loop
-    μ-loop
-    (λ c κs. search needs)
-    (λ c κs. search needs)
-    loop-holds
-    (λ c. search needs)
-    (λ c κs. search needs)
-    (λ c. search needs)
-    (λ c κs. search needs)
-    (λ c. search needs)
-    (λ c. search needs)
-    cast-t17
-    returns
-    (λ c. search needs)
-    (λ c. search needs)
-    loop-again
-    (λ c κs. search needs)
-    returns-2)
+    (tie.spec Inv-loop μ-loop (λ c κs. search needs) (λ c κs. search needs) loop-holds (λ c. search needs) (λ c κs. search needs)
+    (λ c. search needs) (λ c κs. search needs) (λ c. search needs) (λ c. search needs) cast-t17 returns (λ c. search needs)
+    (λ c. search needs) loop-again (λ c κs. search needs) returns-2)
