@@ -9,12 +9,15 @@ use lib.IntN.{ℤ, pos, negsuc, natAbs}
 use lib.ListN.{length, getD, take, drop}
 use lib.Seq.{take-take, getD-take, getD-drop}
 use lib.Signed.{nonNeg}
+use Rattle.bits.specs.Programs.{Prog}
 use Rattle.bits.specs.Runs.{Reading}
 use Rattle.bits.specs.declared.reader.Reader.{Reader}
 use mir.Facts.{and-yes}
 use mir.Syntax.{w32}
 use Rattle.laws.proofs.Ints.{reread}
 use Rattle.laws.proofs.Nums.{Num, num, rd}
+use Rattle.codes.specs.Codes.{macroblockAddressIncrement, macroblockTypeIntra, macroblockTypePredictive, macroblockTypeB}
+use Rattle.codes.specs.Codes.{codeBlockPattern, dctSizeLuminance, dctSizeChrominance, dctCoeff}
 use Rattle.codes.specs.Lent.{Lent, fixedTables, matrixOf}
 use Rattle.codes.specs.Matrices.{zigZag, downFrom, diagonals, premultiplierMatrix}
 use Rattle.codes.specs.Tables.{macroblockAddressIncrementIndex, macroblockAddressIncrementValue, macroblockTypeIntraIndex, macroblockTypeIntraValue}
@@ -24,6 +27,8 @@ use Rattle.codes.specs.Tables.{dctSizeLuminanceIndex, dctSizeLuminanceVa
 use Rattle.codes.specs.Tables.{dctCoeffValue}
 use Rattle.codes.proofs.Bounds.{premultiplier-small, zig-zag-inside}
 use Rattle.codes.specs.Rule.{Good}
+use Rattle.codes.proofs.Good.{good-macroblock-address-increment, good-macroblock-type-intra, good-macroblock-type-predictive, good-macroblock-type-b}
+use Rattle.codes.proofs.Good.{good-code-block-pattern, good-dct-size-luminance, good-dct-size-chrominance, good-dct-coeff}
 use Rattle.codes.specs.Walk.{Naturals, vlc}
 
 -- ---- lists
@@ -64,19 +69,26 @@ back (x ∷ vs) = ap (λ (l : List ℕ). x ∷ l) (back vs)
 
 -- ---- parts of the tables
 
+-- a code whose table has n entries and natural values: the indices at the place a, the values behind them
+pub record Natural (a n : ℕ) (index : List ℤ) (value : List ℕ) (code : Prog ℕ) : Type 0 where
+  pub inside : T (leb (a + n + n) 1276)
+  pub indices : take n (drop a fixedTables) ≡ index
+  pub values : take n (drop (a + n) fixedTables) ≡ map pos value
+  pub good : Good index
+  pub long : length index ≡ length value
+  pub walks : vlc index value 0 ≡ code
+
 -- where each table stands
 pub record Places : Type 0 where
-  pub increment : (take 80 (drop 0 fixedTables) ≡ macroblockAddressIncrementIndex)
-      × (take 80 (drop 80 fixedTables) ≡ map pos macroblockAddressIncrementValue)
-  pub type-intra : (take 4 (drop 160 fixedTables) ≡ macroblockTypeIntraIndex) × (take 4 (drop 164 fixedTables) ≡ map pos macroblockTypeIntraValue)
-  pub type-predictive : (take 14 (drop 168 fixedTables) ≡ macroblockTypePredictiveIndex)
-      × (take 14 (drop 182 fixedTables) ≡ map pos macroblockTypePredictiveValue)
-  pub type-b : (take 22 (drop 196 fixedTables) ≡ macroblockTypeBIndex) × (take 22 (drop 218 fixedTables) ≡ map pos macroblockTypeBValue)
-  pub pattern : (take 126 (drop 240 fixedTables) ≡ codeBlockPatternIndex) × (take 126 (drop 366 fixedTables) ≡ map pos codeBlockPatternValue)
+  pub increment : Natural 0 80 macroblockAddressIncrementIndex macroblockAddressIncrementValue macroblockAddressIncrement
+  pub type-intra : Natural 160 4 macroblockTypeIntraIndex macroblockTypeIntraValue macroblockTypeIntra
+  pub type-predictive : Natural 168 14 macroblockTypePredictiveIndex macroblockTypePredictiveValue macroblockTypePredictive
+  pub type-b : Natural 196 22 macroblockTypeBIndex macroblockTypeBValue macroblockTypeB
+  pub pattern : Natural 240 126 codeBlockPatternIndex codeBlockPatternValue codeBlockPattern
   pub vector : (take 68 (drop 492 fixedTables) ≡ motionIndex) × (take 68 (drop 560 fixedTables) ≡ motionValue)
-  pub luminance : (take 18 (drop 628 fixedTables) ≡ dctSizeLuminanceIndex) × (take 18 (drop 646 fixedTables) ≡ map pos dctSizeLuminanceValue)
-  pub chrominance : (take 18 (drop 664 fixedTables) ≡ dctSizeChrominanceIndex) × (take 18 (drop 682 fixedTables) ≡ map pos dctSizeChrominanceValue)
-  pub coefficient : (take 224 (drop 700 fixedTables) ≡ dctCoeffIndex) × (take 224 (drop 924 fixedTables) ≡ map pos dctCoeffValue)
+  pub luminance : Natural 628 18 dctSizeLuminanceIndex dctSizeLuminanceValue dctSizeLuminance
+  pub chrominance : Natural 664 18 dctSizeChrominanceIndex dctSizeChrominanceValue dctSizeChrominance
+  pub coefficient : Natural 700 224 dctCoeffIndex dctCoeffValue dctCoeff
   pub order : take 64 (drop 1148 fixedTables) ≡ map pos zigZag
   pub premultipliers : take 64 (drop 1212 fixedTables) ≡ premultiplierMatrix
 
@@ -84,18 +96,19 @@ pub places : Places
 unfolding fixedTables macroblockAddressIncrementIndex macroblockAddressIncrementValue macroblockTypeIntraIndex macroblockTypeIntraValue
     macroblockTypePredictiveIndex macroblockTypePredictiveValue macroblockTypeBIndex macroblockTypeBValue codeBlockPatternIndex codeBlockPatternValue
     motionIndex motionValue dctSizeLuminanceIndex dctSizeLuminanceValue dctSizeChrominanceIndex dctSizeChrominanceValue dctCoeffIndex dctCoeffValue
-    zigZag downFrom diagonals premultiplierMatrix
+    zigZag downFrom diagonals premultiplierMatrix macroblockAddressIncrement macroblockTypeIntra macroblockTypePredictive macroblockTypeB codeBlockPattern
+    dctSizeLuminance dctSizeChrominance dctCoeff
 places =
     record {
-      increment = (refl, refl);
-      type-intra = (refl, refl);
-      type-predictive = (refl, refl);
-      type-b = (refl, refl);
-      pattern = (refl, refl);
+      increment = record { inside = tt; indices = refl; values = refl; good = good-macroblock-address-increment; long = refl; walks = refl };
+      type-intra = record { inside = tt; indices = refl; values = refl; good = good-macroblock-type-intra; long = refl; walks = refl };
+      type-predictive = record { inside = tt; indices = refl; values = refl; good = good-macroblock-type-predictive; long = refl; walks = refl };
+      type-b = record { inside = tt; indices = refl; values = refl; good = good-macroblock-type-b; long = refl; walks = refl };
+      pattern = record { inside = tt; indices = refl; values = refl; good = good-code-block-pattern; long = refl; walks = refl };
       vector = (refl, refl);
-      luminance = (refl, refl);
-      chrominance = (refl, refl);
-      coefficient = (refl, refl);
+      luminance = record { inside = tt; indices = refl; values = refl; good = good-dct-size-luminance; long = refl; walks = refl };
+      chrominance = record { inside = tt; indices = refl; values = refl; good = good-dct-size-chrominance; long = refl; walks = refl };
+      coefficient = record { inside = tt; indices = refl; values = refl; good = good-dct-coeff; long = refl; walks = refl };
       order = refl;
       premultipliers = refl;
     }
@@ -109,22 +122,23 @@ module _ {t : List ℤ} (l : Lent t) where
       → getD t (a + i) (pos 0) ≡ getD xs i (pos 0)
   lent-at a n i h k e = sym (part-at a n i t (pos 0) k) ∙ ap (λ (x : List ℤ). getD x i (pos 0)) (lent-part a n h e)
 
-  -- a code table of n entries at the place a: indices and natural values
-  module _ (a n : ℕ) {index : List ℤ} (value : List ℕ) (h : T (leb (a + n + n) 1276))
-      (p : (take n (drop a fixedTables) ≡ index) × (take n (drop (a + n) fixedTables) ≡ map pos value)) where
+  module _ {a n : ℕ} {index : List ℤ} {value : List ℕ} {code : Prog ℕ} (p : Natural a n index value code) where
     -- its walk, by the parts and by the definition
     pub natural-code : {s : List ℕ} {from to : Reader} {v : ℕ}
-        → Reading (vlc (take n (drop a t)) (map natAbs (take n (drop (a + n) t))) 0) s from v to → Reading (vlc index value 0) s from v to
+        → Reading (vlc (take n (drop a t)) (map natAbs (take n (drop (a + n) t))) 0) s from v to → Reading code s from v to
     natural-code r =
-        let most = leb→le (a + n + n) 1276 h in
-        rw (lent-part a n (omega arith) (p .0), lent-part (a + n) n (omega arith) (p .1), back value) at r
+        let most = leb→le (a + n + n) 1276 (p .inside) in
+        rw (lent-part a n (omega arith) (p .indices), lent-part (a + n) n (omega arith) (p .values), back value, p .walks) at r
 
-    pub natural-table : Good index → length index ≡ length value
-        → Good (take n (drop a t)) × ((length (take n (drop (a + n) t)) ≡ length (take n (drop a t))) × Naturals (take n (drop (a + n) t)))
-    natural-table g e =
-        let most = leb→le (a + n + n) 1276 h in
-        rw (lent-part a n (omega arith) (p .0), lent-part (a + n) n (omega arith) (p .1))
-        (g, (length-map pos value ∙ sym e, record { each = naturals-of value }))
+    -- what `read_natural` asks of its places and of the parts there
+    pub natural-table : ((a ≤ a + n) × (a + n ≤ a + n + n) × (a + n + n ≤ 1404))
+        × (Good (take n (drop a t)) × ((length (take n (drop (a + n) t)) ≡ length (take n (drop a t))) × Naturals (take n (drop (a + n) t))))
+    natural-table =
+        let most = leb→le (a + n + n) 1276 (p .inside) in (
+          (omega arith, omega arith, omega arith),
+          rw (lent-part a n (omega arith) (p .indices), lent-part (a + n) n (omega arith) (p .values))
+              (p .good, (length-map pos value ∙ sym (p .long), record { each = naturals-of value })),
+        )
 
 -- an entry behind the fixed tables is a byte
 pub lent-byte : {t : List ℤ} → Lent t → (a i : ℕ) → 1276 ≤ a
