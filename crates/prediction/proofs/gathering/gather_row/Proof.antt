@@ -15,15 +15,7 @@ abbrev μ-loop : tie.MeasureT-loop
 pub gather-row-spec : {M : Type 1} → statement M
 gather-row-spec =
     tie.close
-    (tie.spec
-    Inv-loop
-    μ-loop
-    (λ c. no-run)
-    (λ c. omega arith)
-    (λ c κs. omega arith)
-    (λ c. omega arith)
-    (λ c. omega arith)
-    (λ c. omega arith)
-    (λ c. omega arith)
+    (tie.spec Inv-loop μ-loop (λ c. no-run) (λ c. omega arith) (λ c κs. omega arith) (λ c. omega arith) (λ c. omega arith)
+    (λ c. omega arith) (λ c. omega arith)
     (λ c. let t = c .before in run-on (t .before .loop .inv) (t .loop-test .taken) (c .sample .ensures))
     (λ c. run-all (c .before .loop .inv) (c .loop-test .left)))

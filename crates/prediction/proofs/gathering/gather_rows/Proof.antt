@@ -45,15 +45,7 @@ loop-again c =
 pub gather-rows-spec : {M : Type 1} → statement M
 gather-rows-spec =
     tie.close
-    (tie.spec
-    Inv-loop
-    μ-loop
+    (tie.spec Inv-loop μ-loop
     (λ c. let size = c .before .args .size in no-line (omega arith) (omega (arith, in-block size (size - 1) (omega arith) (omega arith))))
-    (λ c. omega (arith, here c))
-    (λ c. omega (arith, there c))
-    (λ c. omega (arith, there c))
-    (λ c κs. omega (arith, here c, there c))
-    (λ c. omega arith)
-    (λ c. omega arith)
-    loop-again
-    (λ c. lines-all (c .before .loop .inv) (c .loop-test .left)))
+    (λ c. omega (arith, here c)) (λ c. omega (arith, there c)) (λ c. omega (arith, there c)) (λ c κs. omega (arith, here c, there c))
+    (λ c. omega arith) (λ c. omega arith) loop-again (λ c. lines-all (c .before .loop .inv) (c .loop-test .left)))

@@ -16,19 +16,7 @@ abbrev μ-loop : tie.MeasureT-loop
 pub lay-row-spec : {M : Type 1} → statement M
 lay-row-spec =
     tie.close
-    (tie.spec
-    Inv-loop
-    μ-loop
-    (λ c. no-run)
-    (λ c. omega arith)
-    (λ c. omega arith)
-    (λ c. omega arith)
-    (λ c. omega arith)
-    (λ c κs. omega arith)
-    (λ c. omega arith)
-    (λ c. omega arith)
-    (λ c. omega arith)
-    (λ c. omega arith)
+    (tie.spec Inv-loop μ-loop (λ c. no-run) (λ c. omega arith) (λ c. omega arith) (λ c. omega arith) (λ c. omega arith)
+    (λ c κs. omega arith) (λ c. omega arith) (λ c. omega arith) (λ c. omega arith) (λ c. omega arith)
     (λ c. let t = c .before .before .before in run-on (t .before .loop .inv) (t .loop-test .taken) (c .laid .ensures))
-    (λ c. c .before .loop .inv .long)
-    (λ c. run-all (c .before .loop .inv) (c .loop-test .left)))
+    (λ c. c .before .loop .inv .long) (λ c. run-all (c .before .loop .inv) (c .loop-test .left)))

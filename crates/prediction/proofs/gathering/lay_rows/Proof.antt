@@ -23,16 +23,11 @@ pub lay-rows-spec : {M : Type 1} → statement M
 unfolding lay
 lay-rows-spec =
     tie.close
-    (tie.spec
-    Inv-loop
-    μ-loop
-    (λ c. no-line (omega arith) (omega arith))
+    (tie.spec Inv-loop μ-loop (λ c. no-line (omega arith) (omega arith))
     (λ c. omega (arith, in-line (c .before .before .loop .inv) (c .before .loop-test .taken)))
     (λ c. omega (arith, in-line (c .before .before .loop .inv) (c .before .loop-test .taken)))
     (λ c. omega (arith, here c))
     (λ c κs. omega (arith, here c, in-line (c .before .before .loop .inv) (c .before .loop-test .taken)))
-    (λ c. omega arith)
-    (λ c. omega arith)
+    (λ c. omega arith) (λ c. omega arith)
     (λ c. let t = c .before .before .before .before in line-on (t .before .loop .inv) (t .loop-test .taken) (c .before .before .lay-row .ensures))
-    (λ c. c .before .loop .inv .long)
-    (λ c. lines-all (c .before .loop .inv) (c .loop-test .left)))
+    (λ c. c .before .loop .inv .long) (λ c. lines-all (c .before .loop .inv) (c .loop-test .left)))

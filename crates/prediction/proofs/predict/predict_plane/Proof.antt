@@ -72,13 +72,5 @@ returns-3 c =
 pub predict-plane-spec : {M : Type 1} → statement M
 predict-plane-spec =
     tie.close
-    (tie.spec
-    (λ c κs. search needs)
-    (λ c. omega arith)
-    (λ c. omega arith)
-    (λ c. omega arith)
-    copy-block-requires
-    returns
-    returns-2
-    (λ c. omega arith)
-    returns-3)
+    (tie.spec (λ c κs. search needs) (λ c. omega arith) (λ c. omega arith) (λ c. omega arith) copy-block-requires returns returns-2
+    (λ c. omega arith) returns-3)

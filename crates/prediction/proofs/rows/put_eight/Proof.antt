@@ -16,15 +16,6 @@ abbrev μ-loop : tie.MeasureT-loop
 pub put-eight-spec : {M : Type 1} → statement M
 put-eight-spec =
     tie.close
-    (tie.spec
-    Inv-loop
-    μ-loop
-    (λ c. no-run)
-    (λ c. omega arith)
-    (λ c. omega arith)
-    (λ c. omega arith)
-    (λ c. omega arith)
-    (λ c. omega arith)
+    (tie.spec Inv-loop μ-loop (λ c. no-run) (λ c. omega arith) (λ c. omega arith) (λ c. omega arith) (λ c. omega arith) (λ c. omega arith)
     (λ c. run-on (c .before .before .loop .inv) (c .before .loop-test .taken) refl)
-    (λ c. c .before .loop .inv .long)
-    (λ c. run-all (c .before .loop .inv) (c .loop-test .left)))
+    (λ c. c .before .loop .inv .long) (λ c. run-all (c .before .loop .inv) (c .loop-test .left)))

@@ -14,18 +14,18 @@ use Rattle.laws.proofs.Ints.{reread}
 use Rattle.prediction.proofs.writers.add_const_row.Statement.{statement}
 use Rattle.prediction.proofs.writers.add_const_row.Tie as tie
 
--- where the last of the eight bytes is known, and the entry
-abbrev last : tie.After-slice-known2 → tie.After-added-const8
-last c = c .before .before .before .before .before
-
-abbrev entry : tie.After-added-const8 → tie.Start
-entry k =
-    k .before .before .before .before .before .before .before .before
-    .before .before .before .before .before .before .before .before .before
+-- the entry, where all is stored: each of the eight bytes takes two places
+abbrev entry : tie.After-slice-known2 → tie.Start
+entry c =
+    let eighth = c .before .before .before .before .before in
+    let sixth = eighth .before .before .before .before in
+    let fourth = sixth .before .before .before .before in
+    let second = fourth .before .before .before .before in
+    second .before .before .before .before .before
 
 returns : tie.Need-returns
 returns c =
-    let s = entry (last c) in
+    let s = entry c in
     let a = s .args in
     eight-row (now (a .d)) (a .at) (λ x. clamp255 (pos (getD (now (a .d)) (a .at + x) 0) +ℤ reread w32 (a .value))) (c .before .before .put-eight .ensures)
     (search) (search) (search) (search) (search) (search) (search) (search)
@@ -34,15 +34,5 @@ returns c =
 pub add-const-row-spec : {M : Type 1} → statement M
 add-const-row-spec =
     tie.close
-    (tie.spec
-    (λ c κs. search needs)
-    (λ c κs. search needs)
-    (λ c κs. search needs)
-    (λ c κs. search needs)
-    (λ c κs. search needs)
-    (λ c κs. search needs)
-    (λ c κs. search needs)
-    (λ c κs. search needs)
-    (λ c κs. search needs)
-    (λ c. search needs)
-    returns)
+    (tie.spec (λ c κs. search needs) (λ c κs. search needs) (λ c κs. search needs) (λ c κs. search needs) (λ c κs. search needs)
+    (λ c κs. search needs) (λ c κs. search needs) (λ c κs. search needs) (λ c κs. search needs) (λ c. search needs) returns)

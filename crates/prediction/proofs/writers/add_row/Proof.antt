@@ -1,42 +1,23 @@
 -- `writers::add_row` meets its contract: eight bytes are made and stored.
-use Prim.Native.Nat.{_+_}
 use borrow.Author.Needs.{needs}
-use denote.Ref.{now}
-use lib.IntN.{pos, _+ℤ_}
-use lib.ListN.{getD}
-use Rattle.laws.specs.Signed.{clamp255}
 use Rattle.prediction.proofs.Lines.{eight-row}
 use Rattle.prediction.proofs.writers.add_row.Statement.{statement}
 use Rattle.prediction.proofs.writers.add_row.Tie as tie
 
--- where the last of the eight bytes is known, and the entry
-abbrev last : tie.After-slice-known2 → tie.After-added-at8
-last c = c .before .before .before .before .before
-
+-- the entry, where the last of the eight bytes is known: each takes two places
 abbrev entry : tie.After-added-at8 → tie.Start
-entry k =
-    k .before .before .before .before .before .before .before .before
-    .before .before .before .before .before .before .before .before .before
+entry eighth =
+    let sixth = eighth .before .before .before .before in
+    let fourth = sixth .before .before .before .before in
+    let second = fourth .before .before .before .before in
+    second .before .before .before .before .before
 
 returns : tie.Need-returns
-returns c =
-    let a = entry (last c) .args in
-    eight-row (now (a .d)) (a .at) (λ x. clamp255 (pos (getD (now (a .d)) (a .at + x) 0) +ℤ getD (now (a .s)) (a .from + x) (pos 0)))
-    (c .before .before .put-eight .ensures)
-    (search) (search) (search) (search) (search) (search) (search) (search)
+returns c = eight-row _ _ _ (c .before .before .put-eight .ensures) (search) (search) (search) (search) (search) (search) (search) (search)
 
 pub add-row-spec : {M : Type 1} → statement M
 add-row-spec =
     tie.close
-    (tie.spec
-    (λ c κs. search needs)
-    (λ c κs. search needs)
-    (λ c κs. search needs)
-    (λ c κs. search needs)
-    (λ c κs. search needs)
-    (λ c κs. search needs)
-    (λ c κs. search needs)
-    (λ c κs. search needs)
-    (λ c κs. entry (c .before .before) .pre .0)
-    (λ c. search needs)
+    (tie.spec (λ c κs. search needs) (λ c κs. search needs) (λ c κs. search needs) (λ c κs. search needs) (λ c κs. search needs)
+    (λ c κs. search needs) (λ c κs. search needs) (λ c κs. search needs) (λ c κs. entry (c .before .before) .pre .0) (λ c. search needs)
     returns)

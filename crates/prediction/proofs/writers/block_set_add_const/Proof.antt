@@ -38,15 +38,9 @@ returns c =
 pub block-set-add-const-spec : {M : Type 1} → statement M
 block-set-add-const-spec =
     tie.close
-    (tie.spec
-    Inv-loop
-    μ-loop
-    (λ c. no-line (omega arith) (omega arith))
+    (tie.spec Inv-loop μ-loop (λ c. no-line (omega arith) (omega arith))
     (λ c. omega (arith, in-line (c .before .before .loop .inv) (c .before .loop-test .taken)))
     (λ c. omega (arith, in-line (c .before .before .loop .inv) (c .before .loop-test .taken)))
-    add-const-row-requires
-    (λ c. omega arith)
-    (λ c. omega arith)
+    add-const-row-requires (λ c. omega arith) (λ c. omega arith)
     (λ c. let t = c .before .before .before .before in line-on (t .before .loop .inv) (t .loop-test .taken) (c .before .before .add-const-row .ensures))
-    (λ c. c .before .loop .inv .long)
-    returns)
+    (λ c. c .before .loop .inv .long) returns)

@@ -28,15 +28,9 @@ pub block-set-const-spec : {M : Type 1} → statement M
 unfolding setConst
 block-set-const-spec =
     tie.close
-    (tie.spec
-    Inv-loop
-    μ-loop
-    (λ c. no-line (omega arith) (omega arith))
+    (tie.spec Inv-loop μ-loop (λ c. no-line (omega arith) (omega arith))
     (λ c. omega (arith, in-line (c .before .before .loop .inv) (c .before .loop-test .taken)))
     (λ c. omega (arith, in-line (c .before .before .loop .inv) (c .before .loop-test .taken)))
     (λ c κs. omega (arith, in-line (c .before .before .before .loop .inv) (c .before .before .loop-test .taken)))
-    (λ c. omega arith)
-    (λ c. omega arith)
-    loop-again
-    (λ c. c .before .loop .inv .long)
+    (λ c. omega arith) (λ c. omega arith) loop-again (λ c. c .before .loop .inv .long)
     (λ c. lines-all (c .before .loop .inv) (c .loop-test .left)))

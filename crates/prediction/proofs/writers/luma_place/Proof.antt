@@ -20,14 +20,5 @@ returns c = let s = c .before .before .before in (refl, luma-in (s .pre .0) (s .
 pub luma-place-spec : {M : Type 1} → statement M
 luma-place-spec =
     tie.close
-    (tie.spec
-    (λ c. omega arith)
-    (λ c. omega arith)
-    (λ c. omega arith)
-    (λ c. omega arith)
-    mul-result-3
-    (λ c. omega arith)
-    add-result-2
-    (λ c. omega arith)
-    add-result-3
-    returns)
+    (tie.spec (λ c. omega arith) (λ c. omega arith) (λ c. omega arith) (λ c. omega arith) mul-result-3 (λ c. omega arith) add-result-2
+    (λ c. omega arith) add-result-3 returns)
