@@ -19,15 +19,6 @@ more = twice ⊹ cst 1
 abbrev ρ : tie.Start → List (Input w32)
 ρ c = signed w32 (c .args .level) 256 (c .pre) ∷ []
 
-mul-twice : tie.Need-mul-twice
-mul-twice c = need (ρ c) twice tt
-
-sub-less : tie.Need-sub-less
-sub-less c = need (ρ c) less tt
-
-add-more : tie.Need-add-more
-add-more c = need (ρ c) more tt
-
 returns : tie.Need-returns
 returns c =
     let x = num-of (ρ (c .before)) twice tt in
@@ -46,4 +37,5 @@ returns-3 c =
     (x .is ∙ rw (c .before .if1 .left, test (ρ s) twice (cst 0) tt tt (c .if2 .left)), omega (arith, ap natAbs (x .is), x .bound))
 
 pub doubled-spec : {M : Type 1} → statement M
-doubled-spec = tie.close (tie.spec mul-twice sub-less add-more returns returns-2 returns-3)
+doubled-spec =
+    tie.close (tie.spec (λ c. need (ρ c) twice tt) (λ c. need (ρ c) less tt) (λ c. need (ρ c) more tt) returns returns-2 returns-3)

@@ -15,12 +15,6 @@ more = var 0 ⊹ cst 1
 abbrev ρ : tie.Start → List (Input w32)
 ρ c = signed w32 (c .args .x) 300000 (c .pre) ∷ []
 
-sub-less : tie.Need-sub-less
-sub-less c = need (ρ c) less tt
-
-add-more : tie.Need-add-more
-add-more c = need (ρ c) more tt
-
 returns : tie.Need-returns
 returns c = let s = c .before in value (ρ s) (var 0) tt ∙ rw (odd-yes w32 (s .fits .x) (c .if1 .taken))
 
@@ -35,4 +29,4 @@ returns-3 c =
     value (ρ s) more tt ∙ rw (odd-no w32 (s .fits .x) (c .before .if1 .left), test (ρ s) (cst 0) (var 0) tt tt (c .if2 .left))
 
 pub made-odd-spec : {M : Type 1} → statement M
-made-odd-spec = tie.close (tie.spec sub-less add-more returns returns-2 returns-3)
+made-odd-spec = tie.close (tie.spec (λ c. need (ρ c) less tt) (λ c. need (ρ c) more tt) returns returns-2 returns-3)

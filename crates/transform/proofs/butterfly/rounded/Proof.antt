@@ -6,12 +6,12 @@ use Rattle.transform.proofs.Steps.{more, rnd, inputs}
 use Rattle.transform.proofs.butterfly.rounded.Statement.{statement}
 use Rattle.transform.proofs.butterfly.rounded.Tie as tie
 
--- where the function began, from behind its eight inputs
-abbrev start : tie.After-struct-told8 → tie.Start
-start c = c .before .before .before .before .before .before .before .before
-
+-- the eight inputs, from behind them
 abbrev ins : tie.After-struct-told8 → List (Input w32)
-ins c = inputs outputSize (start c .args .o) (start c .pre)
+ins c =
+    let fourth = c .before .before .before .before in
+    let start = fourth .before .before .before .before in
+    inputs outputSize (start .args .o) (start .pre)
 
 returns : tie.Need-returns
 returns c =
@@ -29,13 +29,6 @@ returns c =
 pub rounded-spec : {M : Type 1} → statement M
 rounded-spec =
     tie.close
-    (tie.spec
-    (λ c. need (ins c) (more (var 0)) tt)
-    (λ c. need (ins c) (more (var 1)) tt)
-    (λ c. need (ins c) (more (var 2)) tt)
-    (λ c. need (ins c) (more (var 3)) tt)
-    (λ c. need (ins c) (more (var 4)) tt)
-    (λ c. need (ins c) (more (var 5)) tt)
-    (λ c. need (ins c) (more (var 6)) tt)
-    (λ c. need (ins c) (more (var 7)) tt)
-    returns)
+    (tie.spec (λ c. need (ins c) (more (var 0)) tt) (λ c. need (ins c) (more (var 1)) tt) (λ c. need (ins c) (more (var 2)) tt)
+    (λ c. need (ins c) (more (var 3)) tt) (λ c. need (ins c) (more (var 4)) tt) (λ c. need (ins c) (more (var 5)) tt)
+    (λ c. need (ins c) (more (var 6)) tt) (λ c. need (ins c) (more (var 7)) tt) returns)

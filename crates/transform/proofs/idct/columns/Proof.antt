@@ -15,9 +15,6 @@ Inv-loop block₀ i₀ block i = After by-columns butterfly block₀ block i
 abbrev μ-loop : tie.MeasureT-loop
 μ-loop block₀ i₀ block i = 8 - i
 
-loop-holds : tie.Need-loop-holds Inv-loop μ-loop
-loop-holds c = start-pass by-columns butterfly (c .args .block .now) (c .pre .0)
-
 butterfly-requires : tie.Need-butterfly-requires Inv-loop μ-loop
 butterfly-requires c κs =
     let l = c .before .before .before in
@@ -33,20 +30,10 @@ loop-again c =
     turn-pass by-columns butterfly (l .before .args .block .now) (l .loop .inv) (b .before .before .before .loop-test .taken)
     (b .butterfly .result) (c .put-lane .last .0) (b .butterfly .ensures ∙ ap butterfly (b .before .lane .ensures)) (c .put-lane .ensures)
 
-returns : tie.Need-returns Inv-loop μ-loop
-returns c = let l = c .before in end-columns (l .before .args .block .now) (l .loop .block) (c .loop-test .left) (l .loop .inv)
-
 pub columns-spec : {M : Type 1} → statement M
 columns-spec =
     tie.close
-    (tie.spec
-    Inv-loop
-    μ-loop
-    loop-holds
-    (λ c κs. omega arith)
-    butterfly-requires
-    (λ c κs. omega arith)
-    (λ c. omega arith)
-    (λ c. omega arith)
-    loop-again
-    returns)
+    (tie.spec Inv-loop μ-loop
+    (λ c. start-pass by-columns butterfly (c .args .block .now) (c .pre .0))
+    (λ c κs. omega arith) butterfly-requires (λ c κs. omega arith) (λ c. omega arith) (λ c. omega arith) loop-again
+    (λ c. let l = c .before in end-columns (l .before .args .block .now) (l .loop .block) (c .loop-test .left) (l .loop .inv)))

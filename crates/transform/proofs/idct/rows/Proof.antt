@@ -17,9 +17,6 @@ Inv-loop block₀ i₀ block i = After by-rows row-step block₀ block i
 abbrev μ-loop : tie.MeasureT-loop
 μ-loop block₀ i₀ block i = 8 - i
 
-loop-holds : tie.Need-loop-holds Inv-loop μ-loop
-loop-holds c = start-pass by-rows row-step (c .args .block .now) (c .pre .0)
-
 butterfly-requires : tie.Need-butterfly-requires Inv-loop μ-loop
 butterfly-requires c κs =
     let l = c .before .before .before in
@@ -43,23 +40,9 @@ loop-again c =
     (r .rounded .ensures ∙ ap (λ (e : Eight). eight (λ k. over256 (nth e k))) (b .butterfly .ensures ∙ ap butterfly (b .before .lane .ensures)))
     (c .put-lane .ensures)
 
-returns : tie.Need-returns Inv-loop μ-loop
-returns c = let l = c .before in end-rows (l .before .args .block .now) (l .loop .block) (c .loop-test .left) (l .loop .inv)
-
 pub rows-spec : {M : Type 1} → statement M
 rows-spec =
     tie.close
-    (tie.spec
-    Inv-loop
-    μ-loop
-    loop-holds
-    (λ c. omega arith)
-    (λ c κs. omega arith)
-    butterfly-requires
-    rounded-requires
-    (λ c. omega arith)
-    (λ c κs. omega arith)
-    (λ c. omega arith)
-    (λ c. omega arith)
-    loop-again
-    returns)
+    (tie.spec Inv-loop μ-loop (λ c. start-pass by-rows row-step (c .args .block .now) (c .pre .0)) (λ c. omega arith) (λ c κs. omega arith)
+    butterfly-requires rounded-requires (λ c. omega arith) (λ c κs. omega arith) (λ c. omega arith) (λ c. omega arith) loop-again
+    (λ c. let l = c .before in end-rows (l .before .args .block .now) (l .loop .block) (c .loop-test .left) (l .loop .inv)))
