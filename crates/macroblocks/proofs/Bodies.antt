@@ -60,8 +60,7 @@ head-address type t x =
 
 -- ---- the body, behind the type and the head
 
-module _ (g : Setting) (tables : List ℤ) (x : SliceState) (left : List ℤ) (store : List ℕ)
-    {s : List ℕ} {from typed headed : Reader} {t : ℕ} {y : SliceState}
+module _ {g : Setting} {x y : SliceState} {left : List ℤ} {store s : List ℕ} {from typed headed : Reader} {t : ℕ}
     (ready : Ready g s from x left store) (type : Reading (macroblockType (g .«picture_type»)) s from t typed)
     (leads : Leads (λ left. head (g .«picture_type») t (sliceOf x left)) s typed headed y) where
   pub headed-possible : PossibleSlice (sliceOf y left)
@@ -75,10 +74,10 @@ module _ (g : Setting) (tables : List ℤ) (x : SliceState) (left : List ℤ) (s
 
   module _ {q : Predicted} {store₁ : List ℕ} (told : Foretold (predictUnlessIntra (setting g) t (world (motions y) store)) q store₁)
       (long : length store₁ ≡ length store) where
-    pub body-refused : q ≡ Refused
+    pub body-refused : (tables : List ℤ) → q ≡ Refused
         → Went (body (given g tables) (worldOf x left store)) g s from (record { reader = headed; state = y; stop = 9 }) left store₁
     unfolding body
-    body-refused e =
+    body-refused tables e =
         record {
           runs = r-plain _ (type .runs) (r-plain _ (leads .runs left) (r-leave _ (rw (unless-same g t y tables left store, told .is, e) r-done)));
           ready = ready-on ready (leads .inside) headed-possible headed-address long;
@@ -89,11 +88,11 @@ module _ (g : Setting) (tables : List ℤ) (x : SliceState) (left : List ℤ) (s
       pub blocks-ready : Ready g s patterned y left store₁
       blocks-ready = ready-on ready (p .inside) headed-possible headed-address long
 
-      pub body-on : q ≡ Done → {r : Progress} {left₁ : List ℤ} {store₂ : List ℕ}
+      pub body-on : (tables : List ℤ) → q ≡ Done → {r : Progress} {left₁ : List ℤ} {store₂ : List ℕ}
           → Went (blocks (given g tables) (isIntra t) c (worldOf y left store₁)) g s patterned r left₁ store₂
           → Went (body (given g tables) (worldOf x left store)) g s from r left₁ store₂
       unfolding body
-      body-on e w =
+      body-on tables e w =
           record {
             runs = r-plain _ (type .runs) (r-plain _ (leads .runs left)
                 (r-onward _ (rw (unless-same g t y tables left store, told .is, e) r-done) (r-plain _ (p .runs) (w .runs))));

@@ -33,7 +33,7 @@ here-by {g} a k e = go (ltZ a (pos 0)) refl e
           below = omega (arith, cast-is (v a) low, high, k .size);
         }
 
-module _ (g : Setting) (tables : List ℤ) (x : SliceState) (n : ℕ) (left : List ℤ) (store : List ℕ) {s : List ℕ} {reader : Reader} {y : SliceState}
+module _ {g : Setting} {x y : SliceState} {n : ℕ} {left : List ℤ} {store s : List ℕ} {reader : Reader}
     (k : Begun g s reader x n left store) (is : y ≡ addressAs (x .«macroblock_address» +ℤ pos n) x) where
   pub further-possible : PossibleSlice (sliceOf y left)
   further-possible =
@@ -54,18 +54,18 @@ module _ (g : Setting) (tables : List ℤ) (x : SliceState) (n : ℕ) (left : Li
   further-reads = record { inside = k .reads .inside; slice = further-possible }
 
   module _ {t : Bool} (at : t ≡ (ltZ (y .«macroblock_address») (pos 0) || leZ (pos (g .sizes .«mb_size»)) (y .«macroblock_address»))) where
-    pub first-nowhere : t ≡ true
+    pub first-nowhere : (tables : List ℤ) → t ≡ true
         → Passed (firstOf (given g tables) n (worldOf x left store)) g s reader (record { reader = reader; state = y; stop = 0 }) left store
     unfolding firstOf
-    first-nowhere e = let q = rw is at (sym at ∙ e) in record { runs = rw is (r-yes _ q r-done); reads = further-reads; held = k .held }
+    first-nowhere tables e = let q = rw is at (sym at ∙ e) in record { runs = rw is (r-yes _ q r-done); reads = further-reads; held = k .held }
 
     pub first-ready : t ≡ false → Ready g s reader y left store
     first-ready e = record { reads = further-reads; held = k .held; here = here-by (y .«macroblock_address») (k .held) (sym at ∙ e) }
 
-    pub first-body : t ≡ false → {r : Progress} {left₁ : List ℤ} {store₁ : List ℕ}
+    pub first-body : (tables : List ℤ) → t ≡ false → {r : Progress} {left₁ : List ℤ} {store₁ : List ℕ}
         → Went (body (given g tables) (worldOf y left store)) g s reader r left₁ store₁
         → Passed (firstOf (given g tables) n (worldOf x left store)) g s reader r left₁ store₁
     unfolding firstOf
-    first-body e w =
+    first-body tables e w =
         let q = rw is at (sym at ∙ e) in
         record { runs = r-no _ q (rw is at (w .runs)); reads = w .ready .reads; held = w .ready .held }

@@ -26,39 +26,38 @@ use Rattle.blocks.proofs.Stores.{size-most}
 
 -- ---- a later macroblock
 
-module _ (g : Setting) (tables : List ℤ) (x : SliceState) (n : ℕ) (left : List ℤ) (store : List ℕ) {s : List ℕ} {reader : Reader}
+module _ {g : Setting} {x : SliceState} {n : ℕ} {left : List ℤ} {store s : List ℕ} {reader : Reader}
     (k : Between g s reader x n left store) where
-  pub later-past : leZ (pos (g .sizes .«mb_size»)) (x .«macroblock_address» +ℤ pos n) ≡ true
+  pub later-past : (tables : List ℤ) → leZ (pos (g .sizes .«mb_size»)) (x .«macroblock_address» +ℤ pos n) ≡ true
       → Passed (laterOf (given g tables) n (worldOf x left store)) g s reader (record { reader = reader; state = x; stop = 0 }) left store
   unfolding laterOf
-  later-past e = record { runs = r-yes _ e r-done; reads = k .reads; held = k .held }
+  later-past tables e = record { runs = r-yes _ e r-done; reads = k .reads; held = k .held }
 
   module _ {y : SliceState} {stop : ℕ} {store₁ : List ℕ} (e : leZ (pos (g .sizes .«mb_size»)) (x .«macroblock_address» +ℤ pos n) ≡ false)
       (a : Advances g n x store y stop store₁) (long : length store₁ ≡ length store) where
     later-reads : Reads s reader y left
     later-reads = record { inside = k .reads .inside; slice = a .possible (k .reads .slice) }
 
-    pub later-stop : (stop ≡ 0 → ⊥)
+    pub later-stop : (tables : List ℤ) → (stop ≡ 0 → ⊥)
         → Passed (laterOf (given g tables) n (worldOf x left store)) g s reader (record { reader = reader; state = y; stop = stop }) left store₁
     unfolding laterOf
-    later-stop h =
+    later-stop tables h =
         let o = way-out (worldOf y left store₁) store₁ h in
         record { runs = r-no _ e (rw o (r-leave _ (rw (a .is tables left, o) r-done))); reads = later-reads; held = held-on (k .held) long }
 
     pub later-ready : stop ≡ 0 → Ready g s reader y left store₁
     later-ready z = record { reads = later-reads; held = held-on (k .held) long; here = a .here z (k .more) }
 
-    pub later-body : stop ≡ 0 → {r : Progress} {left₁ : List ℤ} {store₂ : List ℕ}
+    pub later-body : (tables : List ℤ) → stop ≡ 0 → {r : Progress} {left₁ : List ℤ} {store₂ : List ℕ}
         → Went (body (given g tables) (worldOf y left store₁)) g s reader r left₁ store₂
         → Passed (laterOf (given g tables) n (worldOf x left store)) g s reader r left₁ store₂
     unfolding laterOf
-    later-body z w =
+    later-body tables z w =
         record { runs = r-no _ e (r-onward _ (rw (a .is tables left, z) r-done) (w .runs)); reads = w .ready .reads; held = w .ready .held }
 
 -- ---- the increment, and where it leads
 
-module _ (g : Setting) (tables : List ℤ) (first : Bool) (x : SliceState) (left : List ℤ) (store : List ℕ)
-    {s : List ℕ} {reader after : Reader} {n : ℕ}
+module _ {g : Setting} {first : Bool} {x : SliceState} {left : List ℤ} {store s : List ℕ} {reader after : Reader} {n : ℕ}
     (k : Awaits g s reader first x left store) (r : Reading increment s reader n after) where
   small : n ≤ 402653217
   small = let m : n ≤ 24 * length s + 33 = given-by (increment-most s) (r .runs) in omega (arith, k .reads .inside .stream)
@@ -92,7 +91,7 @@ module _ (g : Setting) (tables : List ℤ) (first : Bool) (x : SliceState) (left
         more = k .later e;
       }
 
-  module _ {p : Progress} {left₁ : List ℤ} {store₁ : List ℕ} where
+  module _ (tables : List ℤ) {p : Progress} {left₁ : List ℤ} {store₁ : List ℕ} where
     pub macroblock-first : first ≡ true → Passed (firstOf (given g tables) n (worldOf x left store)) g s after p left₁ store₁
         → Passed (macroblock (given g tables) first (worldOf x left store)) g s reader p left₁ store₁
     unfolding macroblock

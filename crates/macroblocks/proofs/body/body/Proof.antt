@@ -27,23 +27,17 @@ predict-unless-intra-requires : tie.Need-predict-unless-intra-requires
 predict-unless-intra-requires c κs =
     let h = c .before .before .before in
     let t = h .before in
-    let s = start t in
-    let a = s .args in
-    let k = headed-possible (a .g) (now (a .tables)) (a .before) (now (a .values)) (now (a .store)) (s .pre .0) (t .read-macroblock-type .ensures)
-    (h .read-head .ensures) in
-    let i = headed-here (a .g) (now (a .tables)) (a .before) (now (a .values)) (now (a .store)) (s .pre .0) (t .read-macroblock-type .ensures)
-    (h .read-head .ensures) in
-    (s .pre .0 .held, (i, motions-possible k))
+    let r = start t .pre .0 in
+    let k = headed-possible r (t .read-macroblock-type .ensures) (h .read-head .ensures) in
+    (r .held, (headed-here r (t .read-macroblock-type .ensures) (h .read-head .ensures), motions-possible k))
 
 returns : tie.Need-returns
 returns c =
     let u = c .before .before .before .before in
     let h = headed u in
     let t = h .before in
-    let s = start t in
-    let a = s .args in
-    body-refused (a .g) (now (a .tables)) (a .before) (now (a .values)) (now (a .store)) (s .pre .0) (t .read-macroblock-type .ensures)
-    (h .read-head .ensures) (u .predict-unless-intra .ensures) (u .predict-unless-intra .kept .0) (c .enum-told2 .given .1)
+    body-refused (start t .pre .0) (t .read-macroblock-type .ensures) (h .read-head .ensures) (u .predict-unless-intra .ensures)
+    (u .predict-unless-intra .kept .0) (now (start t .args .tables)) (c .enum-told2 .given .1)
 
 read-blocks-requires : tie.Need-read-blocks-requires
 read-blocks-requires c κs =
@@ -51,11 +45,9 @@ read-blocks-requires c κs =
     let u = predicted (p .before) in
     let h = headed u in
     let t = h .before in
-    let s = start t in
-    let a = s .args in
-    let k = blocks-ready (a .g) (now (a .tables)) (a .before) (now (a .values)) (now (a .store)) (s .pre .0) (t .read-macroblock-type .ensures)
-    (h .read-head .ensures) (u .predict-unless-intra .ensures) (u .predict-unless-intra .kept .0) (p .read-pattern .ensures) in
-    (k, s .pre .1)
+    let k = blocks-ready (start t .pre .0) (t .read-macroblock-type .ensures) (h .read-head .ensures) (u .predict-unless-intra .ensures)
+    (u .predict-unless-intra .kept .0) (p .read-pattern .ensures) in
+    (k, start t .pre .1)
 
 returns-2 : tie.Need-returns-2
 returns-2 c =
@@ -65,11 +57,9 @@ returns-2 c =
     let u = predicted (p .before) in
     let h = headed u in
     let t = h .before in
-    let s = start t in
-    let a = s .args in
-    body-on (a .g) (now (a .tables)) (a .before) (now (a .values)) (now (a .store)) (s .pre .0) (t .read-macroblock-type .ensures)
-    (h .read-head .ensures) (u .predict-unless-intra .ensures) (u .predict-unless-intra .kept .0) (p .read-pattern .ensures)
-    (p .before .enum-told .given .1) (rw (f .flag .ensures) at (b .read-blocks .ensures))
+    body-on (start t .pre .0) (t .read-macroblock-type .ensures) (h .read-head .ensures) (u .predict-unless-intra .ensures)
+    (u .predict-unless-intra .kept .0) (p .read-pattern .ensures) (now (start t .args .tables)) (p .before .enum-told .given .1)
+    (rw (f .flag .ensures) at (b .read-blocks .ensures))
 
 pub body-spec : {M : Type 1} → statement M
 body-spec =

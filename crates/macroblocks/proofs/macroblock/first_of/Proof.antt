@@ -24,10 +24,8 @@ tested : (o : tie.After-nowhere) → let size = start (reached o) .args .g .size
     o .nowhere .result ≡ (ltZ a (pos 0) || leZ (pos size) a)
 tested o =
     let f = reached o in
-    let s = start f in
-    let a = s .args in
-    let k = further-possible (a .g) (now (a .tables)) (a .state) (a .n) (now (a .values)) (now (a .store)) (s .pre .0) (f .further .ensures) in
-    o .nowhere .ensures ∙ ap (λ (z : ℤ). ltZ z (pos 0) || leZ (pos (a .g .sizes .«mb_size»)) z) (address-read k)
+    let size = start f .args .g .sizes .«mb_size» in
+    o .nowhere .ensures ∙ ap (λ (z : ℤ). ltZ z (pos 0) || leZ (pos size) z) (address-read (further-possible (start f .pre .0) (f .further .ensures)))
 
 nowhere-requires : tie.Need-nowhere-requires
 nowhere-requires c κs = size-most (start (c .before) .pre .0 .held)
@@ -36,31 +34,20 @@ returns : tie.Need-returns
 returns c =
     let o = c .before in
     let f = reached o in
-    let s = start f in
-    let a = s .args in
-    first-nowhere (a .g) (now (a .tables)) (a .state) (a .n) (now (a .values)) (now (a .store)) (s .pre .0) (f .further .ensures) (tested o) (c .if1 .taken)
+    first-nowhere (start f .pre .0) (f .further .ensures) (tested o) (now (start f .args .tables)) (c .if1 .taken)
 
 body-requires : tie.Need-body-requires
 body-requires c κs =
     let i = c .before .before in
-    let o = i .before in
-    let f = reached o in
-    let s = start f in
-    let a = s .args in
-    let k = first-ready (a .g) (now (a .tables)) (a .state) (a .n) (now (a .values)) (now (a .store)) (s .pre .0) (f .further .ensures) (tested o)
-    (i .if1 .left) in
-    (k, s .pre .1)
+    let f = reached (i .before) in
+    (first-ready (start f .pre .0) (f .further .ensures) (tested (i .before)) (i .if1 .left), start f .pre .1)
 
 returns-2 : tie.Need-returns-2
 returns-2 c =
     let b = c .before .before in
     let i = b .before .before .before in
-    let o = i .before in
-    let f = reached o in
-    let s = start f in
-    let a = s .args in
-    first-body (a .g) (now (a .tables)) (a .state) (a .n) (now (a .values)) (now (a .store)) (s .pre .0) (f .further .ensures) (tested o) (i .if1 .left)
-    (b .body .ensures)
+    let f = reached (i .before) in
+    first-body (start f .pre .0) (f .further .ensures) (tested (i .before)) (now (start f .args .tables)) (i .if1 .left) (b .body .ensures)
 
 pub first-of-spec : {M : Type 1} → statement M
 first-of-spec =

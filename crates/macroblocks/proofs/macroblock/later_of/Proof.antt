@@ -1,5 +1,6 @@
 -- `macroblock::later_of` meets its contract: nothing past the last macroblock, else on to the next one and its body.
 use mathlib.Core.Path.{_≡_, ap, sym, _∙_}
+use mathlib.Core.Bool.{false}
 use denote.Ref.{now}
 use lib.IntN.{ℤ, pos, _+ℤ_}
 use lib.Signed.{leZ}
@@ -37,51 +38,38 @@ past-requires c κs =
     (size-most (k .held), rw (address-read (k .reads .slice)) (k .adds))
 
 returns : tie.Need-returns
-returns c =
-    let o = c .before in
-    let s = start o in
-    let a = s .args in
-    later-past (a .g) (now (a .tables)) (a .state) (a .n) (now (a .values)) (now (a .store)) (s .pre .0) (sym (tested o) ∙ c .if1 .taken)
+returns c = let o = c .before in later-past (start o .pre .0) (now (start o .args .tables)) (sym (tested o) ∙ c .if1 .taken)
+
+-- there are more macroblocks, where the advance begins
+more : (i : tie.Else1) → let a = start (i .before) .args in leZ (pos (a .g .sizes .«mb_size»)) (a .state .«macroblock_address» +ℤ pos (a .n)) ≡ false
+more i = sym (tested (i .before)) ∙ i .if1 .left
 
 advance-requires : tie.Need-advance-requires
 advance-requires c κs =
     let i = c .before in
     let k = start (i .before) .pre .0 in
-    (k .held, (motions-possible (k .reads .slice), sym (tested (i .before)) ∙ i .if1 .left))
+    (k .held, (motions-possible (k .reads .slice), more i))
 
 returns-2 : tie.Need-returns-2
 returns-2 c =
     let v = stopped c in
-    let i = inside v in
-    let o = i .before in
-    let s = start o in
-    let a = s .args in
-    later-stop (a .g) (now (a .tables)) (a .state) (a .n) (now (a .values)) (now (a .store)) (s .pre .0) (sym (tested o) ∙ i .if1 .left)
-    (v .advance .ensures) (v .advance .kept .0) (c .if2 .taken)
+    let s = start (inside v .before) in
+    later-stop (s .pre .0) (more (inside v)) (v .advance .ensures) (v .advance .kept .0) (now (s .args .tables)) (c .if2 .taken)
 
 body-requires : tie.Need-body-requires
 body-requires c κs =
     let z = c .before .before in
     let v = advanced z in
-    let i = inside v in
-    let o = i .before in
-    let s = start o in
-    let a = s .args in
-    let k = later-ready (a .g) (now (a .tables)) (a .state) (a .n) (now (a .values)) (now (a .store)) (s .pre .0) (sym (tested o) ∙ i .if1 .left)
-    (v .advance .ensures) (v .advance .kept .0) (z .if2 .left) in
-    (k, s .pre .1)
+    let s = start (inside v .before) in
+    (later-ready (s .pre .0) (more (inside v)) (v .advance .ensures) (v .advance .kept .0) (z .if2 .left), s .pre .1)
 
 returns-3 : tie.Need-returns-3
 returns-3 c =
     let b = c .before .before in
     let z = b .before .before .before in
     let v = advanced z in
-    let i = inside v in
-    let o = i .before in
-    let s = start o in
-    let a = s .args in
-    later-body (a .g) (now (a .tables)) (a .state) (a .n) (now (a .values)) (now (a .store)) (s .pre .0) (sym (tested o) ∙ i .if1 .left)
-    (v .advance .ensures) (v .advance .kept .0) (z .if2 .left) (b .body .ensures)
+    let s = start (inside v .before) in
+    later-body (s .pre .0) (more (inside v)) (v .advance .ensures) (v .advance .kept .0) (now (s .args .tables)) (z .if2 .left) (b .body .ensures)
 
 pub later-of-spec : {M : Type 1} → statement M
 later-of-spec =
