@@ -12,9 +12,6 @@ use Rattle.heads.proofs.addresses.nowhere.Tie as tie
 returns : tie.Need-returns
 returns c = let e : ltZ (c .before .args .address) (pos 0) ≡ true = rw (toZ-ofZ (c .before .fits .address)) at (c .if1 .taken) in rw e
 
-cast-result : tie.Need-cast-result
-cast-result c = search needs
-
 returns-2 : tie.Need-returns-2
 returns-2 c =
     let s = c .before .before in
@@ -22,4 +19,4 @@ returns-2 c =
     rw (toZ-ofZ (s .fits .address), low-is (s .args .g .sizes .«mb_size») (omega (arith, s .pre)), e)
 
 pub nowhere-spec : {M : Type 1} → statement M
-nowhere-spec = tie.close (tie.spec returns cast-result returns-2)
+nowhere-spec = tie.close (tie.spec returns (λ c. search needs) returns-2)

@@ -4,9 +4,6 @@ use borrow.Author.Needs.{needs}
 use Rattle.heads.proofs.addresses.past.Statement.{statement}
 use Rattle.heads.proofs.addresses.past.Tie as tie
 
-cast-result : tie.Need-cast-result
-cast-result c = search needs
-
 cast-result-2 : tie.Need-cast-result-2
 cast-result-2 c = step-fits (c .before .pre .1)
 
@@ -17,4 +14,4 @@ returns : tie.Need-returns
 returns c = rw (sum-is (c .before .pre .1), low-is (c .before .args .g .sizes .«mb_size») (omega (arith, c .before .pre .0)))
 
 pub past-spec : {M : Type 1} → statement M
-past-spec = tie.close (tie.spec cast-result cast-result-2 add-result returns)
+past-spec = tie.close (tie.spec (λ c. search needs) cast-result-2 add-result returns)

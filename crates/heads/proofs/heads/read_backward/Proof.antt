@@ -4,9 +4,6 @@ use borrow.Author.Needs.{needs}
 use Rattle.heads.proofs.heads.read_backward.Statement.{statement}
 use Rattle.heads.proofs.heads.read_backward.Tie as tie
 
-read-vector-requires : tie.Need-read-vector-requires
-read-vector-requires c κs = search needs
-
 returns : tie.Need-returns
 unfolding backward
 returns c = let r = c .read-vector .ensures in record { runs = r-yes _ (c .before .if1 .taken) (r .runs); inside = r .inside }
@@ -16,4 +13,4 @@ unfolding backward
 returns-2 c = record { runs = r-no _ (c .if1 .left) r-done; inside = c .before .before .pre .0 }
 
 pub read-backward-spec : {M : Type 1} → statement M
-read-backward-spec = tie.close (tie.spec read-vector-requires returns returns-2)
+read-backward-spec = tie.close (tie.spec (λ c κs. search needs) returns returns-2)

@@ -6,15 +6,9 @@ use borrow.Author.Needs.{needs}
 use Rattle.heads.proofs.heads.read_forward.Statement.{statement}
 use Rattle.heads.proofs.heads.read_forward.Tie as tie
 
-read-vector-requires : tie.Need-read-vector-requires
-read-vector-requires c κs = search needs
-
 returns : tie.Need-returns
 unfolding forward
 returns c = let r = c .read-vector .ensures in record { runs = r-yes _ (c .before .if1 .taken) (r .runs); inside = r .inside }
-
-zeroed-requires : tie.Need-zeroed-requires
-zeroed-requires c κs = search needs
 
 returns-2 : tie.Need-returns-2
 returns-2 c =
@@ -28,4 +22,4 @@ returns-3 c = record { runs = r-no _ (c .before .if1 .left) (r-no _ (ne-eqb _ 2 
 
 pub read-forward-spec : {M : Type 1} → statement M
 read-forward-spec =
-    tie.close (tie.spec read-vector-requires returns zeroed-requires returns-2 returns-3)
+    tie.close (tie.spec (λ c κs. search needs) returns (λ c κs. search needs) returns-2 returns-3)

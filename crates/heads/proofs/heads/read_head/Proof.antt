@@ -11,18 +11,6 @@ scaled f = f .before .before .before
 abbrev start : tie.After-read-scale → tie.Start
 start q = q .before .before .before
 
-flagged-requires : tie.Need-flagged-requires
-flagged-requires c κs = search needs
-
-read-scale-requires : tie.Need-read-scale-requires
-read-scale-requires c κs = search needs
-
-flag-requires : tie.Need-flag-requires
-flag-requires c κs = search needs
-
-stilled-requires : tie.Need-stilled-requires
-stilled-requires c κs = search needs
-
 returns : tie.Need-returns
 returns c =
     let f = c .before .before in
@@ -30,9 +18,6 @@ returns c =
     let a = start q .args in
     head-still (a .t) (a .before) (q .before .flagged .ensures) (q .read-scale .ensures) (a .picture-type)
     (sym (f .flag .ensures) ∙ c .before .if1 .taken) (c .stilled .ensures)
-
-reset-requires : tie.Need-reset-requires
-reset-requires c κs = search needs
 
 read-vectors-requires : tie.Need-read-vectors-requires
 read-vectors-requires c κs =
@@ -54,12 +39,5 @@ returns-2 c =
 pub read-head-spec : {M : Type 1} → statement M
 read-head-spec =
     tie.close
-    (tie.spec
-    flagged-requires
-    read-scale-requires
-    flag-requires
-    stilled-requires
-    returns
-    reset-requires
-    read-vectors-requires
-    returns-2)
+    (tie.spec (λ c κs. search needs) (λ c κs. search needs) (λ c κs. search needs) (λ c κs. search needs) returns (λ c κs. search needs)
+    read-vectors-requires returns-2)

@@ -5,26 +5,17 @@ use borrow.Author.Needs.{needs}
 use Rattle.heads.proofs.heads.read_macroblock_type.Statement.{statement}
 use Rattle.heads.proofs.heads.read_macroblock_type.Tie as tie
 
-read-macroblock-type-intra-requires : tie.Need-read-macroblock-type-intra-requires
-read-macroblock-type-intra-requires c κs = search needs
-
 returns : tie.Need-returns
 unfolding macroblockType
 returns c =
     let r = c .read-macroblock-type-intra .ensures in
     record { runs = r-yes _ (eq-eqb _ 1 (c .before .if1 .taken)) (r .runs); inside = r .inside }
 
-read-macroblock-type-predictive-requires : tie.Need-read-macroblock-type-predictive-requires
-read-macroblock-type-predictive-requires c κs = search needs
-
 returns-2 : tie.Need-returns-2
 unfolding macroblockType
 returns-2 c =
     let r = c .read-macroblock-type-predictive .ensures in
     record { runs = r-no _ (ne-eqb _ 1 (c .before .before .if1 .left)) (r-yes _ (eq-eqb _ 2 (c .before .if2 .taken)) (r .runs)); inside = r .inside }
-
-read-macroblock-type-b-requires : tie.Need-read-macroblock-type-b-requires
-read-macroblock-type-b-requires c κs = search needs
 
 returns-3 : tie.Need-returns-3
 unfolding macroblockType
@@ -34,11 +25,4 @@ returns-3 c =
 
 pub read-macroblock-type-spec : {M : Type 1} → statement M
 read-macroblock-type-spec =
-    tie.close
-    (tie.spec
-    read-macroblock-type-intra-requires
-    returns
-    read-macroblock-type-predictive-requires
-    returns-2
-    read-macroblock-type-b-requires
-    returns-3)
+    tie.close (tie.spec (λ c κs. search needs) returns (λ c κs. search needs) returns-2 (λ c κs. search needs) returns-3)

@@ -5,42 +5,24 @@ use borrow.Author.Needs.{needs}
 use Rattle.heads.proofs.heads.read_pattern.Statement.{statement}
 use Rattle.heads.proofs.heads.read_pattern.Tie as tie
 
-flag-requires : tie.Need-flag-requires
-flag-requires c κs = search needs
-
-read-code-block-pattern-requires : tie.Need-read-code-block-pattern-requires
-read-code-block-pattern-requires c κs = search needs
-
 returns : tie.Need-returns
 unfolding pattern
 returns c =
     let r = c .read-code-block-pattern .ensures in
     record { runs = r-yes _ (sym (c .before .before .flag .ensures) ∙ c .before .if1 .taken) (r .runs); inside = r .inside }
 
-flag-requires-2 : tie.Need-flag-requires-2
-flag-requires-2 c κs = search needs
-
 returns-2 : tie.Need-returns-2
 unfolding pattern
 returns-2 c =
-    let f = c .before .before in
-    let i = f .before .before .before .pre .0 in
+    let f = c .before .before in let i = f .before .before .before .pre .0 in
     record { runs = r-no _ (sym (f .before .flag .ensures) ∙ f .if1 .left) (r-yes _ (sym (c .before .flag2 .ensures) ∙ c .if2 .taken) r-done); inside = i }
 
 returns-3 : tie.Need-returns-3
 unfolding pattern
 returns-3 c =
-    let f = c .before .before in
-    let i = f .before .before .before .pre .0 in
+    let f = c .before .before in let i = f .before .before .before .pre .0 in
     record { runs = r-no _ (sym (f .before .flag .ensures) ∙ f .if1 .left) (r-no _ (sym (c .before .flag2 .ensures) ∙ c .if2 .left) r-done); inside = i }
 
 pub read-pattern-spec : {M : Type 1} → statement M
 read-pattern-spec =
-    tie.close
-    (tie.spec
-    flag-requires
-    read-code-block-pattern-requires
-    returns
-    flag-requires-2
-    returns-2
-    returns-3)
+    tie.close (tie.spec (λ c κs. search needs) (λ c κs. search needs) returns (λ c κs. search needs) returns-2 returns-3)

@@ -6,12 +6,6 @@ use borrow.Author.Needs.{needs}
 use Rattle.heads.proofs.heads.read_scale.Statement.{statement}
 use Rattle.heads.proofs.heads.read_scale.Tie as tie
 
-flag-requires : tie.Need-flag-requires
-flag-requires c κs = search needs
-
-read-requires : tie.Need-read-requires
-read-requires c κs = search needs
-
 returns : tie.Need-returns
 unfolding scale
 returns c =
@@ -27,4 +21,4 @@ unfolding scale
 returns-2 c = record { runs = λ left. r-no _ (sym (c .before .flag .ensures) ∙ c .if1 .left) r-done; inside = c .before .before .before .pre }
 
 pub read-scale-spec : {M : Type 1} → statement M
-read-scale-spec = tie.close (tie.spec flag-requires read-requires returns returns-2)
+read-scale-spec = tie.close (tie.spec (λ c κs. search needs) (λ c κs. search needs) returns returns-2)

@@ -4,12 +4,6 @@ use borrow.Author.Needs.{needs}
 use Rattle.heads.proofs.heads.read_vectors.Statement.{statement}
 use Rattle.heads.proofs.heads.read_vectors.Tie as tie
 
-read-forward-requires : tie.Need-read-forward-requires
-read-forward-requires c κs = search needs
-
-read-backward-requires : tie.Need-read-backward-requires
-read-backward-requires c κs = search needs
-
 returns : tie.Need-returns
 unfolding vectors
 returns c =
@@ -18,4 +12,4 @@ returns c =
     record { runs = λ left. r-call _ (b .before .read-forward .ensures .runs) (r-call _ (r .runs) r-done); inside = r .inside }
 
 pub read-vectors-spec : {M : Type 1} → statement M
-read-vectors-spec = tie.close (tie.spec read-forward-requires read-backward-requires returns)
+read-vectors-spec = tie.close (tie.spec (λ c κs. search needs) (λ c κs. search needs) returns)

@@ -3,20 +3,8 @@ use borrow.Author.Needs.{needs}
 use Rattle.heads.proofs.increments.increment_turn.Statement.{statement}
 use Rattle.heads.proofs.increments.increment_turn.Tie as tie
 
-read-macroblock-address-increment-requires : tie.Need-read-macroblock-address-increment-requires
-read-macroblock-address-increment-requires c κs = search needs
-
-cast-c : tie.Need-cast-c
-cast-c c = search needs
-
-add-more : tie.Need-add-more
-add-more c = search needs
-
 returns : tie.Need-returns
 returns c = escape _ (c .before .before .before .read-macroblock-address-increment .ensures) (c .if1 .taken)
-
-add-all : tie.Need-add-all
-add-all c = search needs
 
 returns-2 : tie.Need-returns-2
 returns-2 c = last _ (c .before .before .before .before .read-macroblock-address-increment .ensures) (c .before .if1 .left) (c .if2 .taken)
@@ -34,12 +22,4 @@ returns-4 c =
 pub increment-turn-spec : {M : Type 1} → statement M
 increment-turn-spec =
     tie.close
-    (tie.spec
-    read-macroblock-address-increment-requires
-    cast-c
-    add-more
-    returns
-    add-all
-    returns-2
-    returns-3
-    returns-4)
+    (tie.spec (λ c κs. search needs) (λ c. search needs) (λ c. search needs) returns (λ c. search needs) returns-2 returns-3 returns-4)

@@ -16,15 +16,6 @@ made c = c .before .before .before .before
 predict-from-requires : tie.Need-predict-from-requires
 predict-from-requires c κs = let p = c .before .before .pre in (p .0, ((p .1 .0, omega (arith, p .0 .stores .fwd)), p .1 .1 .forward))
 
-enum-told : tie.Need-enum-told
-enum-told c = search needs
-
-enum-told-2 : tie.Need-enum-told-2
-enum-told-2 c = search needs
-
-same-length : tie.Need-same-length
-same-length c = search needs
-
 returns : tie.Need-returns
 returns c =
     let f = c .before .before .before .before in
@@ -37,9 +28,6 @@ predict-from-requires-2 c κs =
     let p = start f .pre in
     (held-on (p .0) (f .predict-from .kept .0), ((p .1 .0, omega (arith, p .0 .stores .bwd)), p .1 .1 .backward))
 
-same-length-2 : tie.Need-same-length-2
-same-length-2 c = search needs
-
 returns-2 : tie.Need-returns-2
 returns-2 c =
     let i = c .before .before .before .before in
@@ -47,9 +35,6 @@ returns-2 c =
     let a = start f .args in
     both-both (a .g) (a .address) (a .state) (now (a .store)) (f .predict-from .ensures) (i .before .enum-told .given .1) (i .if1 .taken)
     (c .before .before .predict-from2 .ensures)
-
-same-length-3 : tie.Need-same-length-3
-same-length-3 c = search needs
 
 returns-3 : tie.Need-returns-3
 returns-3 c =
@@ -60,14 +45,5 @@ returns-3 c =
 pub predict-both-spec : {M : Type 1} → statement M
 predict-both-spec =
     tie.close
-    (tie.spec
-    predict-from-requires
-    enum-told
-    enum-told-2
-    same-length
-    returns
-    predict-from-requires-2
-    same-length-2
-    returns-2
-    same-length-3
-    returns-3)
+    (tie.spec predict-from-requires (λ c. search needs) (λ c. search needs) (λ c. search needs) returns predict-from-requires-2
+    (λ c. search needs) returns-2 (λ c. search needs) returns-3)

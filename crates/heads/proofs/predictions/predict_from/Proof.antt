@@ -30,15 +30,6 @@ module _ (c : tie.After-in-halves2) where
       rd w32 (num (c .in-halves2 .ensures .1)) tt .is ∙ c .in-halves2 .ensures .0
       ∙ ap (inHalves (start across .args .m .«full_px»)) (range-read (start across .pre .1 .1 .v))
 
-in-halves-requires : tie.Need-in-halves-requires
-in-halves-requires c κs = search needs
-
-in-halves-requires-2 : tie.Need-in-halves-requires-2
-in-halves-requires-2 c κs = search needs
-
-macroblock-at-requires : tie.Need-macroblock-at-requires
-macroblock-at-requires c κs = search needs
-
 predict-macroblock-planes-requires : tie.Need-predict-macroblock-planes-requires
 predict-macroblock-planes-requires c κs =
     let m = c .before .macroblock-at .ensures in
@@ -48,9 +39,6 @@ predict-macroblock-planes-requires c κs =
     let across-small = still-small (h .in-halves .result) (h .in-halves .ensures .1) in
     let down-small = still-small (v .in-halves2 .result) (v .in-halves2 .ensures .1) in
     (m .1, ((p .1 .0 .1, omega (arith, p .0 .stores .cur)), ((across-small, down-small), rw (m .0) (omega (arith, p .0 .whole, p .0 .size)))))
-
-same-length : tie.Need-same-length
-same-length c = search needs
 
 returns : tie.Need-returns
 returns c =
@@ -63,10 +51,5 @@ returns c =
 pub predict-from-spec : {M : Type 1} → statement M
 predict-from-spec =
     tie.close
-    (tie.spec
-    in-halves-requires
-    in-halves-requires-2
-    macroblock-at-requires
-    predict-macroblock-planes-requires
-    same-length
+    (tie.spec (λ c κs. search needs) (λ c κs. search needs) (λ c κs. search needs) predict-macroblock-planes-requires (λ c. search needs)
     returns)

@@ -36,12 +36,6 @@ predict-requires c κs =
     let p = c .before .before .before .before .pre in
     (held-on (p .0) (c .before .before .loop .inv .long), (omega (arith, p .1 .0, c .before .loop-test .taken), p .1 .1))
 
-enum-told : tie.Need-enum-told Inv-loop μ-loop
-enum-told c = search needs
-
-enum-told-2 : tie.Need-enum-told-2 Inv-loop μ-loop
-enum-told-2 c = search needs
-
 same-length : tie.Need-same-length Inv-loop μ-loop
 same-length c =
     let f = refused c in
@@ -74,18 +68,5 @@ returns-2 c = skip-end (c .before .loop .inv) (c .loop-test .left)
 pub predict-skipped-spec : {M : Type 1} → statement M
 predict-skipped-spec =
     tie.close
-    (tie.spec
-    Inv-loop
-    μ-loop
-    loop-holds
-    add-predict
-    predict-requires
-    enum-told
-    enum-told-2
-    same-length
-    returns
-    add-k
-    loop-less
-    loop-again
-    same-length-2
-    returns-2)
+    (tie.spec Inv-loop μ-loop loop-holds add-predict predict-requires (λ c. search needs) (λ c. search needs) same-length returns add-k
+    loop-less loop-again same-length-2 returns-2)

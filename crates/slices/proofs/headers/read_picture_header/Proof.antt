@@ -27,15 +27,6 @@ without t h = ⊎-elim (λ e. rw (eq-eqb t 0 e)) (λ e. rw e (or-true (eqb t 0))
 within : (t : ℕ) → (t ≡ 0 → ⊥) → ltb 3 t ≡ false → (eqb t 0 || ltb 3 t) ≡ false
 within t n e = rw (ne-eqb t 0 n, e)
 
-skip-requires : tie.Need-skip-requires
-skip-requires c κs = search needs
-
-read-requires : tie.Need-read-requires
-read-requires c κs = search needs
-
-skip-requires-2 : tie.Need-skip-requires-2
-skip-requires-2 c κs = search needs
-
 returns : tie.Need-returns
 unfolding pictureHeader
 returns c =
@@ -61,9 +52,6 @@ returns-2 c =
       inside = e .skip2 .ensures .inside;
     }
 
-read-directions-requires : tie.Need-read-directions-requires
-read-directions-requires c κs = search needs
-
 returns-3 : tie.Need-returns-3
 unfolding pictureHeader
 returns-3 c =
@@ -83,11 +71,4 @@ returns-3 c =
 pub read-picture-header-spec : {M : Type 1} → statement M
 read-picture-header-spec =
     tie.close
-    (tie.spec
-    skip-requires
-    read-requires
-    skip-requires-2
-    returns
-    returns-2
-    read-directions-requires
-    returns-3)
+    (tie.spec (λ c κs. search needs) (λ c κs. search needs) (λ c κs. search needs) returns returns-2 (λ c κs. search needs) returns-3)
