@@ -37,8 +37,5 @@ returns c = let s = c .before in cast-is (minus c) (omega (arith, below c)) ∙ 
 cast-result-2 : tie.Need-cast-result-2
 cast-result-2 c = let s = c .before in cast-by (read s) (omega (arith, lt-no (read s) (lit 0) (c .if1 .left))) (omega (arith, small s))
 
-returns-2 : tie.Need-returns-2
-returns-2 c = search needs
-
 pub abs-spec : {M : Type 1} → statement M
-abs-spec = tie.close (tie.spec sub-result cast-result returns cast-result-2 returns-2)
+abs-spec = tie.close (tie.spec sub-result cast-result returns cast-result-2 (λ c. search needs))

@@ -60,12 +60,6 @@ returns c = chosen (c .before) (c .if1 .taken) refl
 returns-2 : tie.Need-returns-2
 returns-2 c = chosen (c .before .before) (c .before .if1 .left) (c .if2 .taken)
 
-cast-fscale : tie.Need-cast-fscale
-cast-fscale c = search needs
-
-shl-fscale : tie.Need-shl-fscale
-shl-fscale c = search needs
-
 sub-if1 : tie.Need-sub-if1
 sub-if1 c = need (ρ c) top tt
 
@@ -80,14 +74,4 @@ add-result c = need (ρ (c .before .before)) more tt
 
 pub corrected-spec : {M : Type 1} → statement M
 corrected-spec =
-    tie.close
-    (tie.spec
-    cast-fscale
-    shl-fscale
-    sub-if1
-    sub-result
-    returns
-    sub-if2
-    add-result
-    returns-2
-    returns-3)
+    tie.close (tie.spec (λ c. search needs) (λ c. search needs) sub-if1 sub-result returns sub-if2 add-result returns-2 returns-3)

@@ -18,9 +18,6 @@ use Rattle.motion.proofs.OneStep.{displacement-most}
 use Rattle.motion.proofs.vector.decode_motion_vector.Statement.{statement}
 use Rattle.motion.proofs.vector.decode_motion_vector.Tie as tie
 
-read-displacement-requires : tie.Need-read-displacement-requires
-read-displacement-requires c κs = search needs
-
 module _ (x : tie.After-read-displacement) where
   abbrev s : tie.Start
   s = x .before .before
@@ -83,4 +80,4 @@ returns c = stepped (c .before .before .before .before) (moved c)
 
 pub decode-motion-vector-spec : {M : Type 1} → statement M
 decode-motion-vector-spec =
-    tie.close (tie.spec read-displacement-requires add-corrected corrected-requires returns)
+    tie.close (tie.spec (λ c κs. search needs) add-corrected corrected-requires returns)

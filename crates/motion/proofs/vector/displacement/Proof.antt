@@ -50,9 +50,6 @@ module _ (c : tie.After-abs) where
 sub-size : tie.Need-sub-size
 sub-size c = omega (arith, size-abs c)
 
-shl-size : tie.Need-shl-size
-shl-size c = search needs
-
 add-size : tie.Need-add-size
 add-size c = record { fits = omega (arith, size-is c, size-small c) }
 
@@ -97,14 +94,4 @@ returns c =
 
 pub displacement-spec : {M : Type 1} → statement M
 displacement-spec =
-    tie.close
-    (tie.spec
-    abs-requires
-    sub-size
-    shl-size
-    add-size
-    add-size-2
-    cast-d
-    sub-result
-    returns
-    returns-2)
+    tie.close (tie.spec abs-requires sub-size (λ c. search needs) add-size add-size-2 cast-d sub-result returns returns-2)

@@ -1,5 +1,5 @@
 use borrow.Author.Needs.{needs}
-use Rattle.motion.proofs.Cases.{w1-read, w2-read, w3-read, w4-read}
+use Rattle.motion.proofs.Cases.{cases}
 use Rattle.replay.proofs.WorkedCases.{computed, told}
 use Rattle.replay.proofs.worked.vector_cases.Statement.{statement}
 use Rattle.replay.proofs.worked.vector_cases.Tie as tie
@@ -8,10 +8,10 @@ returns : tie.Need-returns
 returns c =
     let third = c .before .before in
     let second = third .before .before in (
-      told (computed (second .before .before .vector-case .ensures) w1-read),
-      told (computed (second .vector-case2 .ensures) w2-read),
-      told (computed (third .vector-case3 .ensures) w3-read),
-      told (computed (c .vector-case4 .ensures) w4-read),
+      told (computed (second .before .before .vector-case .ensures) (cases .w1-read)),
+      told (computed (second .vector-case2 .ensures) (cases .w2-read)),
+      told (computed (third .vector-case3 .ensures) (cases .w3-read)),
+      told (computed (c .vector-case4 .ensures) (cases .w4-read)),
     )
 
 pub vector-cases-spec : {M : Type 1} → statement M
