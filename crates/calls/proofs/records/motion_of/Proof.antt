@@ -1,5 +1,5 @@
 use Rattle.calls.specs.Records.{motionOf}
-use Rattle.calls.proofs.Reading.{given}
+use Rattle.lists.proofs.Signs.{given}
 use Rattle.calls.proofs.records.motion_of.Statement.{statement}
 use Rattle.calls.proofs.records.motion_of.Tie as tie
 

@@ -1,7 +1,7 @@
 use mathlib.Core.Path.{ap, _∙_}
 use mir.Syntax.{w32}
 use mir.Val.{toZ}
-use Rattle.calls.proofs.Reading.{given}
+use Rattle.lists.proofs.Signs.{given}
 use Rattle.calls.proofs.records.signed_at.Statement.{statement}
 use Rattle.calls.proofs.records.signed_at.Tie as tie
 

@@ -1,5 +1,5 @@
 use Rattle.calls.specs.Records.{sliceOf}
-use Rattle.calls.proofs.Reading.{given}
+use Rattle.lists.proofs.Signs.{given}
 use Rattle.calls.proofs.records.slice_of.Statement.{statement}
 use Rattle.calls.proofs.records.slice_of.Tie as tie
 

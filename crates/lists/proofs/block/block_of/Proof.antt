@@ -1,14 +1,13 @@
 use mathlib.Core.Path.{_≡_, ap, _∙_}
 use Prim.Native.Nat.{_*_, _-_, _≤_}
 use native.Mathlib.Omega.{arith}
-use borrow.Author.Needs.{sfits-of}
 use mir.Syntax.{w32}
 use mir.Val.{toZ}
-use mir.Facts.{toZ-ofZ}
 use Rattle.laws.specs.Stores.{storeRow}
 use Rattle.lists.specs.Blocks.{blank, blockOf}
 use Rattle.lists.specs.Numbers.{numberAt}
 use Rattle.lists.proofs.Blocks.{stored, all-stored}
+use Rattle.lists.proofs.Signs.{given}
 use Rattle.lists.proofs.block.block_of.Statement.{statement}
 use Rattle.lists.proofs.block.block_of.Tie as tie
 
@@ -25,15 +24,13 @@ loop-holds c = (omega arith, c .blank .ensures)
 loop-again : tie.Need-loop-again Inv-loop μ-loop
 loop-again c =
     let l = c .before .before .before in
-    let e = toZ-ofZ {w = w32} (sfits-of (c .signed .ok)) ∙ c .signed .ensures ∙ ap (toZ w32) (c .before .number-at .ensures) in
+    let e = given (c .signed .ok) (c .signed .ensures) ∙ ap (toZ w32) (c .before .number-at .ensures) in
     (omega arith, stored _ _ (l .loop .i) (l .loop .inv .1) e)
 
-returns : tie.Need-returns Inv-loop μ-loop
-unfolding blockOf
-returns c = let l = c .before in all-stored _ _ (l .loop .i) (l .loop .inv .1) (l .loop .inv .0) (c .loop-test .left)
-
 pub block-of-spec : {M : Type 1} → statement M
+unfolding blockOf
 block-of-spec =
     tie.close
     (tie.spec Inv-loop μ-loop (λ c κs. tt) loop-holds (λ c. omega arith) (λ c κs. tt) (λ c κs. tt) (λ c. omega arith) (λ c. omega arith)
-    (λ c. omega arith) (λ c. omega arith) loop-again returns)
+    (λ c. omega arith) (λ c. omega arith) loop-again
+    (λ c. let l = c .before in all-stored _ _ (l .loop .i) (l .loop .inv .1) (l .loop .inv .0) (c .loop-test .left)))

@@ -23,12 +23,10 @@ loop-again c =
     let l = c .before .before in
     (omega arith, stored _ _ (l .loop .i) (l .loop .inv .1) (c .byte-at .ensures .0))
 
-returns : tie.Need-returns Inv-loop μ-loop
-unfolding matrixOf
-returns c = let l = c .before in all-stored _ _ (l .loop .i) (l .loop .inv .1) (l .loop .inv .0) (c .loop-test .left)
-
 pub matrix-of-spec : {M : Type 1} → statement M
+unfolding matrixOf
 matrix-of-spec =
     tie.close
     (tie.spec Inv-loop μ-loop loop-holds (λ c κs. tt) (λ c. omega (arith, c .byte-at .ensures)) (λ c. omega arith) (λ c. omega arith)
-    (λ c. omega arith) loop-again returns)
+    (λ c. omega arith) loop-again
+    (λ c. let l = c .before in all-stored _ _ (l .loop .i) (l .loop .inv .1) (l .loop .inv .0) (c .loop-test .left)))

@@ -14,9 +14,6 @@ use Rattle.replay.proofs.reader_list.bytes_agree.Tie as tie
 abbrev begun : tie.After-peek-bytes → tie.Start
 begun p = p .before .before .before .before
 
-enum-told : tie.Need-enum-told
-enum-told c = search needs
-
 returns : tie.Need-returns
 returns c =
     let t = c .before .before in
@@ -41,6 +38,6 @@ returns-2 c =
 pub bytes-agree-spec : {M : Type 1} → statement M
 bytes-agree-spec =
     tie.close
-    (tie.spec (λ c κs. search needs) (λ c. search needs) enum-told (λ c. search needs) (λ c. search needs) (λ c. search needs)
+    (tie.spec (λ c κs. search needs) (λ c. search needs) (λ c. search needs) (λ c. search needs) (λ c. search needs) (λ c. search needs)
     (λ c κs. search needs) returns (λ c. omega (arith, inside c)) (λ c. omega (arith, inside c)) (λ c. omega (arith, inside c))
     (λ c κs. search needs) returns-2 (λ c. simp (ne-eqb _ _ (c .if1 .left))))

@@ -2,11 +2,9 @@ use mathlib.Core.Path.{_≡_, _∙_}
 use mathlib.Core.List.{List}
 use Prim.Native.Nat.{ℕ}
 use native.Mathlib.Omega.{arith}
-use borrow.Author.Needs.{sfits-of}
 use borrow.Author.Tests.{lt-ltb, le-ltb}
-use mir.Syntax.{w32}
-use mir.Facts.{toZ-ofZ}
 use Rattle.bits.specs.Runs.{Inside}
+use Rattle.lists.proofs.Signs.{given}
 use Rattle.replay.specs.declared.reader_operations.Outcome.{Outcome}
 use Rattle.replay.specs.Operations.{outcome}
 use Rattle.replay.proofs.reader_operations.operate.Statement.{statement}
@@ -34,70 +32,56 @@ returns-2 c =
 returns-3 : tie.Need-returns-3
 unfolding outcome
 returns-3 c =
-    let t = c .before .before in
-    let at-0 = c .before .new .ensures in
+    let t = c .before .before in let at-0 = c .before .new .ensures in
     ends (c .given .ensures) (rw (t .enum-told .given .1, at-0)) (record { place = omega arith; stream = t .before .before .before .pre .stream })
 
 returns-4 : tie.Need-returns-4
 unfolding outcome
-returns-4 c =
-    let r = c .before .read .ensures in
-    ends (c .valued .ensures) (rw (c .before .before .enum-told2 .given .1, r .runs .is)) (r .inside)
+returns-4 c = let r = c .before .read .ensures in ends (c .valued .ensures) (rw (c .before .before .enum-told2 .given .1, r .runs .is)) (r .inside)
 
 returns-5 : tie.Need-returns-5
 unfolding outcome
-returns-5 c =
-    let r = c .before .read-bit .ensures in
-    ends (c .valued2 .ensures) (rw (c .before .before .enum-told3 .given .1, r .runs .is)) (r .inside)
+returns-5 c = let r = c .before .read-bit .ensures in ends (c .valued2 .ensures) (rw (c .before .before .enum-told3 .given .1, r .runs .is)) (r .inside)
 
 returns-6 : tie.Need-returns-6
 unfolding outcome
 returns-6 c =
-    let t = c .before .before in
-    let h = c .before .has .ensures in
+    let t = c .before .before in let h = c .before .has .ensures in
     ends (c .flagged .ensures) (rw (t .enum-told4 .given .1, h .0, h .1)) (rw (h .1) (t .before .before .before .pre))
 
 returns-7 : tie.Need-returns-7
 unfolding outcome
 returns-7 c =
-    let t = c .before .before in
-    let h = c .before .has-ended .ensures in
+    let t = c .before .before in let h = c .before .has-ended .ensures in
     ends (c .flagged2 .ensures) (rw (t .enum-told5 .given .1, h .0, h .1)) (rw (h .1) (t .before .before .before .pre))
 
 returns-8 : tie.Need-returns-8
 unfolding outcome
-returns-8 c =
-    let r = c .before .skip .ensures in
-    ends (c .given2 .ensures) (rw (c .before .before .enum-told6 .given .1, r .runs .is)) (r .inside)
+returns-8 c = let r = c .before .skip .ensures in ends (c .given2 .ensures) (rw (c .before .before .enum-told6 .given .1, r .runs .is)) (r .inside)
 
 returns-9 : tie.Need-returns-9
 unfolding outcome
 returns-9 c =
-    let t = c .before .before in
-    let a = c .before .align .ensures in
+    let t = c .before .before in let a = c .before .align .ensures in
     ends (c .given3 .ensures) (rw (t .enum-told7 .given .1, a .0)) (record { place = a .1; stream = t .before .before .before .pre .stream })
 
 returns-10 : tie.Need-returns-10
 unfolding outcome
 returns-10 c =
-    let x = c .before .before in
-    let t = x .before in
-    let e = x .tell .ensures in
+    let x = c .before .before in let t = x .before in let e = x .tell .ensures in
     ends (c .given4 .ensures) (rw (t .enum-told8 .given .1, e .0, e .1)) (rw (e .1) (t .before .before .before .pre))
 
 returns-11 : tie.Need-returns-11
 unfolding outcome
 returns-11 c =
-    let t = c .before .before .before in
-    let e = c .before .seek .ensures in
+    let t = c .before .before .before in let e = c .before .seek .ensures in
     ends (c .given5 .ensures) (rw (t .enum-told9 .given .1, le-ltb _ _ (c .before .before .if1 .left), e .0))
     (record { place = e .1; stream = t .before .before .before .pre .stream })
 
 returns-12 : tie.Need-returns-12
 unfolding outcome
 returns-12 c =
-    let r = c .before .before in
-    let e = r .skip-bytes .ensures in
+    let r = c .before .before in let e = r .skip-bytes .ensures in
     ends (c .given6 .ensures) (rw (r .before .before .enum-told10 .given .1, le-ltb _ _ (r .before .if2 .left), e .1 .0, e .0)) (e .1 .1)
 
 returns-13 : tie.Need-returns-13
@@ -111,16 +95,15 @@ unfolding outcome
 returns-14 c =
     let f = c .before .find-start-code .ensures .0 in
     let x = c .before .before in
-    let e = toZ-ofZ {w = w32} (sfits-of (x .signed .ok)) ∙ x .signed .ensures in
-    ends (c .coded2 .ensures) (rw (x .before .enum-told12 .given .1, ← e, f .runs .is)) (f .inside)
+    ends (c .coded2 .ensures) (rw (x .before .enum-told12 .given .1, ← given (x .signed .ok) (x .signed .ensures), f .runs .is)) (f .inside)
 
 returns-15 : tie.Need-returns-15
 unfolding outcome
 returns-15 c =
     let f = c .before .has-start-code .ensures .0 in
     let x = c .before .before in
-    let e = toZ-ofZ {w = w32} (sfits-of (x .signed2 .ok)) ∙ x .signed2 .ensures in
-    ends (c .coded3 .ensures) (rw (x .before .enum-told13 .given .1, ← e, f .0, f .1)) (rw (f .1) (x .before .before .before .before .pre))
+    ends (c .coded3 .ensures) (rw (x .before .enum-told13 .given .1, ← given (x .signed2 .ok) (x .signed2 .ensures), f .0, f .1))
+    (rw (f .1) (x .before .before .before .before .pre))
 
 returns-16 : tie.Need-returns-16
 unfolding outcome
@@ -130,15 +113,11 @@ returns-16 c =
 
 returns-17 : tie.Need-returns-17
 unfolding outcome
-returns-17 c =
-    let t = c .before in
-    ends (c .peeked .ensures) (rw (t .enum-told15 .given .1)) (t .before .before .before .pre)
+returns-17 c = let t = c .before in ends (c .peeked .ensures) (rw (t .enum-told15 .given .1)) (t .before .before .before .pre)
 
 returns-18 : tie.Need-returns-18
 unfolding outcome
-returns-18 c =
-    let t = c .before in
-    ends (c .refused3 .ensures) (rw (t .enum-told16 .given .1)) (t .before .before .before .pre)
+returns-18 c = let t = c .before in ends (c .refused3 .ensures) (rw (t .enum-told16 .given .1)) (t .before .before .before .pre)
 
 pub operate-spec : {M : Type 1} → statement M
 operate-spec =

@@ -17,9 +17,6 @@ ends h k e = rw (← h, ← k) e
 abbrev place : Reader → ℕ
 place r = r .at .0
 
-enum-told : tie.Need-enum-told
-enum-told c = search needs
-
 returns : tie.Need-returns
 returns c =
     let e = c .before .before .before .peek-bytes .ensures .0 in
@@ -39,6 +36,6 @@ returns-2 c =
 pub peeked-spec : {M : Type 1} → statement M
 peeked-spec =
     tie.close
-    (tie.spec (λ c κs. search needs) (λ c. search needs) enum-told (λ c κs. search needs) returns
+    (tie.spec (λ c κs. search needs) (λ c. search needs) (λ c. search needs) (λ c κs. search needs) returns
     (λ c. omega (arith, inside (c .before .before))) (λ c. omega (arith, inside (c .before .before)))
     (λ c. omega (arith, inside (c .before .before))) (λ c κs. search needs) returns-2)
