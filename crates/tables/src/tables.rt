@@ -93,7 +93,7 @@ fn widened(intra_matrix: &[u8], other_matrix: &[u8]) -> [i32; 128]
 
 // The code tables of increments, types and patterns.
 fn put_macroblock_codes(t: &mut Tables)
-    ensures { λ _. ⌜ now (t .exit) ≡ paste (now (t .entry)) 0 macroblockCodes 492 ⌝ }
+    ensures { λ _. ⌜ now (t .exit) ≡ paste (now (t .entry)) 0 macroblockCodes (length macroblockCodes) ⌝ }
 {
     put(t, INCREMENT_INDEX, &MACROBLOCK_ADDRESS_INCREMENT_INDEX);
     put(t, INCREMENT_VALUE, &MACROBLOCK_ADDRESS_INCREMENT_VALUE);
@@ -109,7 +109,7 @@ fn put_macroblock_codes(t: &mut Tables)
 
 // The code tables of vectors, DC sizes and coefficients, the zig-zag order and the premultipliers.
 fn put_block_codes(t: &mut Tables)
-    ensures { λ _. ⌜ now (t .exit) ≡ paste (now (t .entry)) 492 blockCodes 784 ⌝ }
+    ensures { λ _. ⌜ now (t .exit) ≡ paste (now (t .entry)) (length macroblockCodes) blockCodes (length blockCodes) ⌝ }
 {
     put(t, VECTOR_INDEX, &MOTION_INDEX);
     put(t, VECTOR_VALUE, &MOTION_VALUE);

@@ -1,14 +1,17 @@
 -- Each table is laid behind the one before it.
-use mathlib.Core.Path.{refl}
+use mathlib.Core.Path.{refl, ap, sym, _∙_}
 use mathlib.Core.List.{map}
+use Prim.Native.Nat.{ℕ}
 use denote.Ref.{now}
 use borrow.Author.Needs.{needs}
 use lib.IntN.{pos}
+use lib.ListN.{length}
+use lib.Seq.{paste}
 use Rattle.codes.specs.Matrices.{zigZag, downFrom, diagonals, premultiplierMatrix}
 use Rattle.codes.specs.Tables.{motionIndex, motionValue, dctSizeLuminanceIndex, dctSizeLuminanceValue}
 use Rattle.codes.specs.Tables.{dctSizeChrominanceIndex, dctSizeChrominanceValue, dctCoeffIndex, dctCoeffValue}
 use Rattle.tables.specs.Halves.{blockCodes}
-use Rattle.tables.proofs.Made.{laid-first, laid-on}
+use Rattle.tables.proofs.Made.{laid-first, laid-on, macroblock-codes-length, block-codes-length}
 use Rattle.tables.proofs.tables.put_block_codes.Statement.{statement}
 use Rattle.tables.proofs.tables.put_block_codes.Tie as tie
 
@@ -36,7 +39,8 @@ returns x10 =
     let f8 = laid-on (map pos dctCoeffValue) 224 long f7 refl tt refl (x8 .put8 .ensures) in
     let f9 = laid-on (map pos zigZag) 64 long f8 refl tt refl (x9 .put-bytes .ensures) in
     let f10 = laid-on premultiplierMatrix 64 long f9 refl tt refl (x10 .put9 .ensures) in
-    f10 .is
+    let t = now (x1 .before .before .before .args .t) in
+    f10 .is ∙ ap (paste t 492 blockCodes) (sym block-codes-length) ∙ ap (λ (k : ℕ). paste t k blockCodes (length blockCodes)) (sym macroblock-codes-length)
 
 pub put-block-codes-spec : {M : Type 1} → statement M
 put-block-codes-spec =

@@ -1,14 +1,15 @@
 -- Each table is laid behind the one before it.
-use mathlib.Core.Path.{refl}
+use mathlib.Core.Path.{refl, ap, sym, _∙_}
 use mathlib.Core.List.{map}
 use denote.Ref.{now}
 use borrow.Author.Needs.{needs}
 use lib.IntN.{pos}
+use lib.Seq.{paste}
 use Rattle.codes.specs.Tables.{macroblockAddressIncrementIndex, macroblockAddressIncrementValue, macroblockTypeIntraIndex, macroblockTypeIntraValue}
 use Rattle.codes.specs.Tables.{macroblockTypePredictiveIndex, macroblockTypePredictiveValue, macroblockTypeBIndex, macroblockTypeBValue}
 use Rattle.codes.specs.Tables.{codeBlockPatternIndex, codeBlockPatternValue}
 use Rattle.tables.specs.Halves.{macroblockCodes}
-use Rattle.tables.proofs.Made.{laid-first, laid-on}
+use Rattle.tables.proofs.Made.{laid-first, laid-on, macroblock-codes-length}
 use Rattle.tables.proofs.tables.put_macroblock_codes.Statement.{statement}
 use Rattle.tables.proofs.tables.put_macroblock_codes.Tie as tie
 
@@ -37,7 +38,7 @@ returns x10 =
     let f8 = laid-on (map pos macroblockTypeBValue) 22 long f7 refl tt refl (x8 .put8 .ensures) in
     let f9 = laid-on codeBlockPatternIndex 126 long f8 refl tt refl (x9 .put9 .ensures) in
     let f10 = laid-on (map pos codeBlockPatternValue) 126 long f9 refl tt refl (x10 .put10 .ensures) in
-    f10 .is
+    f10 .is ∙ ap (paste (now (x1 .before .before .before .args .t)) 0 macroblockCodes) (sym macroblock-codes-length)
 
 pub put-macroblock-codes-spec : {M : Type 1} → statement M
 put-macroblock-codes-spec =

@@ -1,11 +1,13 @@
 -- The fixed tables are laid in two parts, and the matrices behind them.
 use mathlib.Core.Path.{_≡_, refl, sym, ap, _∙_}
-use mathlib.Core.List.{map, _++_, append-assoc}
+use mathlib.Core.List.{List, map, _++_, append-assoc}
+use Prim.Native.Nat.{ℕ}
 use native.Mathlib.Omega.{arith}
 use denote.Ref.{now}
 use borrow.Author.Needs.{needs}
-use lib.IntN.{pos}
+use lib.IntN.{ℤ, pos}
 use lib.ListN.{length, replicate, length-append}
+use lib.Seq.{paste}
 use Rattle.codes.specs.Lent.{fixedTables}
 use Rattle.codes.proofs.Parts.{length-map}
 use Rattle.tables.specs.Halves.{macroblockCodes, blockCodes}
@@ -16,9 +18,11 @@ use Rattle.tables.proofs.tables.tables_with.Tie as tie
 -- the array behind the two parts
 fixed : (c : tie.After-put-block-codes) → Front (c .put-block-codes .last .0) 1276 (macroblockCodes ++ blockCodes)
 fixed c =
-    let f = front-on macroblockCodes 0 492 (front-none {t = replicate 1404 (pos 0)} refl) macroblock-codes-length tt refl
-    (c .before .before .put-macroblock-codes .ensures) in
-    front-on blockCodes 492 784 f block-codes-length tt refl (c .put-block-codes .ensures)
+    let m = c .before .before in
+    let f = front-on macroblockCodes 0 492 (front-none {t = replicate 1404 (pos 0)} refl) macroblock-codes-length tt macroblock-codes-length
+    (m .put-macroblock-codes .ensures) in
+    let behind : ℕ → List ℤ = λ k. paste (m .put-macroblock-codes .last .0) k blockCodes (length blockCodes) in
+    front-on blockCodes 492 784 f block-codes-length tt block-codes-length (c .put-block-codes .ensures ∙ ap behind macroblock-codes-length)
 
 slice-aggregate-put : tie.Need-slice-aggregate-put
 slice-aggregate-put c = sym (fixed (c .before .before .before .before) .long)
