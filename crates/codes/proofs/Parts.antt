@@ -18,7 +18,7 @@ use Rattle.laws.proofs.Ints.{reread}
 use Rattle.laws.proofs.Nums.{Num, num, rd}
 use Rattle.codes.specs.Codes.{macroblockAddressIncrement, macroblockTypeIntra, macroblockTypePredictive, macroblockTypeB}
 use Rattle.codes.specs.Codes.{codeBlockPattern, dctSizeLuminance, dctSizeChrominance, dctCoeff}
-use Rattle.codes.specs.Lent.{Lent, fixedTables, matrixOf}
+use Rattle.codes.specs.Lent.{Lent, macroblockCodes, blockCodes, fixedTables, matrixOf}
 use Rattle.codes.specs.Matrices.{zigZag, downFrom, diagonals, premultiplierMatrix}
 use Rattle.codes.specs.Tables.{macroblockAddressIncrementIndex, macroblockAddressIncrementValue, macroblockTypeIntraIndex, macroblockTypeIntraValue}
 use Rattle.codes.specs.Tables.{macroblockTypePredictiveIndex, macroblockTypePredictiveValue, macroblockTypeBIndex, macroblockTypeBValue}
@@ -93,7 +93,7 @@ pub record Places : Type 0 where
   pub premultipliers : take 64 (drop 1212 fixedTables) ≡ premultiplierMatrix
 
 pub places : Places
-unfolding fixedTables macroblockAddressIncrementIndex macroblockAddressIncrementValue macroblockTypeIntraIndex macroblockTypeIntraValue
+unfolding fixedTables macroblockCodes blockCodes macroblockAddressIncrementIndex macroblockAddressIncrementValue macroblockTypeIntraIndex macroblockTypeIntraValue
     macroblockTypePredictiveIndex macroblockTypePredictiveValue macroblockTypeBIndex macroblockTypeBValue codeBlockPatternIndex codeBlockPatternValue
     motionIndex motionValue dctSizeLuminanceIndex dctSizeLuminanceValue dctSizeChrominanceIndex dctSizeChrominanceValue dctCoeffIndex dctCoeffValue
     zigZag downFrom diagonals premultiplierMatrix macroblockAddressIncrement macroblockTypeIntra macroblockTypePredictive macroblockTypeB codeBlockPattern

@@ -14,19 +14,27 @@ use Rattle.codes.specs.Tables.{dctSizeLuminanceIndex, dctSizeLuminanceVa
 use Rattle.codes.specs.Tables.{dctCoeffValue}
 use Rattle.codes.specs.Matrices.{zigZag, premultiplierMatrix}
 
--- RULES 2.1, 2.7: the tables that are the same for every stream: indices and values of each code table, the zig-zag order, the premultipliers
-unfoldable pub fixedTables : List ℤ
-fixedTables =
+-- RULES 2.1: indices and values of the codes that a macroblock begins with: increments, types, patterns
+unfoldable pub macroblockCodes : List ℤ
+macroblockCodes =
     macroblockAddressIncrementIndex ++ map pos macroblockAddressIncrementValue
     ++ macroblockTypeIntraIndex ++ map pos macroblockTypeIntraValue
     ++ macroblockTypePredictiveIndex ++ map pos macroblockTypePredictiveValue
     ++ macroblockTypeBIndex ++ map pos macroblockTypeBValue
     ++ codeBlockPatternIndex ++ map pos codeBlockPatternValue
-    ++ motionIndex ++ motionValue
+
+-- RULES 2.1, 2.7: of the codes of vectors, DC sizes and coefficients; behind them the zig-zag order and the premultipliers
+unfoldable pub blockCodes : List ℤ
+blockCodes =
+    motionIndex ++ motionValue
     ++ dctSizeLuminanceIndex ++ map pos dctSizeLuminanceValue
     ++ dctSizeChrominanceIndex ++ map pos dctSizeChrominanceValue
     ++ dctCoeffIndex ++ map pos dctCoeffValue
     ++ map pos zigZag ++ premultiplierMatrix
+
+-- the tables that are the same for every stream
+unfoldable pub fixedTables : List ℤ
+fixedTables = macroblockCodes ++ blockCodes
 
 -- RULES 3.8: behind them the matrix of intra blocks and that of the others
 abbrev pub tablesWith : List ℕ → List ℕ → List ℤ

@@ -10,7 +10,7 @@ use lib.IntN.{ℤ, pos, natAbs}
 use lib.ListN.{length, getD, set, take, drop, length-set, length-append, length-take}
 use lib.Seq.{take-append-add, drop-drop, drop-paste, set-append-left, take-set-lt, drop-set-lt, take-at, drop-at, getD-append-add, take-all, take-paste, length-paste, paste-zero, paste-suc, paste}
 use Rattle.laws.proofs.Tables.{anywhere}
-use Rattle.codes.specs.Lent.{Lent, fixedTables, tablesWith, matrixOf, isByte}
+use Rattle.codes.specs.Lent.{Lent, macroblockCodes, blockCodes, fixedTables, tablesWith, matrixOf, isByte}
 use Rattle.codes.specs.Matrices.{zigZag, downFrom, diagonals, intraQuantMatrix, nonIntraQuantMatrix, premultiplierMatrix}
 use Rattle.codes.specs.Tables.{macroblockAddressIncrementIndex, macroblockAddressIncrementValue, macroblockTypeIntraIndex, macroblockTypeIntraValue}
 use Rattle.codes.specs.Tables.{macroblockTypePredictiveIndex, macroblockTypePredictiveValue, macroblockTypeBIndex, macroblockTypeBValue}
@@ -18,7 +18,6 @@ use Rattle.codes.specs.Tables.{codeBlockPatternIndex, codeBlockPatternValue, mo
 use Rattle.codes.specs.Tables.{dctSizeLuminanceIndex, dctSizeLuminanceValue, dctSizeChrominanceIndex, dctSizeChrominanceValue, dctCoeffIndex}
 use Rattle.codes.specs.Tables.{dctCoeffValue}
 use Rattle.codes.proofs.Parts.{length-map, back}
-use Rattle.tables.specs.Halves.{macroblockCodes, blockCodes}
 
 -- ---- the tables as they are made
 
@@ -190,13 +189,10 @@ unfolding blockCodes motionIndex motionValue dctSizeLuminanceIndex dctSizeLumina
     zigZag downFrom diagonals premultiplierMatrix
 block-codes-length = refl
 
-pub halves : macroblockCodes ++ blockCodes ≡ fixedTables
-unfolding macroblockCodes blockCodes fixedTables
-halves = simp append-assoc refl
-
 fixed-length : length fixedTables ≡ 1276
+unfolding fixedTables
 fixed-length =
-    ap length (sym halves) ∙ length-append macroblockCodes blockCodes ∙ ap (λ (n : ℕ). n + length blockCodes) macroblock-codes-length
+    length-append macroblockCodes blockCodes ∙ ap (λ (n : ℕ). n + length blockCodes) macroblock-codes-length
     ∙ ap (λ (n : ℕ). 492 + n) block-codes-length
 
 -- bytes, as they stand in the tables

@@ -47,8 +47,7 @@ ghost use Prim.Native.Nat.{_+_, _≤_};
 ghost use lib.IntN.{pos};
 ghost use lib.ListN.{length};
 ghost use lib.Seq.{paste};
-ghost use Rattle.codes.specs.Lent.{tablesWith};
-ghost use Rattle.tables.specs.Halves.{macroblockCodes, blockCodes};
+ghost use Rattle.codes.specs.Lent.{macroblockCodes, blockCodes, tablesWith};
 
 fn put(tables: &mut [i32], at: usize, table: &[i32])
     requires { ⌜ at + length (now table) ≤ length (now tables) ⌝ }

@@ -8,9 +8,9 @@ use lib.IntN.{pos}
 use lib.ListN.{length}
 use lib.Seq.{paste}
 use Rattle.codes.specs.Matrices.{zigZag, downFrom, diagonals, premultiplierMatrix}
+use Rattle.codes.specs.Lent.{blockCodes}
 use Rattle.codes.specs.Tables.{motionIndex, motionValue, dctSizeLuminanceIndex, dctSizeLuminanceValue}
 use Rattle.codes.specs.Tables.{dctSizeChrominanceIndex, dctSizeChrominanceValue, dctCoeffIndex, dctCoeffValue}
-use Rattle.tables.specs.Halves.{blockCodes}
 use Rattle.tables.proofs.Made.{laid-first, laid-on, macroblock-codes-length, block-codes-length}
 use Rattle.tables.proofs.tables.put_block_codes.Statement.{statement}
 use Rattle.tables.proofs.tables.put_block_codes.Tie as tie
@@ -19,14 +19,10 @@ returns : tie.Need-returns
 unfolding blockCodes motionIndex motionValue dctSizeLuminanceIndex dctSizeLuminanceValue dctSizeChrominanceIndex dctSizeChrominanceValue
     dctCoeffIndex dctCoeffValue zigZag downFrom diagonals premultiplierMatrix
 returns x10 =
-    let x9 = x10 .before .before .before in
-    let x8 = x9 .before .before .before in
-    let x7 = x8 .before .before .before in
-    let x6 = x7 .before .before .before in
-    let x5 = x6 .before .before .before in
-    let x4 = x5 .before .before .before in
-    let x3 = x4 .before .before .before in
-    let x2 = x3 .before .before .before in
+    let x9 = x10 .before .before .before in let x8 = x9 .before .before .before in
+    let x7 = x8 .before .before .before in let x6 = x7 .before .before .before in
+    let x5 = x6 .before .before .before in let x4 = x5 .before .before .before in
+    let x3 = x4 .before .before .before in let x2 = x3 .before .before .before in
     let x1 = x2 .before .before .before in
     let long = x1 .before .before .put-arg .given .0 .1 in
     let f1 = laid-first {before = now (x1 .before .before .before .args .t)} 492 motionIndex 68 long refl tt refl (x1 .put .ensures) in
@@ -46,24 +42,7 @@ pub put-block-codes-spec : {M : Type 1} → statement M
 put-block-codes-spec =
     tie.close
     (tie.spec
-    (λ c. search needs)
-    (λ c κs. search needs)
-    (λ c. search needs)
-    (λ c κs. search needs)
-    (λ c. search needs)
-    (λ c κs. search needs)
-    (λ c. search needs)
-    (λ c κs. search needs)
-    (λ c. search needs)
-    (λ c κs. search needs)
-    (λ c. search needs)
-    (λ c κs. search needs)
-    (λ c. search needs)
-    (λ c κs. search needs)
-    (λ c. search needs)
-    (λ c κs. search needs)
-    (λ c. search needs)
-    (λ c κs. search needs)
-    (λ c. search needs)
-    (λ c κs. search needs)
-    returns)
+    (λ c. search needs) (λ c κs. search needs) (λ c. search needs) (λ c κs. search needs) (λ c. search needs) (λ c κs. search needs)
+    (λ c. search needs) (λ c κs. search needs) (λ c. search needs) (λ c κs. search needs) (λ c. search needs) (λ c κs. search needs)
+    (λ c. search needs) (λ c κs. search needs) (λ c. search needs) (λ c κs. search needs) (λ c. search needs) (λ c κs. search needs)
+    (λ c. search needs) (λ c κs. search needs) returns)

@@ -5,10 +5,10 @@ use denote.Ref.{now}
 use borrow.Author.Needs.{needs}
 use lib.IntN.{pos}
 use lib.Seq.{paste}
+use Rattle.codes.specs.Lent.{macroblockCodes}
 use Rattle.codes.specs.Tables.{macroblockAddressIncrementIndex, macroblockAddressIncrementValue, macroblockTypeIntraIndex, macroblockTypeIntraValue}
 use Rattle.codes.specs.Tables.{macroblockTypePredictiveIndex, macroblockTypePredictiveValue, macroblockTypeBIndex, macroblockTypeBValue}
 use Rattle.codes.specs.Tables.{codeBlockPatternIndex, codeBlockPatternValue}
-use Rattle.tables.specs.Halves.{macroblockCodes}
 use Rattle.tables.proofs.Made.{laid-first, laid-on, macroblock-codes-length}
 use Rattle.tables.proofs.tables.put_macroblock_codes.Statement.{statement}
 use Rattle.tables.proofs.tables.put_macroblock_codes.Tie as tie
@@ -18,14 +18,10 @@ unfolding macroblockCodes macroblockAddressIncrementIndex macroblockAddressIncre
     macroblockTypePredictiveIndex macroblockTypePredictiveValue macroblockTypeBIndex macroblockTypeBValue codeBlockPatternIndex
     codeBlockPatternValue
 returns x10 =
-    let x9 = x10 .before .before .before in
-    let x8 = x9 .before .before .before in
-    let x7 = x8 .before .before .before in
-    let x6 = x7 .before .before .before in
-    let x5 = x6 .before .before .before in
-    let x4 = x5 .before .before .before in
-    let x3 = x4 .before .before .before in
-    let x2 = x3 .before .before .before in
+    let x9 = x10 .before .before .before in let x8 = x9 .before .before .before in
+    let x7 = x8 .before .before .before in let x6 = x7 .before .before .before in
+    let x5 = x6 .before .before .before in let x4 = x5 .before .before .before in
+    let x3 = x4 .before .before .before in let x2 = x3 .before .before .before in
     let x1 = x2 .before .before .before in
     let long = x1 .before .before .put-arg .given .0 .1 in
     let f1 = laid-first {before = now (x1 .before .before .before .args .t)} 0 macroblockAddressIncrementIndex 80 long refl tt refl (x1 .put .ensures) in
@@ -44,24 +40,7 @@ pub put-macroblock-codes-spec : {M : Type 1} → statement M
 put-macroblock-codes-spec =
     tie.close
     (tie.spec
-    (λ c. search needs)
-    (λ c κs. search needs)
-    (λ c. search needs)
-    (λ c κs. search needs)
-    (λ c. search needs)
-    (λ c κs. search needs)
-    (λ c. search needs)
-    (λ c κs. search needs)
-    (λ c. search needs)
-    (λ c κs. search needs)
-    (λ c. search needs)
-    (λ c κs. search needs)
-    (λ c. search needs)
-    (λ c κs. search needs)
-    (λ c. search needs)
-    (λ c κs. search needs)
-    (λ c. search needs)
-    (λ c κs. search needs)
-    (λ c. search needs)
-    (λ c κs. search needs)
-    returns)
+    (λ c. search needs) (λ c κs. search needs) (λ c. search needs) (λ c κs. search needs) (λ c. search needs) (λ c κs. search needs)
+    (λ c. search needs) (λ c κs. search needs) (λ c. search needs) (λ c κs. search needs) (λ c. search needs) (λ c κs. search needs)
+    (λ c. search needs) (λ c κs. search needs) (λ c. search needs) (λ c κs. search needs) (λ c. search needs) (λ c κs. search needs)
+    (λ c. search needs) (λ c κs. search needs) returns)

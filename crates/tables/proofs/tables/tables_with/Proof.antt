@@ -8,10 +8,9 @@ use borrow.Author.Needs.{needs}
 use lib.IntN.{ℤ, pos}
 use lib.ListN.{length, replicate, length-append}
 use lib.Seq.{paste}
-use Rattle.codes.specs.Lent.{fixedTables}
+use Rattle.codes.specs.Lent.{macroblockCodes, blockCodes, fixedTables}
 use Rattle.codes.proofs.Parts.{length-map}
-use Rattle.tables.specs.Halves.{macroblockCodes, blockCodes}
-use Rattle.tables.proofs.Made.{Front, front-none, front-on, front-all, halves, macroblock-codes-length, block-codes-length}
+use Rattle.tables.proofs.Made.{Front, front-none, front-on, front-all, macroblock-codes-length, block-codes-length}
 use Rattle.tables.proofs.tables.tables_with.Statement.{statement}
 use Rattle.tables.proofs.tables.tables_with.Tie as tie
 
@@ -31,6 +30,7 @@ put-requires : tie.Need-put-requires
 put-requires c κs = let h = fixed (c .before .before .before .before .before) .long in omega (arith, h)
 
 returns : tie.Need-returns
+unfolding fixedTables
 returns c =
     let x = c .before in
     let w = x .before .before .before in
@@ -43,7 +43,7 @@ returns c =
     let both = map pos intra ++ map pos other in
     let long : length both ≡ 128 = omega (arith, length-append (map pos intra) (map pos other), length-map pos intra, length-map pos other, i, o) in
     let all = front-on both 1276 128 (fixed laid) long tt long (rw (w .widened .ensures) at (x .put .ensures)) in
-    front-all all ∙ ap (λ l. l ++ both) halves ∙ sym (append-assoc fixedTables (map pos intra) (map pos other))
+    front-all all ∙ sym (append-assoc fixedTables (map pos intra) (map pos other))
 
 pub tables-with-spec : {M : Type 1} → statement M
 tables-with-spec =
