@@ -93,7 +93,8 @@ pub record Places : Type 0 where
   pub premultipliers : take 64 (drop 1212 fixedTables) ≡ premultiplierMatrix
 
 pub places : Places
-unfolding fixedTables macroblockCodes blockCodes macroblockAddressIncrementIndex macroblockAddressIncrementValue macroblockTypeIntraIndex macroblockTypeIntraValue
+unfolding fixedTables macroblockCodes blockCodes
+    macroblockAddressIncrementIndex macroblockAddressIncrementValue macroblockTypeIntraIndex macroblockTypeIntraValue
     macroblockTypePredictiveIndex macroblockTypePredictiveValue macroblockTypeBIndex macroblockTypeBValue codeBlockPatternIndex codeBlockPatternValue
     motionIndex motionValue dctSizeLuminanceIndex dctSizeLuminanceValue dctSizeChrominanceIndex dctSizeChrominanceValue dctCoeffIndex dctCoeffValue
     zigZag downFrom diagonals premultiplierMatrix macroblockAddressIncrement macroblockTypeIntra macroblockTypePredictive macroblockTypeB codeBlockPattern

@@ -8,7 +8,8 @@ use native.Mathlib.Omega.{arith}
 use lib.Dec.{T, ltb, ltb→lt, leb, leb→le, le→leb}
 use lib.IntN.{ℤ, pos, natAbs}
 use lib.ListN.{length, getD, set, take, drop, length-set, length-append, length-take}
-use lib.Seq.{take-append-add, drop-drop, drop-paste, set-append-left, take-set-lt, drop-set-lt, take-at, drop-at, getD-append-add, take-all, take-paste, length-paste, paste-zero, paste-suc, paste}
+use lib.Seq.{take-append-add, drop-drop, drop-paste, set-append-left, take-set-lt, drop-set-lt, take-at, drop-at}
+use lib.Seq.{getD-append-add, take-all, take-paste, length-paste, paste-zero, paste-suc, paste}
 use Rattle.laws.proofs.Tables.{anywhere}
 use Rattle.codes.specs.Lent.{Lent, macroblockCodes, blockCodes, fixedTables, tablesWith, matrixOf, isByte}
 use Rattle.codes.specs.Matrices.{zigZag, downFrom, diagonals, intraQuantMatrix, nonIntraQuantMatrix, premultiplierMatrix}
@@ -144,6 +145,14 @@ laid-on {before} {t} {after} {laid} {at} {n} table k l f w h q r =
           ∙ paste-on before laid table at n k (f .long) (omega arith) (omega (arith, l, most));
     }
 
+-- a code table more: its indices, and its values behind them
+pub laid-table : {before t u v laid : List ℤ} {at n : ℕ} (index value : List ℤ) (k : ℕ) {i j : ℕ} → length before ≡ 1404 → Laid before at laid n t
+    → length index ≡ k → length value ≡ k → T (leb (at + (n + k) + k) 1404) → i ≡ k → j ≡ k
+    → u ≡ paste t (at + n) index i → v ≡ paste u (at + (n + k)) value j → Laid before at (laid ++ index ++ value) (n + k + k) v
+laid-table {at = at} {n = n} index value k l f a b h p q r w =
+    let most = leb→le (at + (n + k) + k) 1404 h in
+    laid-on value k l (laid-on index k l f a (le→leb (at + n + k) 1404 (omega arith)) p r) b h q w
+
 -- the first n of the numbers t are those of `front`
 pub record Front (t : List ℤ) (n : ℕ) (front : List ℤ) : Type 0 where
   pub long : length t ≡ 1404
@@ -185,8 +194,8 @@ unfolding macroblockCodes macroblockAddressIncrementIndex macroblockAddressIncre
 macroblock-codes-length = refl
 
 pub block-codes-length : length blockCodes ≡ 784
-unfolding blockCodes motionIndex motionValue dctSizeLuminanceIndex dctSizeLuminanceValue dctSizeChrominanceIndex dctSizeChrominanceValue dctCoeffIndex dctCoeffValue
-    zigZag downFrom diagonals premultiplierMatrix
+unfolding blockCodes motionIndex motionValue dctSizeLuminanceIndex dctSizeLuminanceValue dctSizeChrominanceIndex dctSizeChrominanceValue
+    dctCoeffIndex dctCoeffValue zigZag downFrom diagonals premultiplierMatrix
 block-codes-length = refl
 
 fixed-length : length fixedTables ≡ 1276

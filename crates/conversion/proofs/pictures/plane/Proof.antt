@@ -7,12 +7,6 @@ use Rattle.conversion.proofs.Planes.{plane-end}
 use Rattle.conversion.proofs.pictures.plane.Statement.{statement}
 use Rattle.conversion.proofs.pictures.plane.Tie as tie
 
-plane-start-requires : tie.Need-plane-start-requires
-plane-start-requires c κs = search needs
-
-plane-length-requires : tie.Need-plane-length-requires
-plane-length-requires c κs = search needs
-
 -- the plane ends within the stores
 ends : (c : tie.After-plane-length) → c .before .plane-start .result + c .plane-length .result ≤ 1152 * c .before .before .before .args .n
 ends c =
@@ -21,12 +15,6 @@ ends c =
 
 add-end : tie.Need-add-end
 add-end c = omega (arith, ends c, c .before .before .before .pre .0 .1)
-
-sub-result : tie.Need-sub-result
-sub-result c = search needs
-
-part-result-start : tie.Need-part-result-start
-part-result-start c = search needs
 
 part-result-end : tie.Need-part-result-end
 part-result-end c = omega (arith, ends c, c .before .before .before .pre .1)
@@ -43,10 +31,10 @@ pub plane-spec : {M : Type 1} → statement M
 plane-spec =
     tie.close
     (tie.spec
-    plane-start-requires
-    plane-length-requires
+    (λ c κs. search needs)
+    (λ c κs. search needs)
     add-end
-    sub-result
-    part-result-start
+    (λ c. search needs)
+    (λ c. search needs)
     part-result-end
     returns)

@@ -17,9 +17,6 @@ plane-requires-2 c κs = let p = c .before .before .before .pre in ((p .1 .1 .0,
 plane-requires-3 : tie.Need-plane-requires-3
 plane-requires-3 c κs = let p = c .before .before .before .before .pre in ((p .1 .1 .0, size-few (p .0)), p .1 .0)
 
-mul-luma-width : tie.Need-mul-luma-width
-mul-luma-width c = search needs
-
 -- the planes as they are cut are those of the picture
 cut : (c : tie.After-plane3) → let y = c .before .before in let s = y .before .before .before in let q = s .args .q in
     picture (q .width) (q .height) (q .sizes .«mb_width» * 16)
@@ -36,9 +33,6 @@ write-rgb-scaled-requires c κs =
       ((omega (arith, e .1), omega (arith, e .2)), omega (arith, e .3)),
     )
 
-same-length : tie.Need-same-length
-same-length c = search needs
-
 returns : tie.Need-returns
 returns c =
     let x = c .before .before in
@@ -51,7 +45,7 @@ write-picture-spec =
     plane-requires
     plane-requires-2
     plane-requires-3
-    mul-luma-width
+    (λ c. search needs)
     write-rgb-scaled-requires
-    same-length
+    (λ c. search needs)
     returns)

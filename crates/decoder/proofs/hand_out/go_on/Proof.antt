@@ -31,9 +31,6 @@ end p =
     ∙ ap (λ (x : Going). pictures (now (a .s)) x)
     (begun-as (a .before) (a .d) (now (a .store)) (n .store-bytes .result) (n .store-bytes .ensures) (b .begin .ensures))
 
-store-bytes-requires : tie.Need-store-bytes-requires
-store-bytes-requires c κs = search needs
-
 begin-requires : tie.Need-begin-requires
 begin-requires c κs = rw (c .store-bytes .ensures) (entry c .pre .1 .1)
 
@@ -62,7 +59,7 @@ pub go-on-spec : {M : Type 1} → statement M
 go-on-spec =
     tie.close
     (tie.spec
-    store-bytes-requires
+    (λ c κs. search needs)
     begin-requires
     pictures-requires
     (λ c κs. search needs)

@@ -5,20 +5,11 @@ use borrow.Author.Needs.{needs}
 use Rattle.decoder.proofs.headers.ask_header.Statement.{statement}
 use Rattle.decoder.proofs.headers.ask_header.Tie as tie
 
-find-sequence-requires : tie.Need-find-sequence-requires
-find-sequence-requires c κs = search needs
-
-has-code-requires : tie.Need-has-code-requires
-has-code-requires c κs = search needs
-
 returns : tie.Need-returns
 returns c =
     let h = c .before in
     let f = h .before .find-sequence .ensures in
     (header-3 _ _ (f .0) (sym (h .has-code .ensures) ∙ c .if1 .taken), f .1)
-
-has-requires : tie.Need-has-requires
-has-requires c κs = search needs
 
 returns-2 : tie.Need-returns-2
 returns-2 c =
@@ -27,9 +18,6 @@ returns-2 c =
     let f = h .before .find-sequence .ensures in
     let code = sym (h .has-code .ensures) ∙ k .before .if1 .left in
     (header-4 _ _ (f .0) code (sym (k .has .ensures .0) ∙ sym (Bool·not-not _) ∙ ap not (c .if2 .taken)), f .1)
-
-ask-size-requires : tie.Need-ask-size-requires
-ask-size-requires c κs = search needs
 
 returns-3 : tie.Need-returns-3
 returns-3 c =
@@ -45,10 +33,10 @@ pub ask-header-spec : {M : Type 1} → statement M
 ask-header-spec =
     tie.close
     (tie.spec
-    find-sequence-requires
-    has-code-requires
+    (λ c κs. search needs)
+    (λ c κs. search needs)
     returns
-    has-requires
+    (λ c κs. search needs)
     returns-2
-    ask-size-requires
+    (λ c κs. search needs)
     returns-3)

@@ -6,9 +6,6 @@ use Rattle.decoder.proofs.Fits.{fit-sized, fit-accepted}
 use Rattle.decoder.proofs.headers.ask_size.Statement.{statement}
 use Rattle.decoder.proofs.headers.ask_size.Tie as tie
 
-read-size-requires : tie.Need-read-size-requires
-read-size-requires c κs = search needs
-
 -- the record with the size that was read
 fits : (r : tie.After-read-size)
     → Fit (sized (ending (record { width = r .read-size .result .width; height = r .read-size .result .height }) (r .read-size .result .reader .at .0))
@@ -21,9 +18,6 @@ returns : tie.Need-returns
 returns c =
     let r = c .before .before .before in
     (size-no (r .before .before .args .d) (r .read-size .ensures .0 .runs) (c .if1 .taken), fits r)
-
-read-rest-requires : tie.Need-read-rest-requires
-read-rest-requires c κs = search needs
 
 accepted-requires : tie.Need-accepted-requires
 accepted-requires c κs = (fits (c .before .before .before .before), c .read-rest .ensures .1)
@@ -41,4 +35,4 @@ returns-2 c =
 
 pub ask-size-spec : {M : Type 1} → statement M
 ask-size-spec =
-    tie.close (tie.spec read-size-requires returns read-rest-requires accepted-requires returns-2)
+    tie.close (tie.spec (λ c κs. search needs) returns (λ c κs. search needs) accepted-requires returns-2)

@@ -13,9 +13,6 @@ returns c =
       enough = λ e. absurd (c .if1 .taken e);
     }
 
-store-bytes-requires : tie.Need-store-bytes-requires
-store-bytes-requires c κs = search needs
-
 returns-2 : tie.Need-returns-2
 returns-2 c =
     let i = c .before .before in
@@ -39,4 +36,4 @@ returns-3 c =
     }
 
 pub ask-store-spec : {M : Type 1} → statement M
-ask-store-spec = tie.close (tie.spec returns store-bytes-requires returns-2 returns-3)
+ask-store-spec = tie.close (tie.spec returns (λ c κs. search needs) returns-2 returns-3)

@@ -9,21 +9,12 @@ use borrow.Author.Needs.{needs, sfits-of}
 use Rattle.decoder.proofs.headers.find_sequence.Statement.{statement}
 use Rattle.decoder.proofs.headers.find_sequence.Tie as tie
 
-has-code-requires : tie.Need-has-code-requires
-has-code-requires c κs = search needs
-
 returns : tie.Need-returns
 unfolding findSequence
 returns c =
     let h = c .before in
     let s = h .before .before in
     (seek-has (pos 0xb3) _ (s .args .d) (sym (h .has-code .ensures) ∙ c .if1 .taken), s .pre .0)
-
-find-start-code-requires : tie.Need-find-start-code-requires
-find-start-code-requires c κs = search needs
-
-searched-as-requires : tie.Need-searched-as-requires
-searched-as-requires c κs = search needs
 
 returns-2 : tie.Need-returns-2
 unfolding findSequence
@@ -41,4 +32,4 @@ returns-2 c =
 pub find-sequence-spec : {M : Type 1} → statement M
 find-sequence-spec =
     tie.close
-    (tie.spec has-code-requires returns find-start-code-requires searched-as-requires returns-2)
+    (tie.spec (λ c κs. search needs) returns (λ c κs. search needs) (λ c κs. search needs) returns-2)

@@ -9,21 +9,12 @@ returns c = rw (lt-leb _ _ (c .if1 .taken))
 returns-2 : tie.Need-returns-2
 returns-2 c = rw (le-leb _ _ (c .before .if1 .left), lt-leb _ _ (c .if2 .taken))
 
-sizes-of-requires : tie.Need-sizes-of-requires
-sizes-of-requires c κs = search needs
-
-same-sizes-requires : tie.Need-same-sizes-requires
-same-sizes-requires c κs = search needs
-
 returns-3 : tie.Need-returns-3
 returns-3 c =
     let b = c .before .before in
     let wide = le-leb _ 4095 (b .before .before .if1 .left) in
     let high = le-leb _ 4095 (b .before .if2 .left) in
     rw (wide, high, b .if3 .taken, c .same-sizes .ensures, c .before .sizes-of .ensures)
-
-same-sizes-requires-2 : tie.Need-same-sizes-requires-2
-same-sizes-requires-2 c κs = search needs
 
 returns-4 : tie.Need-returns-4
 returns-4 c =
@@ -38,8 +29,8 @@ possible-sequence-spec =
     (tie.spec
     returns
     returns-2
-    sizes-of-requires
-    same-sizes-requires
+    (λ c κs. search needs)
+    (λ c κs. search needs)
     returns-3
-    same-sizes-requires-2
+    (λ c κs. search needs)
     returns-4)

@@ -25,9 +25,6 @@ zig-zag-requires c κs = tt
 loop-holds : tie.Need-loop-holds Inv-loop μ-loop
 loop-holds c = entry-start (c .before .before .pre)
 
-read-requires : tie.Need-read-requires Inv-loop μ-loop
-read-requires c κs = search needs
-
 array-read-place : tie.Need-array-read-place Inv-loop μ-loop
 array-read-place c = omega arith
 
@@ -65,7 +62,7 @@ read-entries-spec =
     μ-loop
     zig-zag-requires
     loop-holds
-    read-requires
+    (λ c κs. search needs)
     array-read-place
     cast-place
     cast-matrix

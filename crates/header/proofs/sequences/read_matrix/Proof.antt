@@ -5,17 +5,11 @@ use Rattle.header.specs.Sequences.{matrix}
 use Rattle.header.proofs.sequences.read_matrix.Statement.{statement}
 use Rattle.header.proofs.sequences.read_matrix.Tie as tie
 
-read-bit-requires : tie.Need-read-bit-requires
-read-bit-requires c κs = search needs
-
 returns : tie.Need-returns
 unfolding matrix
 returns c =
     let b = c .before .before .before .read-bit .ensures in
     record { runs = r-call _ (b .runs) (r-yes _ (eq-eqb _ 0 (c .if1 .taken)) r-done); inside = b .inside }
-
-read-entries-requires : tie.Need-read-entries-requires
-read-entries-requires c κs = search needs
 
 returns-2 : tie.Need-returns-2
 unfolding matrix
@@ -25,4 +19,4 @@ returns-2 c =
     record { runs = r-call _ (i .before .before .before .read-bit .ensures .runs) (r-no _ (ne-eqb _ 0 (i .if1 .left)) (e .runs)); inside = e .inside }
 
 pub read-matrix-spec : {M : Type 1} → statement M
-read-matrix-spec = tie.close (tie.spec read-bit-requires returns read-entries-requires returns-2)
+read-matrix-spec = tie.close (tie.spec (λ c κs. search needs) returns (λ c κs. search needs) returns-2)

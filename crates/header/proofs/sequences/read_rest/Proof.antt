@@ -6,33 +6,6 @@ use Rattle.header.specs.Sequences.{rest}
 use Rattle.header.proofs.sequences.read_rest.Statement.{statement}
 use Rattle.header.proofs.sequences.read_rest.Tie as tie
 
-read-requires : tie.Need-read-requires
-read-requires c κs = search needs
-
-read-requires-2 : tie.Need-read-requires-2
-read-requires-2 c κs = search needs
-
-skip-requires : tie.Need-skip-requires
-skip-requires c κs = search needs
-
-intra-quant-matrix-requires : tie.Need-intra-quant-matrix-requires
-intra-quant-matrix-requires c κs = search needs
-
-read-matrix-requires : tie.Need-read-matrix-requires
-read-matrix-requires c κs = search needs
-
-non-intra-quant-matrix-requires : tie.Need-non-intra-quant-matrix-requires
-non-intra-quant-matrix-requires c κs = search needs
-
-read-matrix-requires-2 : tie.Need-read-matrix-requires-2
-read-matrix-requires-2 c κs = search needs
-
-cast-aspect : tie.Need-cast-aspect
-cast-aspect c = search needs
-
-cast-rate : tie.Need-cast-rate
-cast-rate c = search needs
-
 returns : tie.Need-returns
 unfolding rest
 returns c =
@@ -56,13 +29,13 @@ pub read-rest-spec : {M : Type 1} → statement M
 read-rest-spec =
     tie.close
     (tie.spec
-    read-requires
-    read-requires-2
-    skip-requires
-    intra-quant-matrix-requires
-    read-matrix-requires
-    non-intra-quant-matrix-requires
-    read-matrix-requires-2
-    cast-aspect
-    cast-rate
+    (λ c κs. search needs)
+    (λ c κs. search needs)
+    (λ c κs. search needs)
+    (λ c κs. search needs)
+    (λ c κs. search needs)
+    (λ c κs. search needs)
+    (λ c κs. search needs)
+    (λ c. search needs)
+    (λ c. search needs)
     returns)

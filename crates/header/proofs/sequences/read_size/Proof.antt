@@ -6,18 +6,6 @@ use Rattle.header.specs.Sequences.{size}
 use Rattle.header.proofs.sequences.read_size.Statement.{statement}
 use Rattle.header.proofs.sequences.read_size.Tie as tie
 
-read-requires : tie.Need-read-requires
-read-requires c κs = search needs
-
-read-requires-2 : tie.Need-read-requires-2
-read-requires-2 c κs = search needs
-
-cast-width : tie.Need-cast-width
-cast-width c = search needs
-
-cast-height : tie.Need-cast-height
-cast-height c = search needs
-
 returns : tie.Need-returns
 unfolding size
 returns c =
@@ -32,4 +20,4 @@ returns c =
     )
 
 pub read-size-spec : {M : Type 1} → statement M
-read-size-spec = tie.close (tie.spec read-requires read-requires-2 cast-width cast-height returns)
+read-size-spec = tie.close (tie.spec (λ c κs. search needs) (λ c κs. search needs) (λ c. search needs) (λ c. search needs) returns)

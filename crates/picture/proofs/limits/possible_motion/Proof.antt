@@ -4,12 +4,6 @@ use borrow.Author.Needs.{needs, sfits-of}
 use Rattle.picture.proofs.limits.possible_motion.Statement.{statement}
 use Rattle.picture.proofs.limits.possible_motion.Tie as tie
 
-between-requires : tie.Need-between-requires
-between-requires c κs = search needs
-
-between-requires-2 : tie.Need-between-requires-2
-between-requires-2 c κs = search needs
-
 returns : tie.Need-returns
 returns c =
     let s = c .before .before in
@@ -21,4 +15,4 @@ returns c =
     )
 
 pub possible-motion-spec : {M : Type 1} → statement M
-possible-motion-spec = tie.close (tie.spec between-requires between-requires-2 returns)
+possible-motion-spec = tie.close (tie.spec (λ c κs. search needs) (λ c κs. search needs) returns)

@@ -4,15 +4,6 @@ use borrow.Author.Needs.{needs, sfits-of}
 use Rattle.picture.proofs.limits.possible_picture.Statement.{statement}
 use Rattle.picture.proofs.limits.possible_picture.Tie as tie
 
-between-requires : tie.Need-between-requires
-between-requires c κs = search needs
-
-possible-stores-requires : tie.Need-possible-stores-requires
-possible-stores-requires c κs = search needs
-
-possible-slice-requires : tie.Need-possible-slice-requires
-possible-slice-requires c κs = search needs
-
 returns : tie.Need-returns
 returns c =
     let b = c .before .before in
@@ -25,4 +16,4 @@ returns c =
 
 pub possible-picture-spec : {M : Type 1} → statement M
 possible-picture-spec =
-    tie.close (tie.spec between-requires possible-stores-requires possible-slice-requires returns)
+    tie.close (tie.spec (λ c κs. search needs) (λ c κs. search needs) (λ c κs. search needs) returns)

@@ -5,24 +5,6 @@ use Rattle.laws.specs.Each.{allBelow}
 use Rattle.picture.proofs.limits.possible_predictors.Statement.{statement}
 use Rattle.picture.proofs.limits.possible_predictors.Tie as tie
 
-array-copy-out-dc-inside : tie.Need-array-copy-out-dc-inside
-array-copy-out-dc-inside c = search needs
-
-dc-inside-requires : tie.Need-dc-inside-requires
-dc-inside-requires c κs = search needs
-
-array-copy-out-dc-inside-2 : tie.Need-array-copy-out-dc-inside-2
-array-copy-out-dc-inside-2 c = search needs
-
-dc-inside-requires-2 : tie.Need-dc-inside-requires-2
-dc-inside-requires-2 c κs = search needs
-
-array-copy-out-dc-inside-3 : tie.Need-array-copy-out-dc-inside-3
-array-copy-out-dc-inside-3 c = search needs
-
-dc-inside-requires-3 : tie.Need-dc-inside-requires-3
-dc-inside-requires-3 c κs = search needs
-
 returns : tie.Need-returns
 unfolding allBelow
 returns c =
@@ -41,10 +23,10 @@ pub possible-predictors-spec : {M : Type 1} → statement M
 possible-predictors-spec =
     tie.close
     (tie.spec
-    array-copy-out-dc-inside
-    dc-inside-requires
-    array-copy-out-dc-inside-2
-    dc-inside-requires-2
-    array-copy-out-dc-inside-3
-    dc-inside-requires-3
+    (λ c. search needs)
+    (λ c κs. search needs)
+    (λ c. search needs)
+    (λ c κs. search needs)
+    (λ c. search needs)
+    (λ c κs. search needs)
     returns)

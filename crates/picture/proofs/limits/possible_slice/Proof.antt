@@ -4,21 +4,6 @@ use borrow.Author.Needs.{needs, sfits-of}
 use Rattle.picture.proofs.limits.possible_slice.Statement.{statement}
 use Rattle.picture.proofs.limits.possible_slice.Tie as tie
 
-between-requires : tie.Need-between-requires
-between-requires c κs = search needs
-
-possible-motion-requires : tie.Need-possible-motion-requires
-possible-motion-requires c κs = search needs
-
-possible-motion-requires-2 : tie.Need-possible-motion-requires-2
-possible-motion-requires-2 c κs = search needs
-
-possible-predictors-requires : tie.Need-possible-predictors-requires
-possible-predictors-requires c κs = search needs
-
-bounded-requires : tie.Need-bounded-requires
-bounded-requires c κs = search needs
-
 returns : tie.Need-returns
 returns c =
     let d = c .before .before in
@@ -36,9 +21,9 @@ pub possible-slice-spec : {M : Type 1} → statement M
 possible-slice-spec =
     tie.close
     (tie.spec
-    between-requires
-    possible-motion-requires
-    possible-motion-requires-2
-    possible-predictors-requires
-    bounded-requires
+    (λ c κs. search needs)
+    (λ c κs. search needs)
+    (λ c κs. search needs)
+    (λ c κs. search needs)
+    (λ c κs. search needs)
     returns)

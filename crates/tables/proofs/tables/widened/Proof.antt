@@ -54,19 +54,5 @@ pub widened-spec : {M : Type 1} → statement M
 widened-spec =
     tie.close
     (tie.spec
-    Inv-loop
-    μ-loop
-    (λ c. beside-none _ _ _)
-    (λ c. omega arith)
-    cast-intra
-    (λ c. omega arith)
-    cast-other
-    (λ c. omega arith)
-    (λ c. omega arith)
-    (λ c. omega arith)
-    (λ c. omega arith)
-    (λ c. omega arith)
-    (λ c. omega arith)
-    (λ c. omega arith)
-    loop-again
-    returns)
+    Inv-loop μ-loop (λ c. beside-none _ _ _) (λ c. omega arith) cast-intra (λ c. omega arith) cast-other (λ c. omega arith) (λ c. omega arith)
+    (λ c. omega arith) (λ c. omega arith) (λ c. omega arith) (λ c. omega arith) (λ c. omega arith) loop-again returns)

@@ -8,17 +8,11 @@ use Rattle.decoder.proofs.Openings.{open-1, open-no, open-yes}
 use Rattle.decoder.proofs.record.Decoder.open.Statement.{statement}
 use Rattle.decoder.proofs.record.Decoder.open.Tie as tie
 
-fresh-requires : tie.Need-fresh-requires
-fresh-requires c κs = search needs
-
 returns : tie.Need-returns
 returns c = rw (c .before .fresh .ensures) (open-1 _ _ (c .if1 .taken))
 
 ask-header-requires : tie.Need-ask-header-requires
 ask-header-requires c κs = (rw (c .before .fresh .ensures) fit-fresh, c .if1 .left)
-
-ask-store-requires : tie.Need-ask-store-requires
-ask-store-requires c κs = search needs
 
 -- the answer to all four questions
 asks : (a : tie.After-ask-store) → let s = a .before .before .before .before .before .before in
@@ -41,9 +35,6 @@ clear-requires c κs =
     let i = c .before .before in
     rw (c .store-bytes .ensures) (i .before .before .ask-store .ensures .enough (i .if2 .left))
 
-same-length : tie.Need-same-length
-same-length c = search needs
-
 returns-3 : tie.Need-returns-3
 returns-3 c =
     let k = c .before .before in
@@ -56,12 +47,12 @@ pub open-spec : {M : Type 1} → statement M
 open-spec =
     tie.close
     (tie.spec
-    fresh-requires
+    (λ c κs. search needs)
     returns
     ask-header-requires
-    ask-store-requires
+    (λ c κs. search needs)
     returns-2
     store-bytes-requires
     clear-requires
-    same-length
+    (λ c. search needs)
     returns-3)

@@ -39,9 +39,6 @@ behind-11 : (c : tie.Else4) → let t = c .before .before in let s = call (t .be
     fits (s .args .w) (s .args .h) (s .args .area .now) ≡ true
 behind-11 c = opposite (c .before .fits2 .ensures) (c .if4 .left)
 
-possible-requires : tie.Need-possible-requires
-possible-requires c κs = search needs
-
 returns : tie.Need-returns
 returns c = convert-2 (call (c .before) .args .self) _ _ _ _ _ (opposite (c .before .possible .ensures) (c .if1 .taken))
 
@@ -59,9 +56,6 @@ returns-3 c =
     let j = c .before in
     let i = j .before .before in
     convert-10 (call (i .before) .args .self) _ _ _ _ _ (behind-2 i) (behind-6 j) (opposite refl (c .if3 .taken))
-
-fits-requires : tie.Need-fits-requires
-fits-requires c κs = search needs
 
 returns-4 : tie.Need-returns-4
 returns-4 c =
@@ -86,9 +80,6 @@ write-picture-requires c κs =
       ),
     )
 
-same-length : tie.Need-same-length
-same-length c = search needs
-
 returns-5 : tie.Need-returns-5
 returns-5 c =
     let x = c .before .before in
@@ -102,13 +93,13 @@ pub write-rgb-scaled-spec : {M : Type 1} → statement M
 write-rgb-scaled-spec =
     tie.close
     (tie.spec
-    possible-requires
+    (λ c κs. search needs)
     returns
     store-bytes-requires
     returns-2
     returns-3
-    fits-requires
+    (λ c κs. search needs)
     returns-4
     write-picture-requires
-    same-length
+    (λ c. search needs)
     returns-5)
