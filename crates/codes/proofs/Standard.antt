@@ -3,22 +3,18 @@ use mathlib.Core.Path.{_≡_, refl, ap}
 use mathlib.Core.List.{List, [], _∷_, List·Memᴰ·head, List·Memᴰ·tail}
 use Prim.Native.Nat.{ℕ, zero, suc, _+_, _*_, _≤_, _<_}
 use native.Mathlib.Nat.{le-of-suc-le-suc, not-suc-le-zero}
-use native.Mathlib.Omega.{arith}
 use lib.Dec.{T, eqb, eqb→eq}
 use lib.ListN.{length, getD}
 use lib.IntN.{ℤ, pos, negsuc}
 use Rattle.bits.specs.Programs.{eqZ}
-use Rattle.bits.specs.Runs.{Runs}
-use Rattle.codes.specs.Walk.{vlc}
 use Rattle.codes.specs.Tables.{macroblockAddressIncrementIndex, macroblockAddressIncrementValue, macroblockTypeIntraIndex, macroblockTypeIntraValue}
 use Rattle.codes.specs.Tables.{macroblockTypePredictiveIndex, macroblockTypePredictiveValue, macroblockTypeBIndex, macroblockTypeBValue}
 use Rattle.codes.specs.Tables.{codeBlockPatternIndex, codeBlockPatternValue, motionIndex, motionValue, dctSizeLuminanceIndex, dctSizeLuminanceValue}
 use Rattle.codes.specs.Tables.{dctSizeChrominanceIndex, dctSizeChrominanceValue, dctCoeffIndex, dctCoeffValue}
-use Rattle.codes.specs.Standard.{Code, _∈_, Stands, macroblockAddressIncrementCodes, macroblockTypeIntraCodes, macroblockTypePredictiveCodes}
+use Rattle.codes.specs.Standard.{Code, _∈_, macroblockAddressIncrementCodes, macroblockTypeIntraCodes, macroblockTypePredictiveCodes}
 use Rattle.codes.specs.Standard.{macroblockTypeBCodes, codeBlockPatternCodes, motionCodes, dctSizeLuminanceCodes, dctSizeChrominanceCodes}
 use Rattle.codes.specs.Standard.{dctCoeffCodes}
 use Rattle.codes.proofs.Agreement.{Agrees}
-use Rattle.codes.proofs.Follow.{runs-as}
 use Rattle.codes.proofs.Tested.{agrees-of}
 use Rattle.codes.proofs.Tree.{passes}
 
@@ -84,9 +80,3 @@ module _ {A : Type 0} where
   row [] d i h = absurd (not-suc-le-zero h)
   row (c ∷ codes) d zero h = List·Memᴰ·head refl
   row (c ∷ codes) d (suc i) h = List·Memᴰ·tail (row codes d i (le-of-suc-le-suc h))
-
-  -- a code that lies inside the stream takes all its bits
-  pub reads-inside : {ix : List ℤ} {vs : List A} {d idle : A} {codes : List (Code A)} → Agrees ix vs d idle codes
-      → (c : Code A) → c ∈ codes → (s : List ℕ) (a : ℕ) → Stands c s a → a + c .bits ≤ length s * 8
-      → Runs (vlc ix vs d) s a (c .value) (a + c .bits)
-  reads-inside g c m s a h l = runs-as (g .reads c m s a h) refl (omega arith)

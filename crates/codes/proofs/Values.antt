@@ -7,11 +7,8 @@ use lib.Dec.{T, leb, leb→le}
 use lib.IntN.{ℤ, pos, natAbs}
 use Rattle.laws.proofs.Tables.{every}
 use Rattle.bits.proofs.Gives.{Gives}
-use Rattle.codes.specs.Codes.{macroblockAddressIncrement, macroblockTypeIntra, macroblockTypePredictive, macroblockTypeB, codeBlockPattern}
-use Rattle.codes.specs.Codes.{motion, dctSizeLuminance, dctSizeChrominance, dctCoeff}
-use Rattle.codes.specs.Tables.{macroblockAddressIncrementIndex, macroblockAddressIncrementValue, macroblockTypeIntraIndex, macroblockTypeIntraValue}
-use Rattle.codes.specs.Tables.{macroblockTypePredictiveIndex, macroblockTypePredictiveValue, macroblockTypeBIndex, macroblockTypeBValue}
-use Rattle.codes.specs.Tables.{codeBlockPatternIndex, codeBlockPatternValue, motionIndex, motionValue}
+use Rattle.codes.specs.Codes.{macroblockAddressIncrement, motion, dctSizeLuminance, dctSizeChrominance, dctCoeff}
+use Rattle.codes.specs.Tables.{macroblockAddressIncrementIndex, macroblockAddressIncrementValue, motionIndex, motionValue}
 use Rattle.codes.specs.Tables.{dctSizeLuminanceIndex, dctSizeLuminanceValue, dctSizeChrominanceIndex, dctSizeChrominanceValue, dctCoeffIndex}
 use Rattle.codes.specs.Tables.{dctCoeffValue}
 use Rattle.codes.specs.Walk.{vlc}
@@ -28,22 +25,6 @@ module _ {s : List ℕ} where
   pub increment-most : Gives s (λ v. v ≤ 35) macroblockAddressIncrement
   unfolding macroblockAddressIncrement macroblockAddressIncrementValue
   increment-most = most 35 macroblockAddressIncrementIndex macroblockAddressIncrementValue tt tt
-
-  pub type-intra-most : Gives s (λ v. v ≤ 31) macroblockTypeIntra
-  unfolding macroblockTypeIntra macroblockTypeIntraValue
-  type-intra-most = most 31 macroblockTypeIntraIndex macroblockTypeIntraValue tt tt
-
-  pub type-predictive-most : Gives s (λ v. v ≤ 31) macroblockTypePredictive
-  unfolding macroblockTypePredictive macroblockTypePredictiveValue
-  type-predictive-most = most 31 macroblockTypePredictiveIndex macroblockTypePredictiveValue tt tt
-
-  pub type-b-most : Gives s (λ v. v ≤ 31) macroblockTypeB
-  unfolding macroblockTypeB macroblockTypeBValue
-  type-b-most = most 31 macroblockTypeBIndex macroblockTypeBValue tt tt
-
-  pub pattern-most : Gives s (λ v. v ≤ 63) codeBlockPattern
-  unfolding codeBlockPattern codeBlockPatternValue
-  pattern-most = most 63 codeBlockPatternIndex codeBlockPatternValue tt tt
 
   pub motion-most : Gives s (λ v. natAbs v ≤ 16) motion
   unfolding motion motionValue

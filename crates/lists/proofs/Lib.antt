@@ -1,4 +1,3 @@
 pub mod Blocks
-pub mod Parts
 pub mod Signs
 pub mod Tallies

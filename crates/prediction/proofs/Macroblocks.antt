@@ -76,9 +76,6 @@ size-most Y = omega arith
 size-most Cr = omega arith
 size-most Cb = omega arith
 
-pub length-most : (q : Plane) (n : ℕ) → planeLength q n ≤ 256 * n
-length-most q n = mul-le-mul-right n (mul-le-mul (size-most q) (size-most q))
-
 -- block 0 to 5 lies in its plane
 module _ {m : Macroblock} (i : Inside m) (number : ℕ) where
   pub width-least : 8 ≤ blockWidth m number
