@@ -40,6 +40,7 @@ use Rattle.picture.specs.declared.state.Setting.{Setting}
 use Rattle.picture.specs.declared.state.SliceState.{SliceState}
 use Rattle.picture.specs.declared.state.Progress.{Progress}
 use Rattle.picture.specs.declared.state.SlicesProgress.{SlicesProgress}
+use Rattle.picture.specs.declared.state.PictureState.{PictureState}
 use Rattle.picture.specs.declared.state.PictureProgress.{PictureProgress}
 
 -- ---- the code's state as the definitions have it
@@ -63,6 +64,18 @@ sliceOf x left = record {
   «dc_predictor» = x .«dc_predictor»;
   «block_data» = left;
 }
+
+abbrev pub pictureOf : PictureState → List ℤ → Picture
+pictureOf p left = record {
+  «picture_type» = p .«picture_type»;
+  «start_code» = p .«start_code»;
+  stores = p .stores;
+  slice = sliceOf (p .slice) left;
+}
+
+-- the two matrices, lent one by one
+abbrev pub matrices : List ℕ → List ℕ → Matrices
+matrices intra other = record { «intra_quant_matrix» = intra; «non_intra_quant_matrix» = other }
 
 -- and with the store
 abbrev pub worldOf : SliceState → List ℤ → List ℕ → World
@@ -353,6 +366,6 @@ pub record Pictured (p : Prog (Way P.Frame)) (g : Setting) (s : List ℕ) (reade
   pub few : natAbs (r .code) ≤ 255
 
 -- a picture, or its slices
-pub record Coded (p : Prog (Way P.Frame)) (s : List ℕ) (reader : Reader) (r : PictureProgress) (store : List ℕ) : Type 0 where
-  pub runs : Runs p s (reader .at .0) (way (r .stop) (P.frame (r .picture) store) store) (r .reader .at .0)
+pub record Coded (p : Prog (Way P.Frame)) (s : List ℕ) (reader : Reader) (r : PictureProgress) (left : List ℤ) (store : List ℕ) : Type 0 where
+  pub runs : Runs p s (reader .at .0) (way (r .stop) (P.frame (pictureOf (r .picture) left) store) store) (r .reader .at .0)
   pub inside : Inside s (r .reader)

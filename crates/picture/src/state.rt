@@ -80,9 +80,17 @@ pub struct SlicesProgress {
     pub stop: u32,
 }
 
+// A picture's state without the left-over coefficients, which are lent beside it.
+pub struct PictureState {
+    pub picture_type: u32,
+    pub start_code: i32,
+    pub stores: Stores,
+    pub slice: SliceState,
+}
+
 // Where a picture ended.
 pub struct PictureProgress {
     pub reader: Reader,
-    pub picture: Picture,
+    pub picture: PictureState,
     pub stop: u32,
 }

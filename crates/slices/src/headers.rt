@@ -1,11 +1,11 @@
 // RULES 7.1, 5.1, 8.4: the header of a picture, from behind its start code on.
 use bits::reader::Reader;
 use picture::state::Motion;
-use picture::state::Picture;
+use picture::state::PictureState;
 ghost use Rattle.bits.specs.Runs.{Inside, Reading};
 ghost use Rattle.picture.specs.State.{typeAs};
-ghost use Rattle.picture.specs.Pictures.{direction, forwardHeader, pictureHeader, headed};
-ghost use Rattle.slices.specs.Behind.{headerAs};
+ghost use Rattle.picture.specs.Pictures.{direction, forwardHeader, pictureHeader};
+ghost use Rattle.slices.specs.Behind.{Heads};
 
 // A motion with the flag and the size of its header; with `decoded` false the picture is not decoded.
 struct DirectionRead {
@@ -50,9 +50,9 @@ fn read_direction(s: &[u8], reader: Reader, m: Motion) -> DirectionRead
 }
 
 // A P or B header goes on with the forward direction, a B header then with the backward direction.
-fn read_directions(s: &[u8], reader: Reader, picture_type: u32, p: Picture) -> HeaderRead
+fn read_directions(s: &[u8], reader: Reader, picture_type: u32, p: PictureState) -> HeaderRead
     requires { ⌜ Inside (now s) reader ⌝ }
-    ensures { λ r. ⌜ Reading (forwardHeader (typeAs «picture_type» p)) (now (s .entry)) reader (headed (headerAs r p) (r .decoded)) (r .reader) ⌝ }
+    ensures { λ r. ⌜ Heads (λ x. forwardHeader (typeAs «picture_type» x)) (now (s .entry)) reader p r ⌝ }
 {
     let slice = p.slice;
     let f = read_direction(s, reader, slice.motion_forward);
@@ -81,9 +81,9 @@ fn read_directions(s: &[u8], reader: Reader, picture_type: u32, p: Picture) -> H
 }
 
 // Ten bits of temporal reference and sixteen of delay are passed over.
-pub fn read_picture_header(s: &[u8], reader: Reader, p: Picture) -> HeaderRead
+pub fn read_picture_header(s: &[u8], reader: Reader, p: PictureState) -> HeaderRead
     requires { ⌜ Inside (now s) reader ⌝ }
-    ensures { λ r. ⌜ Reading (pictureHeader p) (now (s .entry)) reader (headed (headerAs r p) (r .decoded)) (r .reader) ⌝ }
+    ensures { λ r. ⌜ Heads pictureHeader (now (s .entry)) reader p r ⌝ }
 {
     let slice = p.slice;
     let forward = slice.motion_forward;

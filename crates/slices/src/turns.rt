@@ -1,58 +1,24 @@
 // RULES 7.2: the slices of a picture, with the turn of the stores.
 use crate::pictures::read_slices;
 use bits::reader::Reader;
-use picture::state::Matrices;
-use picture::state::Picture;
 use picture::state::PictureProgress;
+use picture::state::PictureState;
 use picture::state::Setting;
 use picture::state::Sizes;
-use picture::state::Slice;
-use picture::state::SliceState;
 use picture::state::SlicesProgress;
 use picture::state::Stores;
 use tables::tables::tables_with;
 ghost use mathlib.Core.Path.{_≡_};
-ghost use Prim.Native.Nat.{_≤_};
+ghost use Prim.Native.Nat.{ℕ, _≤_, _<_};
 ghost use lib.Dec.{eqb};
 ghost use lib.IntN.{natAbs};
+ghost use lib.ListN.{length, getD};
 ghost use Rattle.bits.specs.Programs.{if_then_else_};
 ghost use Rattle.bits.specs.Runs.{Inside};
 ghost use Rattle.picture.specs.Possible.{PossiblePicture};
 ghost use Rattle.picture.specs.Pictures.{before, after, coded};
-ghost use Rattle.picture.specs.Views.{settingOf, sliceOf, stateOf, Held, Coded};
-ghost use Rattle.slices.specs.Behind.{pictureOf};
-
-// Without the left-over coefficients.
-fn state_of(x: Slice) -> SliceState
-    ensures { λ r. ⌜ r ≡ stateOf x ⌝ }
-{
-    let forward = x.motion_forward;
-    let backward = x.motion_backward;
-    let predictors = x.dc_predictor;
-    SliceState {
-        quantizer_scale: x.quantizer_scale,
-        macroblock_address: x.macroblock_address,
-        motion_forward: forward,
-        motion_backward: backward,
-        dc_predictor: predictors,
-    }
-}
-
-fn slice_of(x: SliceState, left: [i32; 64]) -> Slice
-    ensures { λ r. ⌜ r ≡ sliceOf x left ⌝ }
-{
-    let forward = x.motion_forward;
-    let backward = x.motion_backward;
-    let predictors = x.dc_predictor;
-    Slice {
-        quantizer_scale: x.quantizer_scale,
-        macroblock_address: x.macroblock_address,
-        motion_forward: forward,
-        motion_backward: backward,
-        dc_predictor: predictors,
-        block_data: left,
-    }
-}
+ghost use Rattle.picture.specs.Views.{pictureOf, matrices, settingOf, Held, Coded};
+ghost use Rattle.slices.specs.Behind.{progressOf};
 
 // The roles of the stores while the slices of a picture are read, and after them.
 struct Roles {
@@ -84,17 +50,16 @@ fn roles_of(picture_type: u32, t: Stores) -> Roles
     Roles { during, turned }
 }
 
-// The picture whose slices were read, with these roles and these coefficients left over.
-fn picture_of(g: Setting, stores: Stores, t: SlicesProgress, left: [i32; 64]) -> PictureProgress
+// The picture whose slices were read, with these roles.
+fn picture_of(g: Setting, stores: Stores, t: SlicesProgress) -> PictureProgress
     requires { ⌜ natAbs (t .code) ≤ 255 ⌝ }
-    ensures { λ r. ⌜ r ≡ pictureOf g stores t left ⌝ }
+    ensures { λ r. ⌜ r ≡ progressOf g stores t ⌝ }
 {
     let end = t.reader;
-    let state = t.state;
-    let slice = slice_of(state, left);
+    let slice = t.state;
     PictureProgress {
         reader: end,
-        picture: Picture {
+        picture: PictureState {
             picture_type: g.picture_type,
             start_code: t.code,
             stores,
@@ -104,23 +69,36 @@ fn picture_of(g: Setting, stores: Stores, t: SlicesProgress, left: [i32; 64]) ->
     }
 }
 
+// Says that a matrix is 64 bytes: that is known of one by value, and not of one behind a reference. The copy for it is not made in compiled code.
+fn has_bytes(matrix: [u8; 64])
+    ensures { λ _. ⌜ length matrix ≡ 64 ⌝ }
+    ensures { λ _. ⌜ ((k : ℕ) → getD matrix k 0 < 256) ⌝ }
+{}
+
 // The slices, with the turn of the stores. The tables are made here, once a picture.
 pub fn read_coded(
     s: &[u8],
     reader: Reader,
     store: &mut [u8],
+    values: &mut [i32; 64],
     sizes: Sizes,
-    matrices: Matrices,
-    p: Picture,
+    intra: &[u8; 64],
+    other: &[u8; 64],
+    p: PictureState,
 ) -> PictureProgress
     requires { ⌜ Inside (now s) reader ⌝ }
-    requires { ⌜ PossiblePicture p ⌝ }
-    requires { ⌜ Held (settingOf p sizes (p .stores)) (now store) ⌝ }
-    ensures { λ r. ⌜ Coded (coded sizes matrices p (now (store .entry))) (now (s .entry)) reader r (now (store .exit)) ⌝ }
+    requires { ⌜ PossiblePicture (pictureOf p (now values)) ⌝ }
+    requires { ⌜ Held (settingOf (pictureOf p (now values)) sizes (p .stores)) (now store) ⌝ }
+    ensures { λ r. ⌜
+        Coded (coded sizes (matrices (now (intra .entry)) (now (other .entry))) (pictureOf p (now (values .entry))) (now (store .entry)))
+        (now (s .entry)) reader r (now (values .exit)) (now (store .exit))
+        ⌝ }
 {
-    let intra = matrices.intra_quant_matrix;
-    let other = matrices.non_intra_quant_matrix;
-    let tables = tables_with(&intra, &other);
+    let intra_bytes = *intra;
+    has_bytes(intra_bytes);
+    let other_bytes = *other;
+    has_bytes(other_bytes);
+    let tables = tables_with(intra, other);
     let roles = roles_of(p.picture_type, p.stores);
     let stores = roles.during;
     let turned = roles.turned;
@@ -129,18 +107,7 @@ pub fn read_coded(
         sizes,
         stores,
     };
-    let old = p.slice;
-    let mut values = old.block_data;
-    let start = state_of(old);
-    let t = read_slices(
-        s,
-        reader,
-        store,
-        &mut values,
-        &tables,
-        g,
-        p.start_code,
-        start,
-    );
-    picture_of(g, turned, t, values)
+    let start = p.slice;
+    let t = read_slices(s, reader, store, values, &tables, g, p.start_code, start);
+    picture_of(g, turned, t)
 }

@@ -3,20 +3,19 @@ use crate::headers::HeaderRead;
 use crate::headers::read_picture_header;
 use crate::turns::read_coded;
 use bits::reader::Reader;
-use picture::state::Matrices;
-use picture::state::Picture;
 use picture::state::PictureProgress;
+use picture::state::PictureState;
 use picture::state::Sizes;
 ghost use mathlib.Core.Path.{_≡_};
 ghost use Rattle.bits.specs.Runs.{Inside};
 ghost use Rattle.picture.specs.Possible.{PossiblePicture};
 ghost use Rattle.picture.specs.Pictures.{picture};
-ghost use Rattle.picture.specs.Views.{settingOf, Held, Coded};
-ghost use Rattle.slices.specs.Behind.{headerAs};
+ghost use Rattle.picture.specs.Views.{pictureOf, matrices, settingOf, Held, Coded};
+ghost use Rattle.slices.specs.Behind.{headerOn};
 
 // The picture p with what its header sets.
-fn with_header(p: Picture, h: HeaderRead) -> Picture
-    ensures { λ r. ⌜ r ≡ headerAs h p ⌝ }
+fn with_header(p: PictureState, h: HeaderRead) -> PictureState
+    ensures { λ r. ⌜ r ≡ headerOn h p ⌝ }
 {
     let forward = h.motion_forward;
     let backward = h.motion_backward;
@@ -34,20 +33,25 @@ pub fn read_picture(
     s: &[u8],
     reader: Reader,
     store: &mut [u8],
+    values: &mut [i32; 64],
     sizes: Sizes,
-    matrices: Matrices,
-    p: Picture,
+    intra: &[u8; 64],
+    other: &[u8; 64],
+    p: PictureState,
 ) -> PictureProgress
     requires { ⌜ Inside (now s) reader ⌝ }
-    requires { ⌜ PossiblePicture p ⌝ }
-    requires { ⌜ Held (settingOf p sizes (p .stores)) (now store) ⌝ }
-    ensures { λ r. ⌜ Coded (picture sizes matrices p (now (store .entry))) (now (s .entry)) reader r (now (store .exit)) ⌝ }
+    requires { ⌜ PossiblePicture (pictureOf p (now values)) ⌝ }
+    requires { ⌜ Held (settingOf (pictureOf p (now values)) sizes (p .stores)) (now store) ⌝ }
+    ensures { λ r. ⌜
+        Coded (picture sizes (matrices (now (intra .entry)) (now (other .entry))) (pictureOf p (now (values .entry))) (now (store .entry)))
+        (now (s .entry)) reader r (now (values .exit)) (now (store .exit))
+        ⌝ }
 {
     let h = read_picture_header(s, reader, p);
     let from = h.reader;
     let headed = with_header(p, h);
     if h.decoded {
-        return read_coded(s, from, store, sizes, matrices, headed);
+        return read_coded(s, from, store, values, sizes, intra, other, headed);
     }
     PictureProgress {
         reader: from,

@@ -1,12 +1,9 @@
-use borrow.Author.Needs.{needs}
 use Rattle.slices.proofs.PictureLoop.{code-read}
 use Rattle.slices.proofs.turns.picture_of.Statement.{statement}
 use Rattle.slices.proofs.turns.picture_of.Tie as tie
 
 returns : tie.Need-returns
-returns c =
-    let o = c .before in
-    rw (o .slice-of .ensures, code-read (o .before .before .before .pre))
+returns c = rw (code-read (c .before .before .before .pre))
 
 pub picture-of-spec : {M : Type 1} → statement M
-picture-of-spec = tie.close (tie.spec (λ c κs. search needs) returns)
+picture-of-spec = tie.close (tie.spec returns)

@@ -1,12 +1,13 @@
 use mathlib.Core.List.{List}
 use Prim.Native.Nat.{ℕ}
+use denote.Ref.{now}
 use Rattle.bits.proofs.Gives.{given-by}
 use Rattle.bits.proofs.Rules.{r-call, r-yes, r-no, r-done}
 use Rattle.picture.specs.declared.state.Picture.{Picture}
 use Rattle.picture.specs.declared.state.Sizes.{Sizes}
 use Rattle.picture.specs.Possible.{PossiblePicture}
 use Rattle.picture.specs.Pictures.{picture}
-use Rattle.picture.specs.Views.{settingOf, Held}
+use Rattle.picture.specs.Views.{pictureOf, settingOf, Held}
 use Rattle.picture.proofs.Syntax.{header-gives}
 use borrow.Author.Needs.{needs}
 use Rattle.slices.proofs.whole.read_picture.Statement.{statement}
@@ -33,22 +34,26 @@ start h = h .before .before .before
 
 read-coded-requires : tie.Need-read-coded-requires
 read-coded-requires c κs =
-    let w = c .before .before in
+    let w = c .before .before .before in
     let h = header w in
     let s = start h in
+    let a = s .args in
     let r = h .read-picture-header .ensures in
-    let k = given-by (header-gives (s .pre .1 .0)) (r .runs) in
-    rw (w .with-header .ensures) (r .inside, (k, held-as (s .args .p) (s .args .sizes) (s .pre .1 .1) k))
+    let k = given-by (header-gives (s .pre .1 .0)) (r .runs (now (a .values))) in
+    rw (w .with-header .ensures) (r .inside, (k, held-as (pictureOf (a .p) (now (a .values))) (a .sizes) (s .pre .1 .1) k))
 
 returns : tie.Need-returns
 unfolding picture
 returns c =
     let d = c .before .before in
-    let t = d .before .before in
+    let t = d .before .before .before in
     let w = t .before in
+    let h = header w in
     let r = d .read-coded .ensures in
     record {
-      runs = r-call _ (header w .read-picture-header .ensures .runs) (r-yes _ (t .if1 .taken) (rw (w .with-header .ensures) at (r .runs)));
+      runs =
+          r-call _ (h .read-picture-header .ensures .runs (now (start h .args .values)))
+          (r-yes _ (t .if1 .taken) (rw (w .with-header .ensures) at (r .runs)));
       inside = r .inside;
     }
 
@@ -56,8 +61,12 @@ returns-2 : tie.Need-returns-2
 unfolding picture
 returns-2 c =
     let w = c .before in
-    let r = header w .read-picture-header .ensures in
-    record { runs = rw (w .with-header .ensures) (r-call _ (r .runs) (r-no _ (c .if1 .left) r-done)); inside = r .inside }
+    let h = header w in
+    let r = h .read-picture-header .ensures in
+    record {
+      runs = rw (w .with-header .ensures) (r-call _ (r .runs (now (start h .args .values))) (r-no _ (c .if1 .left) r-done));
+      inside = r .inside;
+    }
 
 pub read-picture-spec : {M : Type 1} → statement M
 read-picture-spec =
