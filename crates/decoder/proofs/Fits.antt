@@ -11,6 +11,7 @@ use Rattle.laws.proofs.Tests.{each}
 use Rattle.bits.specs.declared.reader.Reader.{Reader}
 use Rattle.bits.specs.Programs.{Out, findStartCode}
 use Rattle.bits.specs.Runs.{Reading}
+use Rattle.picture.specs.declared.state.Matrices.{Matrices}
 use Rattle.picture.specs.Possible.{between, possiblePicture}
 use Rattle.picture.proofs.Possible.{picture-of}
 use Rattle.header.specs.Possible.{possibleSequence}
@@ -21,6 +22,7 @@ use Rattle.decoder.specs.Record.{place, fresh, searchedAs}
 use Rattle.decoder.specs.Possible.{possible}
 use Rattle.decoder.specs.Headers.{sized, accepted}
 use Rattle.decoder.specs.Fit.{Fit}
+use Rattle.decoder.specs.State.{stateOf, FitState}
 use Rattle.decoder.proofs.Searches.{Sought, hit, miss, sought}
 use Rattle.decoder.proofs.Starts.{fresh-starts}
 
@@ -51,6 +53,19 @@ fit-of {d} e =
       picture = picture-of (d .picture) (p .2);
       count = p .3;
     }
+
+-- what pictures ask of it
+pub fit-state : {d : Decoder} (m : Matrices) → Fit d → FitState (d .sequence .sizes) m (stateOf d) (d .picture .slice .«block_data»)
+fit-state m f = record {
+  place = f .place;
+  wide = omega arith;
+  high = omega arith;
+  across = f .across;
+  down = f .down;
+  size = f .size;
+  picture = f .picture;
+  count = f .count;
+}
 
 -- ---- changes
 

@@ -4,11 +4,15 @@ use mathlib.Core.Bool.{Bool, true, false, _&&_}
 use mathlib.Core.List.{List}
 use Prim.Native.Nat.{ℕ}
 use lib.Dec.{eqb}
+use lib.IntN.{ℤ}
 use Rattle.laws.specs.Turns.{Turn, again, stop}
+use Rattle.header.specs.declared.state.Sequence.{Sequence}
 use Rattle.decoder.specs.declared.record.Decoder.{Decoder}
+use Rattle.decoder.specs.declared.state.DecoderState.{DecoderState}
 use Rattle.decoder.specs.declared.turns.Turned.{Turned}
 use Rattle.decoder.specs.declared.answers.Outcome.the-variants.{Refused}
 use Rattle.decoder.specs.Record.{place, heldAs}
+use Rattle.decoder.specs.State.{decoderOf}
 use Rattle.decoder.specs.Turns.{Going, going, Ended, gave, hasEnded, isReference, pictureAt, handed, shown, flushed}
 use Rattle.decoder.specs.Turned.{Shows}
 
@@ -16,8 +20,9 @@ use Rattle.decoder.specs.Turned.{Shows}
 abbrev ends : Ended → Turn Going Ended
 ends e = stop e
 
-pub shows-as : {t : Turned} {f g : List ℕ → Turn Going Ended} → Shows t f → ((l : List ℕ) → f l ≡ g l) → Shows t g
-shows-as x e = record { is = λ l. x .is l ∙ e l }
+pub shows-as : {x y : DecoderState} {t : Turned} {f g : Decoder → List ℕ → Turn Going Ended} → Shows x t f
+    → ((q : Sequence) (mark : ℕ) (left : List ℤ) (l : List ℕ) → f (decoderOf q mark x left) l ≡ g (decoderOf q mark y left) l) → Shows y t g
+shows-as k e = record { is = λ q mark left l. k .is q mark left l ∙ e q mark left l }
 
 module _ (d : Decoder) where
   pub shown-b : d .picture .«picture_type» ≡ 3 → (l : List ℕ) → stop (handed (d .picture .stores .cur) d l) ≡ shown d l

@@ -11,13 +11,16 @@ use Rattle.laws.proofs.Tests.{by-case}
 use Rattle.bits.specs.Programs.{Prog, Out, run, eqZ, findStartCode}
 use Rattle.bits.specs.Runs.{Runs}
 use Rattle.bits.proofs.Programs.{run-most}
+use Rattle.picture.specs.declared.state.Matrices.{Matrices}
 use Rattle.picture.specs.declared.state.Picture.{Picture}
+use Rattle.picture.specs.declared.state.Sizes.{Sizes}
 use Rattle.picture.specs.Possible.{PossiblePicture}
 use Rattle.picture.specs.Ways.{Way, on, out}
 use Rattle.picture.specs.Pictures.{Frame, frame, picture}
 use Rattle.picture.specs.Views.{way}
 use Rattle.picture.proofs.Possible.{picture-of, picture-by}
 use Rattle.picture.proofs.Kept.{Ends, StaysPossible, picture-kept}
+use Rattle.header.specs.declared.state.Sequence.{Sequence}
 use Rattle.decoder.specs.declared.record.Decoder.{Decoder}
 use Rattle.decoder.specs.declared.turns.Turned.{Turned}
 use Rattle.decoder.specs.declared.answers.Outcome.the-variants.{Refused}
@@ -42,18 +45,23 @@ fit-behind f k h = record {
   count = f .count;
 }
 
+-- a picture of a sequence with these sizes and matrices
+pub runs-of : (q : Sequence) {z : Sizes} {m : Matrices} (p : Picture) (l : List ℕ) {s : List ℕ} {a e : ℕ} {v : Way Frame}
+    → q .sizes ≡ z → q .matrices ≡ m → Runs (picture z m p l) s a v e → Runs (picture (q .sizes) (q .matrices) p l) s a v e
+runs-of q p l f g r = rw (f, g) r
+
 -- the picture at the place of d, and the way that its run takes
 abbrev pictureAt : Decoder → List ℕ → Prog (Way Frame)
 pictureAt d l = picture (d .sequence .sizes) (d .sequence .matrices) (d .picture) l
 
 module _ (s : List ℕ) (d : Decoder) (l : List ℕ) (q : Picture) (m : List ℕ) {e : ℕ} (n : ℕ)
     (r : Runs (pictureAt d l) s (place d) (way n (frame q m) m) e) where
-  pub decoded-out : (n ≡ 0 → ⊥) → (t : Turned) → _≡_ {A = Turn Going Ended} (stop (endOf n t m)) (decoded s d l)
+  pub decoded-out : (n ≡ 0 → ⊥) → (t : Turned) (x : Decoder) → _≡_ {A = Turn Going Ended} (stop (endOf n t x m)) (decoded s d l)
   unfolding decoded pastPicture
-  decoded-out g t = go n g r
+  decoded-out g t x = go n g r
     where
       go : (n : ℕ) → (n ≡ 0 → ⊥) → Runs (pictureAt d l) s (place d) (way n (frame q m) m) e
-          → _≡_ {A = Turn Going Ended} (stop (endOf n t m)) (pastPicture d (run (pictureAt d l) s (place d)))
+          → _≡_ {A = Turn Going Ended} (stop (endOf n t x m)) (pastPicture d (run (pictureAt d l) s (place d)))
       go zero g r = absurd (g refl)
       go (suc n) g r = rw (r .is)
 
@@ -134,7 +142,7 @@ module _ (s : List ℕ) (short : length s ≤ 16777216) (bytes : (k : ℕ) → g
       by-case (Follows (storeBytes d)) (eqZ (startCode d) (negsuc 0)) (λ e. tt)
       (λ e. by-case (Follows (storeBytes d)) (isFollowed s (place d)) (λ e. decoded-fits d l f) (λ e. tt))
 
-  next-fits : (d : Decoder) → Fit d → Fit (nextPicture s d)
+  pub next-fits : (d : Decoder) → Fit d → Fit (nextPicture s d)
   unfolding nextPicture
   next-fits d f =
       by-case Fit (eqZ (startCode d) (pos 0)) (λ e. f)

@@ -1,30 +1,32 @@
 // RULES part 8, Q: the hand-out.
 use crate::answers::Handed;
 use crate::answers::Outcome;
-use crate::headers::Asked;
 use crate::headers::ask_header;
 use crate::possible::possible_with;
 use crate::record::Decoder;
 use crate::record::store_bytes;
+use crate::state::DecoderState;
+use crate::state::state_of;
+use crate::state::with_state;
 use crate::turns::Turned;
 use crate::turns::picture_turn;
-use header::store::begin;
+use header::store::clear;
+use picture::state::Sizes;
 ghost use mathlib.Core.Path.{_≡_};
+ghost use mathlib.Core.Bool.{false};
 ghost use mathlib.Core.List.{List};
-ghost use Prim.Native.Nat.{ℕ, _≤_};
+ghost use Prim.Native.Nat.{ℕ, _*_, _≤_};
 ghost use lib.ListN.{length};
-ghost use Rattle.bits.specs.Programs.{if_then_else_};
+ghost use Rattle.picture.specs.Views.{matrices};
 ghost use Rattle.decoder.specs.declared.answers.Outcome.the-variants as Outcomes;
-ghost use Rattle.decoder.specs.Record.{left, storeBytes};
+ghost use Rattle.decoder.specs.Record as Record;
 ghost use Rattle.decoder.specs.Fit.{Fit};
-ghost use Rattle.decoder.specs.Headers.{passed, askHeader};
-ghost use Rattle.decoder.specs.Asking.{asked};
-ghost use Rattle.decoder.specs.Turns.{going};
-ghost use Rattle.decoder.specs.Turned.{endOf};
+ghost use Rattle.decoder.specs.State.{decoderOf, FitState};
+ghost use Rattle.decoder.specs.Turned.{endOf, Plays};
 ghost use Rattle.decoder.specs.HandOut as Out;
 
 fn refused(decoder: Decoder, number: u32) -> Handed
-    ensures { λ r. ⌜ ((l : List ℕ) → left (r .outcome) (r .decoder) l ≡ left (Outcomes.Refused number) decoder l) ⌝ }
+    ensures { λ r. ⌜ ((l : List ℕ) → Record.left (r .outcome) (r .decoder) l ≡ Record.left (Outcomes.Refused number) decoder l) ⌝ }
 {
     Handed {
         decoder,
@@ -33,61 +35,76 @@ fn refused(decoder: Decoder, number: u32) -> Handed
 }
 
 // RULES 8.7: at most two turns.
-fn pictures(s: &[u8], store: &mut [u8], d: Decoder) -> Turned
-    requires { ⌜ Fit d ⌝ }
+fn pictures(
+    s: &[u8],
+    store: &mut [u8],
+    values: &mut [i32; 64],
+    sizes: Sizes,
+    intra: &[u8; 64],
+    other: &[u8; 64],
+    d: DecoderState,
+) -> Turned
+    requires { ⌜ FitState sizes (matrices (now intra) (now other)) d (now values) ⌝ }
     requires { ⌜ length (now s) ≤ 16777216 ⌝ }
-    requires { ⌜ storeBytes d ≤ length (now store) ⌝ }
-    ensures { λ r. ⌜ endOf (r .stop) r (now (store .exit)) ≡ Out.pictures (now (s .entry)) (going d (now (store .entry))) ⌝ }
+    requires { ⌜ 1152 * sizes .«mb_size» ≤ length (now store) ⌝ }
+    ensures { λ r. ⌜
+        Plays (now (s .entry)) sizes (matrices (now (intra .entry)) (now (other .entry))) d (now (values .entry)) (now (store .entry))
+        r (now (values .exit)) (now (store .exit))
+        ⌝ }
 {
-    let t = picture_turn(s, store, d);
+    let t = picture_turn(s, store, values, sizes, intra, other, d);
     if t.again {
-        return picture_turn(s, store, t.decoder);
+        return picture_turn(s, store, values, sizes, intra, other, t.state);
     }
     t
 }
 
-// RULES 8.1, Q: the questions 3, 4, 5 while no header is accepted.
-fn ask_first(s: &[u8], d: Decoder) -> Asked
-    requires { ⌜ Fit d ⌝ }
-    requires { ⌜ length (now s) ≤ 16777216 ⌝ }
-    ensures { λ r. ⌜ asked (r .answer) (r .decoder) ≡ (if d .sequence .«has_sequence_header» then passed d else askHeader (now (s .entry)) d) ⌝ }
-    ensures { λ r. ⌜ Fit (r .decoder) ⌝ }
+// RULES 8.14: the record d behind the turns; 8 and 9 leave `before`, the one passed in, with the stop mark.
+fn ended(mut before: Decoder, d: Decoder, t: Turned, left: [i32; 64]) -> Handed
+    ensures { λ r. ⌜ ((l : List ℕ) → Record.left (r .outcome) (r .decoder) l
+        ≡ Out.ended before (endOf (t .stop) t (decoderOf (d .sequence) (d .stop) (t .state) left) l)) ⌝ }
 {
-    if d.sequence.has_sequence_header {
-        return Asked {
-            decoder: d,
-            answer: 0,
-        };
-    }
-    ask_header(s, d)
-}
-
-// RULES part 8: the pictures, from the record d on; `before` is the one passed in, which 8 and 9 leave with the stop mark (8.14).
-fn go_on(s: &[u8], store: &mut [u8], mut before: Decoder, d: Decoder) -> Handed
-    requires { ⌜ Fit d ⌝ }
-    requires { ⌜ length (now s) ≤ 16777216 ⌝ }
-    requires { ⌜ storeBytes d ≤ length (now store) ⌝ }
-    ensures { λ r. ⌜
-        left (r .outcome) (r .decoder) (now (store .exit)) ≡
-        Out.ended before (Out.pictures (now (s .entry)) (Out.begun before d (now (store .entry))))
-        ⌝ }
-{
-    begin(store, before.sequence.has_sequence_header, store_bytes(d));
-    let t = pictures(s, store, d);
     let stop = t.stop;
     if stop != 0 {
         before.stop = stop;
         return refused(before, stop);
     }
-    let decoder = t.decoder;
     let outcome = t.outcome;
+    let decoder = with_state(d, t.state, left);
     Handed { decoder, outcome }
+}
+
+// RULES 8.1, O.4: the first hand-out of a record without a header. The questions 3 to 6, the store becomes 0, and the pictures.
+fn with_header(s: &[u8], store: &mut [u8], before: Decoder) -> Handed
+    requires { ⌜ Fit before ⌝ }
+    requires { ⌜ length (now s) ≤ 16777216 ⌝ }
+    requires { ⌜ before .sequence .«has_sequence_header» ≡ false ⌝ }
+    ensures { λ r. ⌜ Record.left (r .outcome) (r .decoder) (now (store .exit))
+        ≡ Out.goOn (now (s .entry)) before (now (store .entry)) (Out.askFirst (now (s .entry)) before (now (store .entry))) ⌝ }
+{
+    let first = ask_header(s, before);
+    let d = first.decoder;
+    let answer = first.answer;
+    if answer != 0 {
+        return refused(d, answer);
+    }
+    let bytes = store_bytes(d);
+    if store.len() < bytes {
+        return refused(before, 6);
+    }
+    clear(store, bytes);
+    let mut values = d.picture.slice.block_data;
+    let intra = d.sequence.matrices.intra_quant_matrix;
+    let other = d.sequence.matrices.non_intra_quant_matrix;
+    let sizes = d.sequence.sizes;
+    let t = pictures(s, store, &mut values, sizes, &intra, &other, state_of(d));
+    ended(before, d, t, values)
 }
 
 impl Decoder {
     // RULES Q, QA: the questions 1 and 2, the stop mark, the questions 3 to 6, and the pictures.
     pub fn decode(self, stream: &[u8], store: &mut [u8]) -> Handed
-        ensures { λ r. ⌜ left (r .outcome) (r .decoder) (now (store .exit)) ≡ Out.handOut self (now (stream .entry)) (now (store .entry)) ⌝ }
+        ensures { λ r. ⌜ Record.left (r .outcome) (r .decoder) (now (store .exit)) ≡ Out.handOut self (now (stream .entry)) (now (store .entry)) ⌝ }
     {
         if 16777216 < stream.len() {
             return refused(self, 1);
@@ -99,15 +116,25 @@ impl Decoder {
         if mark != 0 {
             return refused(self, mark);
         }
-        let first = ask_first(stream, self);
-        let d = first.decoder;
-        let answer = first.answer;
-        if answer != 0 {
-            return refused(d, answer);
+        if !self.sequence.has_sequence_header {
+            return with_header(stream, store, self);
         }
-        if store.len() < store_bytes(d) {
+        if store.len() < store_bytes(self) {
             return refused(self, 6);
         }
-        go_on(stream, store, self, d)
+        let mut values = self.picture.slice.block_data;
+        let intra = self.sequence.matrices.intra_quant_matrix;
+        let other = self.sequence.matrices.non_intra_quant_matrix;
+        let sizes = self.sequence.sizes;
+        let t = pictures(
+            stream,
+            store,
+            &mut values,
+            sizes,
+            &intra,
+            &other,
+            state_of(self),
+        );
+        ended(self, self, t, values)
     }
 }

@@ -9,7 +9,6 @@ ghost use mathlib.Core.Path.{_≡_};
 ghost use Rattle.bits.specs.Programs.{eqZ};
 ghost use Rattle.decoder.specs.Fit.{Fit};
 ghost use Rattle.decoder.specs.Record.{searchedAs, storeBytes, fresh};
-ghost use Rattle.decoder.specs.Turns.{timeOf, counted};
 
 // RULES 8.12: rate, aspect, the next time and the time shown.
 pub struct Clock {
@@ -48,33 +47,6 @@ pub fn store_bytes(d: Decoder) -> usize
 {
     let n = d.sequence.sizes.mb_size;
     1152 * n
-}
-
-// RULES 8.9: the time of n pictures at a rate, rounded once.
-fn time_of(n: u32, rate: f64) -> f64
-    ensures { λ r. ⌜ r ≡ timeOf n rate ⌝ }
-{
-    n as f64 / rate
-}
-
-// RULES 8.10.
-pub fn counted(mut d: Decoder) -> Decoder
-    requires { ⌜ Fit d ⌝ }
-    ensures { λ r. ⌜ r ≡ counted d ⌝ }
-{
-    let n = d.frames_decoded + 1;
-    let c = d.clock;
-    let rate = c.framerate;
-    let time = time_of(n, rate);
-    let clock = Clock {
-        framerate: c.framerate,
-        pixel_aspect_ratio: c.pixel_aspect_ratio,
-        time,
-        last_frame_time: c.time,
-    };
-    d.clock = clock;
-    d.frames_decoded = n;
-    d
 }
 
 // Whether the start code that was found last is this one.

@@ -1,53 +1,72 @@
 // RULES 8.2 to 8.11: one turn of the loop in `decode`: the search, the picture, the clock, the flush.
 use crate::answers::Outcome;
 use crate::answers::Shown;
-use crate::record::Decoder;
-use crate::record::counted;
-use crate::record::has_code;
-use crate::record::searched_as;
+use crate::state::DecoderState;
+use crate::state::counted;
 use bits::reader::Reader;
+use picture::state::PictureState;
+use picture::state::Sizes;
 use slices::whole::read_picture;
 ghost use mathlib.Core.Path.{_≡_};
-ghost use Prim.Native.Nat.{_≤_};
+ghost use Prim.Native.Nat.{_*_, _≤_};
 ghost use lib.ListN.{length};
 ghost use Rattle.laws.specs.Turns.{stop};
+ghost use Rattle.bits.specs.Programs.{eqZ};
 ghost use Rattle.bits.specs.Runs.{Inside};
-ghost use Rattle.decoder.specs.Record.{storeBytes};
-ghost use Rattle.decoder.specs.Fit.{Fit};
+ghost use Rattle.picture.specs.Views.{matrices};
+ghost use Rattle.decoder.specs.State.{Becomes, FitState};
+ghost use Rattle.decoder.specs.Record.{searchedAs};
 ghost use Rattle.decoder.specs.Turns as Turns;
-ghost use Rattle.decoder.specs.Turned.{turnOf, Shows};
+ghost use Rattle.decoder.specs.Turned.{Shows, Makes};
 
-// `again`: nothing was handed out, and another turn follows. `stop`: 8 or 9, else 0; with a stop the record is of no use (RULES 8.14).
+// `again`: nothing was handed out, and another turn follows. `stop`: 8 or 9, else 0; with a stop the state is of no use (RULES 8.14).
 pub struct Turned {
-    pub decoder: Decoder,
+    pub state: DecoderState,
     pub outcome: Outcome,
     pub again: bool,
     pub stop: u32,
 }
 
-fn gave(decoder: Decoder, outcome: Outcome) -> Turned
-    ensures { λ r. ⌜ Shows r (λ l. stop (Turns.gave outcome decoder l)) ⌝ }
+fn gave(state: DecoderState, outcome: Outcome) -> Turned
+    ensures { λ r. ⌜ Shows state r (λ d l. stop (Turns.gave outcome d l)) ⌝ }
 {
     Turned {
-        decoder,
+        state,
         outcome,
         again: false,
         stop: 0,
     }
 }
 
+// Whether the start code that was found last is this one.
+fn has_code(p: PictureState, code: i32) -> bool
+    ensures { λ r. ⌜ r ≡ eqZ (p .«start_code») code ⌝ }
+{
+    let last = p.start_code;
+    last == code
+}
+
+// A search that ended at a place with a start code.
+fn searched(mut d: DecoderState, reader: Reader, code: i32) -> DecoderState
+    ensures { λ r. ⌜ Becomes d r (searchedAs code (reader .at .0)) ⌝ }
+{
+    let mut p = d.picture;
+    p.start_code = code;
+    d.picture = p;
+    d.reader = reader;
+    d
+}
+
 // RULES 8.2: the search for the next picture, unless the record has its start code already.
-fn next_picture(s: &[u8], d: Decoder) -> Decoder
-    requires { ⌜ Fit d ⌝ }
-    requires { ⌜ length (now s) ≤ 16777216 ⌝ }
-    ensures { λ r. ⌜ r ≡ Turns.nextPicture (now (s .entry)) d ⌝ }
-    ensures { λ r. ⌜ Fit r ⌝ }
+fn next_picture(s: &[u8], d: DecoderState) -> DecoderState
+    requires { ⌜ Inside (now s) (d .reader) ⌝ }
+    ensures { λ r. ⌜ Becomes d r (Turns.nextPicture (now (s .entry))) ⌝ }
 {
     if has_code(d.picture, 0) {
         return d;
     }
     let found = d.reader.find_start_code(s, 0);
-    searched_as(d, found.reader, found.code)
+    searched(d, found.reader, found.code)
 }
 
 // RULES 8.3: a second picture start code is found ahead, or the bits end here.
@@ -64,9 +83,9 @@ fn is_followed(s: &[u8], reader: Reader) -> bool
 }
 
 // The store number k is handed out with the time that is then shown.
-fn handed(d: Decoder, k: usize) -> Turned
-    requires { ⌜ Fit d ⌝ }
-    ensures { λ r. ⌜ Shows r (λ l. stop (Turns.handed k d l)) ⌝ }
+fn handed(d: DecoderState, k: usize) -> Turned
+    requires { ⌜ d .«frames_decoded» ≤ 134217728 ⌝ }
+    ensures { λ r. ⌜ Shows d r (λ x l. stop (Turns.handed k x l)) ⌝ }
 {
     let x = counted(d);
     let time = x.clock.last_frame_time;
@@ -74,9 +93,9 @@ fn handed(d: Decoder, k: usize) -> Turned
 }
 
 // RULES 8.5: after a picture, decoded or not.
-fn shown(mut d: Decoder) -> Turned
-    requires { ⌜ Fit d ⌝ }
-    ensures { λ r. ⌜ Shows r (Turns.shown d) ⌝ }
+fn shown(mut d: DecoderState) -> Turned
+    requires { ⌜ d .«frames_decoded» ≤ 134217728 ⌝ }
+    ensures { λ r. ⌜ Shows d r Turns.shown ⌝ }
 {
     let picture_type = d.picture.picture_type;
     let held = d.has_reference_frame;
@@ -88,7 +107,7 @@ fn shown(mut d: Decoder) -> Turned
     }
     d.has_reference_frame = true;
     Turned {
-        decoder: d,
+        state: d,
         outcome: Outcome::Refused(7),
         again: true,
         stop: 0,
@@ -96,9 +115,9 @@ fn shown(mut d: Decoder) -> Turned
 }
 
 // RULES 8.8, 8.11: no picture is found: the held one is flushed, with the time shown before, or the answer is 7.
-fn flushed(s: &[u8], mut d: Decoder) -> Turned
+fn flushed(s: &[u8], mut d: DecoderState) -> Turned
     requires { ⌜ length (now s) ≤ 16777216 ⌝ }
-    ensures { λ r. ⌜ Shows r (λ l. stop (Turns.flushed (now (s .entry)) d l)) ⌝ }
+    ensures { λ r. ⌜ Shows d r (λ x l. stop (Turns.flushed (now (s .entry)) x l)) ⌝ }
 {
     let held = d.has_reference_frame;
     let picture_type = d.picture.picture_type;
@@ -113,16 +132,24 @@ fn flushed(s: &[u8], mut d: Decoder) -> Turned
 }
 
 // RULES Q8, Q9, 8.5: the picture at the record's place.
-fn decoded(s: &[u8], store: &mut [u8], mut d: Decoder) -> Turned
-    requires { ⌜ Fit d ⌝ }
+fn decoded(
+    s: &[u8],
+    store: &mut [u8],
+    values: &mut [i32; 64],
+    sizes: Sizes,
+    intra: &[u8; 64],
+    other: &[u8; 64],
+    mut d: DecoderState,
+) -> Turned
+    requires { ⌜ FitState sizes (matrices (now intra) (now other)) d (now values) ⌝ }
     requires { ⌜ length (now s) ≤ 16777216 ⌝ }
-    requires { ⌜ storeBytes d ≤ length (now store) ⌝ }
-    ensures { λ r. ⌜ turnOf r (now (store .exit)) ≡ Turns.decoded (now (s .entry)) d (now (store .entry)) ⌝ }
+    requires { ⌜ 1152 * sizes .«mb_size» ≤ length (now store) ⌝ }
+    ensures { λ r. ⌜
+        Makes sizes (matrices (now (intra .entry)) (now (other .entry))) d (now (values .entry)) (now (store .entry))
+        r (now (values .exit)) (now (store .exit)) (Turns.decoded (now (s .entry)))
+        ⌝ }
 {
-    let sequence = d.sequence;
-    let sizes = sequence.sizes;
-    let matrices = sequence.matrices;
-    let p = read_picture(s, d.reader, store, sizes, matrices, d.picture);
+    let p = read_picture(s, d.reader, store, values, sizes, intra, other, d.picture);
     let stop = p.stop;
     let picture = p.picture;
     let reader = p.reader;
@@ -130,7 +157,7 @@ fn decoded(s: &[u8], store: &mut [u8], mut d: Decoder) -> Turned
     d.reader = reader;
     if stop != 0 {
         return Turned {
-            decoder: d,
+            state: d,
             outcome: Outcome::Refused(stop),
             again: false,
             stop,
@@ -140,11 +167,22 @@ fn decoded(s: &[u8], store: &mut [u8], mut d: Decoder) -> Turned
 }
 
 // RULES 8.2 to 8.8: a turn.
-pub fn picture_turn(s: &[u8], store: &mut [u8], before: Decoder) -> Turned
-    requires { ⌜ Fit before ⌝ }
+pub fn picture_turn(
+    s: &[u8],
+    store: &mut [u8],
+    values: &mut [i32; 64],
+    sizes: Sizes,
+    intra: &[u8; 64],
+    other: &[u8; 64],
+    before: DecoderState,
+) -> Turned
+    requires { ⌜ FitState sizes (matrices (now intra) (now other)) before (now values) ⌝ }
     requires { ⌜ length (now s) ≤ 16777216 ⌝ }
-    requires { ⌜ storeBytes before ≤ length (now store) ⌝ }
-    ensures { λ r. ⌜ turnOf r (now (store .exit)) ≡ Turns.pictureTurn (now (s .entry)) (Turns.going before (now (store .entry))) ⌝ }
+    requires { ⌜ 1152 * sizes .«mb_size» ≤ length (now store) ⌝ }
+    ensures { λ r. ⌜
+        Makes sizes (matrices (now (intra .entry)) (now (other .entry))) before (now (values .entry)) (now (store .entry))
+        r (now (values .exit)) (now (store .exit)) (λ d l. Turns.pictureTurn (now (s .entry)) (Turns.going d l))
+        ⌝ }
 {
     let d = next_picture(s, before);
     if has_code(d.picture, -1) {
@@ -153,5 +191,5 @@ pub fn picture_turn(s: &[u8], store: &mut [u8], before: Decoder) -> Turned
     if !is_followed(s, d.reader) {
         return gave(d, Outcome::Refused(7));
     }
-    decoded(s, store, d)
+    decoded(s, store, values, sizes, intra, other, d)
 }

@@ -1,45 +1,54 @@
 -- `turns::decoded` meets its contract: the picture stops, or the record behind it is shown.
 use denote.Ref.{now}
-use mathlib.Core.Path.{_∙_}
-use Prim.Native.Nat.{ℕ, _<_}
+use mathlib.Core.Path.{_≡_, _∙_}
 use native.Mathlib.Omega.{arith}
-use lib.ListN.{getD}
 use borrow.Author.Needs.{needs}
-use Rattle.decoder.proofs.Turning.{fit-behind, decoded-out, decoded-on, stays-possible}
+use Rattle.bits.specs.Runs.{Runs}
+use Rattle.header.specs.declared.state.Sequence.{Sequence}
+use Rattle.picture.specs.Pictures.{frame, picture}
+use Rattle.picture.specs.Views.{pictureOf, matrices, way}
+use Rattle.decoder.specs.State.{decoderOf}
+use Rattle.decoder.proofs.Turning.{runs-of, decoded-out, decoded-on}
 use Rattle.decoder.proofs.turns.decoded.Statement.{statement}
 use Rattle.decoder.proofs.turns.decoded.Tie as tie
 
 -- the entry, and where the picture has been read
-abbrev known : tie.After-read-picture → tie.After-shared-slice-known
-known r = r .before .before .before .before .before .before
-
 abbrev entry : tie.After-read-picture → tie.Start
-entry r = known r .before
+entry r = r .before .before .before .before .before
 
 abbrev read : tie.After-reader → tie.After-read-picture
 read e = e .before .before .before .before
 
-bytes : (r : tie.After-read-picture) (k : ℕ) → getD (now (entry r .args .s)) k 0 < 256
-bytes r k = omega (arith, known r .shared-slice-known .given k)
+read-picture-requires : tie.Need-read-picture-requires
+read-picture-requires c κs =
+    let s = c .before .before .before .before in
+    let f = s .pre .0 in
+    let t = f .picture .stores in (
+      record { place = f .place; stream = s .pre .1 .0 },
+      (
+        f .picture,
+        record {
+          across = f .across;
+          down = f .down;
+          size = f .size;
+          stores = record { cur = t .cur; fwd = t .fwd; bwd = t .bwd };
+          whole = s .pre .1 .1;
+        },
+      ),
+    )
 
 returns : tie.Need-returns
 returns c =
     let r = read (c .before) in
     let a = entry r .args in
     let p = r .read-picture .result in
-    decoded-out (now (a .s)) (a .d) (now (a .store)) (p .picture) (r .read-picture .last .1 .1 .0) (p .stop) (r .read-picture .ensures .runs) (c .if1 .taken) _
-
-shown-requires : tie.Need-shown-requires
-shown-requires c κs =
-    let r = read (c .before) in
-    let s = entry r in
-    let a = s .args in
-    let p = r .read-picture .result in
-    let e = r .read-picture .ensures in
-    fit-behind (s .pre .0)
-    (stays-possible (now (a .s)) (a .d) (now (a .store)) (p .picture) (r .read-picture .last .1 .1 .0) (p .stop) (e .runs) (s .pre .0) (s .pre .1 .0) (bytes r)
-    (c .if1 .left))
-    (e .inside .place)
+    let x = pictureOf (p .picture) (r .read-picture .last .1 .1 .1 .0) in
+    record {
+      is = λ q mark z m.
+          let d = decoderOf q mark (a .d) (now (a .values)) in
+          decoded-out (now (a .s)) d (now (a .store)) x (r .read-picture .last .1 .1 .0) (p .stop)
+          (runs-of q (d .picture) (now (a .store)) z m (r .read-picture .ensures .runs)) (c .if1 .taken) _ _;
+    }
 
 returns-2 : tie.Need-returns-2
 returns-2 c =
@@ -47,8 +56,15 @@ returns-2 c =
     let r = read (i .before) in
     let a = entry r .args in
     let p = r .read-picture .result in
-    let m = r .read-picture .last .1 .1 .0 in
-    c .shown .ensures .is m ∙ decoded-on (now (a .s)) (a .d) (now (a .store)) (p .picture) m (p .stop) (r .read-picture .ensures .runs) (i .if1 .left)
+    let left = r .read-picture .last .1 .1 .1 .0 in
+    let l = r .read-picture .last .1 .1 .0 in
+    record {
+      is = λ q mark z m.
+          let d = decoderOf q mark (a .d) (now (a .values)) in
+          c .shown .ensures .is q mark left l
+          ∙ decoded-on (now (a .s)) d (now (a .store)) (pictureOf (p .picture) left) l (p .stop)
+          (runs-of q (d .picture) (now (a .store)) z m (r .read-picture .ensures .runs)) (i .if1 .left);
+    }
 
 pub decoded-spec : {M : Type 1} → statement M
-decoded-spec = tie.close (tie.spec (λ c κs. search needs) (λ c. search needs) returns shown-requires (λ c. search needs) returns-2)
+decoded-spec = tie.close (tie.spec read-picture-requires (λ c. search needs) returns (λ c κs. search needs) (λ c. search needs) returns-2)

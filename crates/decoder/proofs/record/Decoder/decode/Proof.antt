@@ -1,31 +1,23 @@
 -- `Decoder::decode` meets its contract, at each "no" and behind all questions.
 use denote.Ref.{now}
-use mathlib.Core.Path.{_≡_, sym, _∙_}
-use Prim.Native.Nat.{ℕ}
+use mathlib.Core.Path.{_≡_, refl, sym, _∙_}
 use native.Mathlib.Omega.{arith}
 use borrow.Author.Tests.{not-true, not-false}
 use borrow.Author.Needs.{needs}
-use Rattle.decoder.proofs.Fits.{fit-of}
-use Rattle.decoder.specs.declared.record.Decoder.{Decoder}
-use Rattle.decoder.specs.declared.answers.Outcome.the-variants.{Refused}
-use Rattle.decoder.specs.Record.{left}
-use Rattle.decoder.specs.Headers.{askStore}
-use Rattle.decoder.specs.HandOut.{askFirst, handOut}
-use Rattle.decoder.specs.Asking.{asked}
-use Rattle.decoder.proofs.Asking.{room-told, room-yes, room-no}
-use Rattle.decoder.proofs.HandingOut.{first-as, hand-1, hand-2, hand-mark, hand-no, hand-on}
+use Rattle.decoder.specs.Fit.{Fit}
+use Rattle.decoder.specs.HandOut.{askFirst, goOn, handOut}
+use Rattle.decoder.proofs.Asking.{room-yes, room-no}
+use Rattle.decoder.proofs.Fits.{fit-of, fit-state}
+use Rattle.decoder.proofs.HandingOut.{begun-had, played, first-had, go-no, go-on, hand-1, hand-2, hand-mark, hand-on}
 use Rattle.decoder.proofs.record.Decoder.decode.Statement.{statement}
 use Rattle.decoder.proofs.record.Decoder.decode.Tie as tie
 
--- the entry, and the questions 2 and 3 to 5
+-- the entry, question 2, and where the record is without a stop mark
 abbrev entry : tie.After-possible-with → tie.Start
 entry p = p .before .before .before .before
 
 abbrev second : tie.Else3 → tie.After-possible-with
 second i = i .before .before
-
-abbrev marked : tie.After-ask-first → tie.Else3
-marked f = f .before
 
 returns : tie.Need-returns
 returns c =
@@ -50,70 +42,81 @@ returns-3 c =
     ∙ hand-mark (now (a .stream)) (a .self) (now (a .store)) (p .before .if1 .left) (sym (p .possible-with .ensures) ∙ not-false _ (i .before .if2 .left))
     (i .if3 .taken)
 
-ask-first-requires : tie.Need-ask-first-requires
-ask-first-requires c κs =
-    let p = second c in
-    (fit-of (sym (p .possible-with .ensures) ∙ not-false _ (c .before .if2 .left)), p .before .if1 .left)
+-- the record fits
+fit : (i : tie.Else3) → Fit (entry (second i) .args .self)
+fit i = fit-of (sym (second i .possible-with .ensures) ∙ not-false _ (i .before .if2 .left))
 
--- the questions up to 5 are those that question 6 follows
-asks : (f : tie.After-ask-first) → let a = entry (second (marked f)) .args in let r = f .ask-first .result in
-    askStore (a .self) (now (a .store)) (asked (r .answer) (r .decoder)) ≡ askFirst (now (a .stream)) (a .self) (now (a .store))
-asks f = let a = entry (second (marked f)) .args in first-as (now (a .stream)) (a .self) (now (a .store)) (f .ask-first .ensures .0)
-
--- a "no" to one of the questions 3 to 6
-refuses : (f : tie.After-ask-first) (x : Decoder) (n : ℕ) → (n ≡ 0 → ⊥) → let a = entry (second (marked f)) .args in let r = f .ask-first .result in
-    asked n x ≡ askStore (a .self) (now (a .store)) (asked (r .answer) (r .decoder))
-    → left (Refused n) x (now (a .store)) ≡ handOut (a .self) (now (a .stream)) (now (a .store))
-refuses f x n g e =
-    let z = marked f in
-    let p = second z in
+-- behind the questions 1 and 2 and the mark
+rest : (i : tie.Else3) → let a = entry (second i) .args in let l = now (a .store) in
+    goOn (now (a .stream)) (a .self) l (askFirst (now (a .stream)) (a .self) l) ≡ handOut (a .self) (now (a .stream)) l
+rest i =
+    let p = second i in
     let a = entry p .args in
-    hand-no (now (a .stream)) (a .self) (now (a .store)) (p .before .if1 .left) (sym (p .possible-with .ensures) ∙ not-false _ (z .before .if2 .left))
-    (z .if3 .left) x n g (e ∙ asks f)
+    hand-on (now (a .stream)) (a .self) (now (a .store)) (p .before .if1 .left) (sym (p .possible-with .ensures) ∙ not-false _ (i .before .if2 .left))
+    (i .if3 .left)
+
+with-header-requires : tie.Need-with-header-requires
+with-header-requires c κs =
+    let h = c .before in
+    let i = h .before .before in
+    (fit i, (second i .before .if1 .left, not-true _ (h .if4 .taken)))
 
 returns-4 : tie.Need-returns-4
 returns-4 c =
-    let i = c .before in
-    let f = i .before .before in
-    let a = entry (second (marked f)) .args in
-    let r = f .ask-first .result in
-    c .refused4 .ensures (now (a .store))
-    ∙ refuses f (r .decoder) (r .answer) (i .if4 .taken) (room-told (a .self) (now (a .store)) (r .decoder) (r .answer) (i .if4 .taken))
+    let w = c .before .before in
+    let i = w .before .before .before .before in
+    w .with-header .ensures ∙ rest i
+
+-- where the bytes of the stores are known
+abbrev marked : tie.After-store-bytes → tie.Else3
+marked n = n .before .before .before
 
 store-bytes-requires : tie.Need-store-bytes-requires
-store-bytes-requires c κs = c .before .before .ask-first .ensures .1
+store-bytes-requires c κs = fit (c .before .before)
 
 returns-5 : tie.Need-returns-5
 returns-5 c =
     let j = c .before in
-    let i = j .before .before in
-    let f = i .before .before in
-    let a = entry (second (marked f)) .args in
-    let r = f .ask-first .result in
-    let short = rw (j .before .store-bytes .ensures) at (j .if5 .taken) in
-    c .refused5 .ensures (now (a .store))
-    ∙ refuses f (a .self) 6 (λ e. absurd (omega arith)) (room-no (a .self) (now (a .store)) (r .decoder) (r .answer) (i .if4 .left) short)
+    let n = j .before in
+    let i = marked n in
+    let a = entry (second i) .args in
+    let l = now (a .store) in
+    let h = not-false _ (n .before .if4 .left) in
+    c .refused4 .ensures l
+    ∙ go-no (now (a .stream)) (a .self) l (a .self) 6 (λ e. absurd (omega arith))
+    (room-no (a .self) l (a .self) 0 refl (rw (n .store-bytes .ensures) at (j .if5 .taken)) ∙ first-had (now (a .stream)) (a .self) l h)
+    ∙ rest i
 
-go-on-requires : tie.Need-go-on-requires
-go-on-requires c κs =
-    let j = c .before in
-    let f = j .before .before .before .before in
-    (f .ask-first .ensures .1, (second (marked f) .before .if1 .left, rw (j .before .store-bytes .ensures) at (j .if5 .left)))
+-- where the state is taken out of the record
+abbrev roomy : tie.After-state-of → tie.Else5
+roomy x = let values = x .before .before .before .before .before .before .before .before in values .before
+
+pictures-requires : tie.Need-pictures-requires
+pictures-requires c κs =
+    let j = roomy c in
+    let n = j .before in
+    let i = marked n in
+    let d = entry (second i) .args .self in (
+      rw (c .state-of .ensures) (fit-state (d .sequence .matrices) (fit i)),
+      (second i .before .if1 .left, omega (arith, n .store-bytes .ensures, j .if5 .left)),
+    )
 
 returns-6 : tie.Need-returns-6
 returns-6 c =
-    let g = c .before .before in
-    let j = g .before .before in
-    let i = j .before .before in
-    let f = i .before .before in
-    let z = marked f in
-    let p = second z in
-    let a = entry p .args in
-    let r = f .ask-first .result in
-    let enough = rw (j .before .store-bytes .ensures) at (j .if5 .left) in
-    hand-on (now (a .stream)) (a .self) (now (a .store)) (p .before .if1 .left) (sym (p .possible-with .ensures) ∙ not-false _ (z .before .if2 .left))
-    (z .if3 .left) (r .decoder) (r .answer) (i .if4 .left)
-    (room-yes (a .self) (now (a .store)) (r .decoder) (r .answer) (i .if4 .left) enough ∙ asks f) (g .go-on .ensures)
+    let p = c .before .before .before in
+    let x = p .before in
+    let j = roomy x in
+    let n = j .before in
+    let i = marked n in
+    let a = entry (second i) .args in
+    let d = a .self in
+    let l = now (a .store) in
+    let h = not-false _ (n .before .if4 .left) in
+    go-on (now (a .stream)) d l d 0 refl
+    (room-yes d l d 0 refl (omega (arith, n .store-bytes .ensures, j .if5 .left)) ∙ first-had (now (a .stream)) d l h)
+    (c .ended .ensures (p .pictures .last .1 .0)
+    ∙ played (now (a .stream)) d d l (p .pictures .ensures .is (d .sequence) (d .stop) refl refl) (x .state-of .ensures) (begun-had d l h))
+    ∙ rest i
 
 pub decode-spec : {M : Type 1} → statement M
 decode-spec =
@@ -126,12 +129,14 @@ decode-spec =
     returns-2
     (λ c κs. search needs)
     returns-3
-    ask-first-requires
-    (λ c κs. search needs)
+    with-header-requires
+    (λ c. search needs)
     returns-4
     store-bytes-requires
     (λ c κs. search needs)
     returns-5
-    go-on-requires
+    (λ c κs. search needs)
+    pictures-requires
+    (λ c κs. search needs)
     (λ c. search needs)
     returns-6)

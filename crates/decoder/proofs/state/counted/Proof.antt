@@ -1,11 +1,11 @@
 use Rattle.decoder.specs.Turns.{counted}
 use borrow.Author.Needs.{needs}
-use Rattle.decoder.proofs.record.counted.Statement.{statement}
-use Rattle.decoder.proofs.record.counted.Tie as tie
+use Rattle.decoder.proofs.state.counted.Statement.{statement}
+use Rattle.decoder.proofs.state.counted.Tie as tie
 
 returns : tie.Need-returns
 unfolding counted
-returns c = rw (c .time-of .ensures)
+returns c = record { is = λ q mark left. rw (c .time-of .ensures) }
 
 pub counted-spec : {M : Type 1} → statement M
 counted-spec = tie.close (tie.spec (λ c. search needs) (λ c κs. search needs) returns)

@@ -1,8 +1,8 @@
 use mathlib.Core.Path.{refl}
 use Rattle.decoder.specs.Turns.{timeOf}
 use borrow.Author.Needs.{needs}
-use Rattle.decoder.proofs.record.time_of.Statement.{statement}
-use Rattle.decoder.proofs.record.time_of.Tie as tie
+use Rattle.decoder.proofs.state.time_of.Statement.{statement}
+use Rattle.decoder.proofs.state.time_of.Tie as tie
 
 returns : tie.Need-returns
 unfolding timeOf

@@ -1,0 +1,126 @@
+// What pictures change in the record, taken out of it and put back. The rest stays, and the left-over coefficients and the matrices are lent, so that
+// no picture copies them.
+use crate::record::Clock;
+use crate::record::Decoder;
+use bits::reader::Reader;
+use picture::state::Picture;
+use picture::state::PictureState;
+use picture::state::Slice;
+use picture::state::SliceState;
+ghost use mathlib.Core.Path.{_≡_};
+ghost use Prim.Native.Nat.{_≤_};
+ghost use Rattle.picture.specs.Views.{pictureOf};
+ghost use Rattle.decoder.specs.Turns.{timeOf, counted};
+ghost use Rattle.decoder.specs.State.{decoderOf, stateOf, stateOfPicture, Becomes};
+
+pub struct DecoderState {
+    pub reader: Reader,
+    pub picture: PictureState,
+    pub clock: Clock,
+    pub has_reference_frame: bool,
+    pub frames_decoded: u32,
+}
+
+fn picture_state(p: Picture) -> PictureState
+    ensures { λ r. ⌜ r ≡ stateOfPicture p ⌝ }
+{
+    let x = p.slice;
+    let forward = x.motion_forward;
+    let backward = x.motion_backward;
+    let predictors = x.dc_predictor;
+    let slice = SliceState {
+        quantizer_scale: x.quantizer_scale,
+        macroblock_address: x.macroblock_address,
+        motion_forward: forward,
+        motion_backward: backward,
+        dc_predictor: predictors,
+    };
+    let stores = p.stores;
+    PictureState {
+        picture_type: p.picture_type,
+        start_code: p.start_code,
+        stores,
+        slice,
+    }
+}
+
+pub fn state_of(d: Decoder) -> DecoderState
+    ensures { λ r. ⌜ r ≡ stateOf d ⌝ }
+{
+    let reader = d.reader;
+    let picture = picture_state(d.picture);
+    let clock = d.clock;
+    DecoderState {
+        reader,
+        picture,
+        clock,
+        has_reference_frame: d.has_reference_frame,
+        frames_decoded: d.frames_decoded,
+    }
+}
+
+fn picture_of(p: PictureState, left: [i32; 64]) -> Picture
+    ensures { λ r. ⌜ r ≡ pictureOf p left ⌝ }
+{
+    let x = p.slice;
+    let forward = x.motion_forward;
+    let backward = x.motion_backward;
+    let predictors = x.dc_predictor;
+    let slice = Slice {
+        quantizer_scale: x.quantizer_scale,
+        macroblock_address: x.macroblock_address,
+        motion_forward: forward,
+        motion_backward: backward,
+        dc_predictor: predictors,
+        block_data: left,
+    };
+    let stores = p.stores;
+    Picture {
+        picture_type: p.picture_type,
+        start_code: p.start_code,
+        stores,
+        slice,
+    }
+}
+
+// The record with this state, and with these coefficients left over.
+pub fn with_state(mut d: Decoder, x: DecoderState, left: [i32; 64]) -> Decoder
+    ensures { λ r. ⌜ r ≡ decoderOf (d .sequence) (d .stop) x left ⌝ }
+{
+    let reader = x.reader;
+    let picture = picture_of(x.picture, left);
+    let clock = x.clock;
+    d.reader = reader;
+    d.picture = picture;
+    d.clock = clock;
+    d.has_reference_frame = x.has_reference_frame;
+    d.frames_decoded = x.frames_decoded;
+    d
+}
+
+// RULES 8.9: the time of n pictures at a rate, rounded once.
+fn time_of(n: u32, rate: f64) -> f64
+    ensures { λ r. ⌜ r ≡ timeOf n rate ⌝ }
+{
+    n as f64 / rate
+}
+
+// RULES 8.10.
+pub fn counted(mut d: DecoderState) -> DecoderState
+    requires { ⌜ d .«frames_decoded» ≤ 134217728 ⌝ }
+    ensures { λ r. ⌜ Becomes d r counted ⌝ }
+{
+    let n = d.frames_decoded + 1;
+    let c = d.clock;
+    let rate = c.framerate;
+    let time = time_of(n, rate);
+    let clock = Clock {
+        framerate: c.framerate,
+        pixel_aspect_ratio: c.pixel_aspect_ratio,
+        time,
+        last_frame_time: c.time,
+    };
+    d.clock = clock;
+    d.frames_decoded = n;
+    d
+}
