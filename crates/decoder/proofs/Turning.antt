@@ -1,5 +1,5 @@
 -- A turn: one law for each way out of a picture and of the search, and what a turn that goes on keeps. Assumes nothing.
-use mathlib.Core.Path.{_≡_, refl, subst, _∙_}
+use mathlib.Core.Path.{_≡_, refl, subst}
 use mathlib.Core.Bool.{true, false}
 use mathlib.Core.List.{List}
 use Prim.Native.Nat.{ℕ, zero, suc, _≤_, _<_}
@@ -8,7 +8,7 @@ use lib.IntN.{pos, negsuc}
 use lib.ListN.{length, getD}
 use Rattle.laws.specs.Turns.{Turn, again, stop}
 use Rattle.laws.proofs.Tests.{by-case}
-use Rattle.bits.specs.Programs.{Prog, Out, run, eqZ, findStartCode}
+use Rattle.bits.specs.Programs.{Prog, run, eqZ, findStartCode}
 use Rattle.bits.specs.Runs.{Runs}
 use Rattle.bits.proofs.Programs.{run-most}
 use Rattle.picture.specs.declared.state.Matrices.{Matrices}
@@ -24,7 +24,7 @@ use Rattle.header.specs.declared.state.Sequence.{Sequence}
 use Rattle.decoder.specs.declared.record.Decoder.{Decoder}
 use Rattle.decoder.specs.declared.turns.Turned.{Turned}
 use Rattle.decoder.specs.declared.answers.Outcome.the-variants.{Refused}
-use Rattle.decoder.specs.Record.{place, startCode, placeAs, pictureAs, heldAs, storeBytes}
+use Rattle.decoder.specs.Record.{place, startCode, placeAs, pictureAs, heldAs}
 use Rattle.decoder.specs.Fit.{Fit}
 use Rattle.decoder.specs.Turns.{Going, going, Ended, gave, isFollowed, nextPicture, shown, flushed, pastPicture, decoded, searched, pictureTurn}
 use Rattle.decoder.specs.Turned.{endOf}
@@ -33,7 +33,7 @@ use Rattle.decoder.proofs.Fits.{fit-found}
 
 -- ---- the picture
 
-pub fit-behind : {d : Decoder} {q : Picture} {e : ℕ} → Fit d → PossiblePicture q → e ≤ 134217728 → Fit (placeAs e (pictureAs q d))
+fit-behind : {d : Decoder} {q : Picture} {e : ℕ} → Fit d → PossiblePicture q → e ≤ 134217728 → Fit (placeAs e (pictureAs q d))
 fit-behind f k h = record {
   place = h;
   wide = f .wide;
@@ -69,19 +69,7 @@ module _ (s : List ℕ) (d : Decoder) (l : List ℕ) (q : Picture) (m : List ℕ
   unfolding decoded pastPicture
   decoded-on h = let x = rw h at (r .is) in rw x
 
-  -- what it leaves
-  pub stays-possible : Fit d → length s ≤ 16777216 → ((k : ℕ) → getD s k 0 < 256) → n ≡ 0 → PossiblePicture q
-  stays-possible f short bytes h =
-      let k = picture-kept (d .sequence .sizes) (d .sequence .matrices) (d .picture) l s (place d) (f .across) (f .down) (f .size)
-      (picture-by (f .picture)) short bytes in
-      let x = rw h at (r .is) in
-      picture-of q (subst (λ (o : Out (Way Frame)). Ends (length l) (StaysPossible l) (o .value)) x k .picture)
-
 -- ---- behind the search
-
-pub next-bytes : (s : List ℕ) (d : Decoder) → storeBytes (nextPicture s d) ≡ storeBytes d
-unfolding nextPicture
-next-bytes s d = by-case (λ (x : Decoder). storeBytes x ≡ storeBytes d) (eqZ (startCode d) (pos 0)) (λ e. refl) (λ e. refl)
 
 module _ (s : List ℕ) (d : Decoder) (l : List ℕ) {x : Decoder} (n : x ≡ nextPicture s d) where
   pub turn-none : eqZ (startCode x) (negsuc 0) ≡ true → stop (flushed s x l) ≡ pictureTurn s (going d l)
@@ -97,11 +85,11 @@ module _ (s : List ℕ) (d : Decoder) (l : List ℕ) {x : Decoder} (n : x ≡ ne
     unfolding pictureTurn searched
     turn-decoded e = rw (← n, g, e)
 
--- ---- where another turn follows, the record fits again, and its stores are as long as they were
+-- ---- where another turn follows, the record fits again
 
-abbrev Follows : ℕ → Turn Going Ended → Type 0
-Follows n (again y) = Fit (y .decoder) × (storeBytes (y .decoder) ≡ n)
-Follows n (stop e) = Unit {0}
+abbrev Follows : Turn Going Ended → Type 0
+Follows (again y) = Fit (y .decoder)
+Follows (stop e) = Unit {0}
 
 fit-held : {d : Decoder} → Fit d → Fit (heldAs true d)
 fit-held f = record {
@@ -115,20 +103,20 @@ fit-held f = record {
   count = f .count;
 }
 
-shown-fits : (d : Decoder) (l : List ℕ) → Fit d → Follows (storeBytes d) (shown d l)
+shown-fits : (d : Decoder) (l : List ℕ) → Fit d → Follows (shown d l)
 unfolding shown
 shown-fits d l f =
-    by-case (Follows (storeBytes d)) (eqb (d .picture .«picture_type») 3) (λ e. tt)
-    (λ e. by-case (Follows (storeBytes d)) (d .«has_reference_frame») (λ e. tt) (λ e. (fit-held f, refl)))
+    by-case Follows (eqb (d .picture .«picture_type») 3) (λ e. tt)
+    (λ e. by-case Follows (d .«has_reference_frame») (λ e. tt) (λ e. fit-held f))
 
 past-fits : (d : Decoder) (l : List ℕ) (w : Way Frame) (e : ℕ) → Fit d → Ends (length l) (StaysPossible l) w → e ≤ 134217728
-    → Follows (storeBytes d) (pastPicture d (record { value = w; at = e }))
+    → Follows (pastPicture d (record { value = w; at = e }))
 unfolding pastPicture
 past-fits d l (on x) e f k h = shown-fits (placeAs e (pictureAs (x .picture) d)) (x .store) (fit-behind f (picture-of (x .picture) (k .picture)) h)
 past-fits d l (out n m) e f k h = tt
 
 module _ (s : List ℕ) (short : length s ≤ 16777216) (bytes : (k : ℕ) → getD s k 0 < 256) where
-  decoded-fits : (d : Decoder) (l : List ℕ) → Fit d → Follows (storeBytes d) (decoded s d l)
+  decoded-fits : (d : Decoder) (l : List ℕ) → Fit d → Follows (decoded s d l)
   unfolding decoded
   decoded-fits d l f =
       let z = d .sequence .sizes in
@@ -136,11 +124,11 @@ module _ (s : List ℕ) (short : length s ≤ 16777216) (bytes : (k : ℕ) → g
       past-fits d l _ _ f (picture-kept z m (d .picture) l s (place d) (f .across) (f .down) (f .size) (picture-by (f .picture)) short bytes)
       (run-most (picture z m (d .picture) l) s (place d) 16777216 (f .place) short)
 
-  searched-fits : (d : Decoder) (l : List ℕ) → Fit d → Follows (storeBytes d) (searched s d l)
+  searched-fits : (d : Decoder) (l : List ℕ) → Fit d → Follows (searched s d l)
   unfolding searched
   searched-fits d l f =
-      by-case (Follows (storeBytes d)) (eqZ (startCode d) (negsuc 0)) (λ e. tt)
-      (λ e. by-case (Follows (storeBytes d)) (isFollowed s (place d)) (λ e. decoded-fits d l f) (λ e. tt))
+      by-case Follows (eqZ (startCode d) (negsuc 0)) (λ e. tt)
+      (λ e. by-case Follows (isFollowed s (place d)) (λ e. decoded-fits d l f) (λ e. tt))
 
   pub next-fits : (d : Decoder) → Fit d → Fit (nextPicture s d)
   unfolding nextPicture
@@ -148,9 +136,6 @@ module _ (s : List ℕ) (short : length s ≤ 16777216) (bytes : (k : ℕ) → g
       by-case Fit (eqZ (startCode d) (pos 0)) (λ e. f)
       (λ e. fit-found (pos 0) refl f (sought (pos 0) s (place d) short) (run-most (findStartCode (pos 0)) s (place d) 16777216 (f .place) short))
 
-  pub turn-fits : (d : Decoder) (l : List ℕ) {y : Going} → Fit d → pictureTurn s (going d l) ≡ again y
-      → Fit (y .decoder) × (storeBytes (y .decoder) ≡ storeBytes d)
+  pub turn-fits : (d : Decoder) (l : List ℕ) {y : Going} → Fit d → pictureTurn s (going d l) ≡ again y → Fit (y .decoder)
   unfolding pictureTurn
-  turn-fits d l f e =
-      let k = subst (Follows (storeBytes (nextPicture s d))) e (searched-fits (nextPicture s d) l (next-fits d f)) in
-      (k .0, k .1 ∙ next-bytes s d)
+  turn-fits d l f e = subst Follows e (searched-fits (nextPicture s d) l (next-fits d f))

@@ -2,7 +2,6 @@
 ghost use mathlib.Core.Path.{_≡_};
 ghost use Prim.Native.Nat.{_≤_};
 ghost use lib.ListN.{length};
-ghost use Rattle.bits.specs.Programs.{if_then_else_};
 ghost use Rattle.header.specs.Store.{cleared};
 
 // The first n bytes become 0.
@@ -15,15 +14,4 @@ pub fn clear(store: &mut [u8], n: usize)
         store[i] = 0;
         i += 1;
     }
-}
-
-// In a hand-out: a header that this call has accepted does so.
-pub fn begin(store: &mut [u8], had_header: bool, n: usize)
-    requires { ⌜ n ≤ length (now store) ⌝ }
-    ensures { λ r. ⌜ now (store .exit) ≡ (if «had_header» then now (store .entry) else cleared n (now (store .entry))) ⌝ }
-{
-    if had_header {
-        return;
-    }
-    clear(store, n);
 }

@@ -31,7 +31,7 @@ picture-turn-requires-2 c κs =
     let f =
     turn-fits (now (a .s)) (s .pre .1 .0) (λ j. omega (arith, k .shared-slice-known .given j)) (decoderOf q 0 (a .d) (now (a .values))) (now (a .store))
     (s .pre .0) (turn-again r y l (t .picture-turn .ensures .is q 0 refl refl) (i .if1 .taken)) in
-    (f .0, (s .pre .1 .0, omega (arith, s .pre .1 .1, t .picture-turn .kept .1 .0)))
+    (f, (s .pre .1 .0, omega (arith, s .pre .1 .1, t .picture-turn .kept .1 .0)))
 
 returns : tie.Need-returns
 returns c =

@@ -1,12 +1,8 @@
 -- `turns::decoded` meets its contract: the picture stops, or the record behind it is shown.
 use denote.Ref.{now}
-use mathlib.Core.Path.{_≡_, _∙_}
-use native.Mathlib.Omega.{arith}
+use mathlib.Core.Path.{_∙_}
 use borrow.Author.Needs.{needs}
-use Rattle.bits.specs.Runs.{Runs}
-use Rattle.header.specs.declared.state.Sequence.{Sequence}
-use Rattle.picture.specs.Pictures.{frame, picture}
-use Rattle.picture.specs.Views.{pictureOf, matrices, way}
+use Rattle.picture.specs.Views.{pictureOf}
 use Rattle.decoder.specs.State.{decoderOf}
 use Rattle.decoder.proofs.Turning.{runs-of, decoded-out, decoded-on}
 use Rattle.decoder.proofs.turns.decoded.Statement.{statement}
