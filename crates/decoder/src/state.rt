@@ -84,18 +84,22 @@ fn picture_of(p: PictureState, left: [i32; 64]) -> Picture
 }
 
 // The record with this state, and with these coefficients left over.
-pub fn with_state(mut d: Decoder, x: DecoderState, left: [i32; 64]) -> Decoder
+pub fn with_state(d: Decoder, x: DecoderState, left: [i32; 64]) -> Decoder
     ensures { λ r. ⌜ r ≡ decoderOf (d .sequence) (d .stop) x left ⌝ }
 {
     let reader = x.reader;
+    let sequence = d.sequence;
     let picture = picture_of(x.picture, left);
     let clock = x.clock;
-    d.reader = reader;
-    d.picture = picture;
-    d.clock = clock;
-    d.has_reference_frame = x.has_reference_frame;
-    d.frames_decoded = x.frames_decoded;
-    d
+    Decoder {
+        reader,
+        sequence,
+        picture,
+        clock,
+        has_reference_frame: x.has_reference_frame,
+        frames_decoded: x.frames_decoded,
+        stop: d.stop,
+    }
 }
 
 // RULES 8.9: the time of n pictures at a rate, rounded once.
