@@ -5,6 +5,7 @@ pub mod Entries
 pub mod Figures
 pub mod Follow
 pub mod Good
+pub mod Joined
 pub mod Parts
 pub mod Standard
 pub mod Tested

@@ -1,16 +1,17 @@
 -- The parts of the tables that are lent. Assumes nothing.
 use mathlib.Core.Path.{_≡_, refl, ap, sym, _∙_}
-use mathlib.Core.Bool.{Bool, cond}
+use mathlib.Core.Bool.{Bool, true, cond}
 use mathlib.Core.List.{List, [], _∷_, map}
-use Prim.Native.Nat.{ℕ, zero, suc, _+_, _-_, _≤_, _<_}
+use Prim.Native.Nat.{ℕ, zero, suc, _+_, _≤_, _<_}
 use native.Mathlib.Omega.{arith}
 use lib.Dec.{T, leb, leb→le}
-use lib.IntN.{ℤ, pos, negsuc, natAbs}
+use lib.IntN.{ℤ, pos, natAbs, _+ℤ_}
 use lib.ListN.{length, getD, take, drop}
 use lib.Seq.{take-take, getD-take, getD-drop}
-use lib.Signed.{nonNeg}
+use lib.Signed.{leZ, nonNeg}
 use Rattle.bits.specs.Programs.{Prog}
-use Rattle.bits.specs.Runs.{Reading}
+use Rattle.bits.specs.Runs.{Runs, Reading}
+use Rattle.bits.proofs.Rules.{r-call, r-done}
 use Rattle.bits.specs.declared.reader.Reader.{Reader}
 use mir.Facts.{and-yes}
 use mir.Syntax.{w32}
@@ -18,7 +19,7 @@ use Rattle.laws.proofs.Ints.{reread}
 use Rattle.laws.proofs.Nums.{Num, num, rd}
 use Rattle.codes.specs.Codes.{macroblockAddressIncrement, macroblockTypeIntra, macroblockTypePredictive, macroblockTypeB}
 use Rattle.codes.specs.Codes.{codeBlockPattern, dctSizeLuminance, dctSizeChrominance, dctCoeff}
-use Rattle.codes.specs.Lent.{Lent, macroblockCodes, blockCodes, fixedTables, matrixOf}
+use Rattle.codes.specs.Lent.{Lent, Joined, Naturals, joined, small, macroblockCodes, blockCodes, fixedTables, matrixOf}
 use Rattle.codes.specs.Matrices.{zigZag, downFrom, diagonals, premultiplierMatrix}
 use Rattle.codes.specs.Tables.{macroblockAddressIncrementIndex, macroblockAddressIncrementValue, macroblockTypeIntraIndex, macroblockTypeIntraValue}
 use Rattle.codes.specs.Tables.{macroblockTypePredictiveIndex, macroblockTypePredictiveValue, macroblockTypeBIndex, macroblockTypeBValue}
@@ -29,7 +30,9 @@ use Rattle.codes.proofs.Bounds.{premultiplier-small, zig-zag-inside}
 use Rattle.codes.specs.Rule.{Good}
 use Rattle.codes.proofs.Good.{good-macroblock-address-increment, good-macroblock-type-intra, good-macroblock-type-predictive, good-macroblock-type-b}
 use Rattle.codes.proofs.Good.{good-code-block-pattern, good-dct-size-luminance, good-dct-size-chrominance, good-dct-coeff}
-use Rattle.codes.specs.Walk.{Naturals, vlc}
+use Rattle.codes.proofs.Entries.{natural}
+use Rattle.codes.proofs.Joined.{joined-good, joined-naturals, walk-joined, value-joined}
+use Rattle.codes.specs.Walk.{walk, vlc}
 
 -- ---- lists
 
@@ -54,43 +57,39 @@ length-map f (x ∷ l) = ap suc (length-map f l)
 
 -- ---- natural numbers
 
-pub natural : (z : ℤ) → T (nonNeg z) → z ≡ pos (natAbs z)
-natural (pos n) t = refl
-natural (negsuc n) t = absurd t
-
-naturals-of : (vs : List ℕ) (k : ℕ) → T (nonNeg (getD (map pos vs) k (pos 0)))
-naturals-of [] k = tt
-naturals-of (x ∷ vs) zero = tt
-naturals-of (x ∷ vs) (suc k) = naturals-of vs k
-
 pub back : (vs : List ℕ) → map natAbs (map pos vs) ≡ vs
 back [] = refl
 back (x ∷ vs) = ap (λ (l : List ℕ). x ∷ l) (back vs)
 
+-- at the end of the walk a natural value is read
+pub natural-runs : {ix : List ℤ} (vs : List ℕ) {t : List ℤ} → Joined ix (map pos vs) t → {s : List ℕ} {a k e : ℕ} → Runs (walk t) s a k e → k < length t
+    → leZ (getD t k (pos 0)) (pos 0) ≡ true → Runs (vlc ix vs 0) s a (natAbs (getD t k (pos 0) +ℤ pos 65536)) e
+unfolding vlc
+natural-runs vs j {k = k} r h l = rw (ap natAbs (value-joined j k h l ∙ map-at pos vs 0 k)) (r-call _ (rw (walk-joined j) at r) r-done)
+
 -- ---- parts of the tables
 
--- a code whose table has n entries and natural values: the indices at the place a, the values behind them
+-- a code whose table, of n entries at the place a, has natural values
 pub record Natural (a n : ℕ) (index : List ℤ) (value : List ℕ) (code : Prog ℕ) : Type 0 where
-  pub inside : T (leb (a + n + n) 1276)
-  pub indices : take n (drop a fixedTables) ≡ index
-  pub values : take n (drop (a + n) fixedTables) ≡ map pos value
+  pub inside : T (leb (a + n) 702)
+  pub part : take n (drop a fixedTables) ≡ joined index (map pos value)
+  pub values : T (small (map pos value))
   pub good : Good index
-  pub long : length index ≡ length value
   pub walks : vlc index value 0 ≡ code
 
 -- where each table stands
 pub record Places : Type 0 where
   pub increment : Natural 0 80 macroblockAddressIncrementIndex macroblockAddressIncrementValue macroblockAddressIncrement
-  pub type-intra : Natural 160 4 macroblockTypeIntraIndex macroblockTypeIntraValue macroblockTypeIntra
-  pub type-predictive : Natural 168 14 macroblockTypePredictiveIndex macroblockTypePredictiveValue macroblockTypePredictive
-  pub type-b : Natural 196 22 macroblockTypeBIndex macroblockTypeBValue macroblockTypeB
-  pub pattern : Natural 240 126 codeBlockPatternIndex codeBlockPatternValue codeBlockPattern
-  pub vector : (take 68 (drop 492 fixedTables) ≡ motionIndex) × (take 68 (drop 560 fixedTables) ≡ motionValue)
-  pub luminance : Natural 628 18 dctSizeLuminanceIndex dctSizeLuminanceValue dctSizeLuminance
-  pub chrominance : Natural 664 18 dctSizeChrominanceIndex dctSizeChrominanceValue dctSizeChrominance
-  pub coefficient : Natural 700 224 dctCoeffIndex dctCoeffValue dctCoeff
-  pub order : take 64 (drop 1148 fixedTables) ≡ map pos zigZag
-  pub premultipliers : take 64 (drop 1212 fixedTables) ≡ premultiplierMatrix
+  pub type-intra : Natural 80 4 macroblockTypeIntraIndex macroblockTypeIntraValue macroblockTypeIntra
+  pub type-predictive : Natural 84 14 macroblockTypePredictiveIndex macroblockTypePredictiveValue macroblockTypePredictive
+  pub type-b : Natural 98 22 macroblockTypeBIndex macroblockTypeBValue macroblockTypeB
+  pub pattern : Natural 120 126 codeBlockPatternIndex codeBlockPatternValue codeBlockPattern
+  pub vector : take 68 (drop 246 fixedTables) ≡ joined motionIndex motionValue
+  pub luminance : Natural 314 18 dctSizeLuminanceIndex dctSizeLuminanceValue dctSizeLuminance
+  pub chrominance : Natural 332 18 dctSizeChrominanceIndex dctSizeChrominanceValue dctSizeChrominance
+  pub coefficient : Natural 350 224 dctCoeffIndex dctCoeffValue dctCoeff
+  pub order : take 64 (drop 574 fixedTables) ≡ map pos zigZag
+  pub premultipliers : take 64 (drop 638 fixedTables) ≡ premultiplierMatrix
 
 pub places : Places
 unfolding fixedTables macroblockCodes blockCodes
@@ -101,48 +100,45 @@ unfolding fixedTables macroblockCodes blockCodes
     dctSizeLuminance dctSizeChrominance dctCoeff
 places =
     record {
-      increment = record { inside = tt; indices = refl; values = refl; good = good-macroblock-address-increment; long = refl; walks = refl };
-      type-intra = record { inside = tt; indices = refl; values = refl; good = good-macroblock-type-intra; long = refl; walks = refl };
-      type-predictive = record { inside = tt; indices = refl; values = refl; good = good-macroblock-type-predictive; long = refl; walks = refl };
-      type-b = record { inside = tt; indices = refl; values = refl; good = good-macroblock-type-b; long = refl; walks = refl };
-      pattern = record { inside = tt; indices = refl; values = refl; good = good-code-block-pattern; long = refl; walks = refl };
-      vector = (refl, refl);
-      luminance = record { inside = tt; indices = refl; values = refl; good = good-dct-size-luminance; long = refl; walks = refl };
-      chrominance = record { inside = tt; indices = refl; values = refl; good = good-dct-size-chrominance; long = refl; walks = refl };
-      coefficient = record { inside = tt; indices = refl; values = refl; good = good-dct-coeff; long = refl; walks = refl };
+      increment = record { inside = tt; part = refl; values = tt; good = good-macroblock-address-increment; walks = refl };
+      type-intra = record { inside = tt; part = refl; values = tt; good = good-macroblock-type-intra; walks = refl };
+      type-predictive = record { inside = tt; part = refl; values = tt; good = good-macroblock-type-predictive; walks = refl };
+      type-b = record { inside = tt; part = refl; values = tt; good = good-macroblock-type-b; walks = refl };
+      pattern = record { inside = tt; part = refl; values = tt; good = good-code-block-pattern; walks = refl };
+      vector = refl;
+      luminance = record { inside = tt; part = refl; values = tt; good = good-dct-size-luminance; walks = refl };
+      chrominance = record { inside = tt; part = refl; values = tt; good = good-dct-size-chrominance; walks = refl };
+      coefficient = record { inside = tt; part = refl; values = tt; good = good-dct-coeff; walks = refl };
       order = refl;
       premultipliers = refl;
     }
 
 module _ {t : List ℤ} (l : Lent t) where
   -- a part of the fixed tables, xs
-  pub lent-part : (a n : ℕ) {xs : List ℤ} → a + n ≤ 1276 → take n (drop a fixedTables) ≡ xs → take n (drop a t) ≡ xs
-  lent-part a n h e = sym (part-front a n 1276 t h) ∙ ap (λ (x : List ℤ). take n (drop a x)) (l .fixed) ∙ e
+  pub lent-part : (a n : ℕ) {xs : List ℤ} → a + n ≤ 702 → take n (drop a fixedTables) ≡ xs → take n (drop a t) ≡ xs
+  lent-part a n h e = sym (part-front a n 702 t h) ∙ ap (λ (x : List ℤ). take n (drop a x)) (l .fixed) ∙ e
 
-  pub lent-at : (a n i : ℕ) {xs : List ℤ} → a + n ≤ 1276 → i < n → take n (drop a fixedTables) ≡ xs
+  pub lent-at : (a n i : ℕ) {xs : List ℤ} → a + n ≤ 702 → i < n → take n (drop a fixedTables) ≡ xs
       → getD t (a + i) (pos 0) ≡ getD xs i (pos 0)
   lent-at a n i h k e = sym (part-at a n i t (pos 0) k) ∙ ap (λ (x : List ℤ). getD x i (pos 0)) (lent-part a n h e)
 
   module _ {a n : ℕ} {index : List ℤ} {value : List ℕ} {code : Prog ℕ} (p : Natural a n index value code) where
-    -- its walk, by the parts and by the definition
-    pub natural-code : {s : List ℕ} {from to : Reader} {v : ℕ}
-        → Reading (vlc (take n (drop a t)) (map natAbs (take n (drop (a + n) t))) 0) s from v to → Reading code s from v to
-    natural-code r =
-        let most = leb→le (a + n + n) 1276 (p .inside) in
-        rw (lent-part a n (omega arith) (p .indices), lent-part (a + n) n (omega arith) (p .values), back value, p .walks) at r
+    here : Joined index (map pos value) (take n (drop a t))
+    here = record { is = lent-part a n (leb→le (a + n) 702 (p .inside)) (p .part); values = p .values }
 
-    -- what `read_natural` asks of its places and of the parts there
-    pub natural-table : ((a ≤ a + n) × (a + n ≤ a + n + n) × (a + n + n ≤ 1404))
-        × (Good (take n (drop a t)) × ((length (take n (drop (a + n) t)) ≡ length (take n (drop a t))) × Naturals (take n (drop (a + n) t))))
+    -- its code, by the part and by the definition
+    pub natural-code : {s : List ℕ} {from to : Reader} {v : ℕ}
+        → ((ix : List ℤ) (vs : List ℕ) → Joined ix (map pos vs) (take n (drop a t)) → Reading (vlc ix vs 0) s from v to) → Reading code s from v to
+    natural-code r = rw (p .walks) at (r index value here)
+
+    -- what `read_natural` asks of its places and of the part there
+    pub natural-table : ((a ≤ a + n) × (a + n ≤ 830)) × (Good (take n (drop a t)) × Naturals (take n (drop a t)))
     natural-table =
-        let most = leb→le (a + n + n) 1276 (p .inside) in (
-          (omega arith, omega arith, omega arith),
-          rw (lent-part a n (omega arith) (p .indices), lent-part (a + n) n (omega arith) (p .values))
-              (p .good, (length-map pos value ∙ sym (p .long), record { each = naturals-of value })),
-        )
+        let most = leb→le (a + n) 702 (p .inside) in
+        ((omega arith, omega arith), (joined-good here (p .good), rw (here .is) (joined-naturals index value)))
 
 -- an entry behind the fixed tables is a byte
-pub lent-byte : {t : List ℤ} → Lent t → (a i : ℕ) → 1276 ≤ a
+pub lent-byte : {t : List ℤ} → Lent t → (a i : ℕ) → 702 ≤ a
     → Num (reread w32 (getD t (a + i) (pos 0))) (pos (natAbs (getD t (a + i) (pos 0)))) 255
 lent-byte {t} l a i h =
     let z = getD t (a + i) (pos 0) in
@@ -151,14 +147,14 @@ lent-byte {t} l a i h =
     record { is = n .is ∙ natural z (b .0); bound = n .bound }
 
 -- and one of the matrices
-pub matrix-at : (t : List ℤ) (intra : Bool) (i : ℕ) → i < 64 → getD (matrixOf t intra) i 0 ≡ natAbs (getD t (cond intra 1276 1340 + i) (pos 0))
+pub matrix-at : (t : List ℤ) (intra : Bool) (i : ℕ) → i < 64 → getD (matrixOf t intra) i 0 ≡ natAbs (getD t (cond intra 702 766 + i) (pos 0))
 unfolding matrixOf
-matrix-at t intra i h = let a : ℕ = cond intra 1276 1340 in map-at natAbs (take 64 (drop a t)) (pos 0) i ∙ ap natAbs (part-at a 64 i t (pos 0) h)
+matrix-at t intra i h = let a : ℕ = cond intra 702 766 in map-at natAbs (take 64 (drop a t)) (pos 0) i ∙ ap natAbs (part-at a 64 i t (pos 0) h)
 
 -- the zig-zag order and the premultipliers
-pub place-at : {t : List ℤ} → Lent t → (n : ℕ) → n < 64 → Num (reread w32 (getD t (1148 + n) (pos 0))) (pos (getD zigZag n 0)) 63
+pub place-at : {t : List ℤ} → Lent t → (n : ℕ) → n < 64 → Num (reread w32 (getD t (574 + n) (pos 0))) (pos (getD zigZag n 0)) 63
 place-at l n h =
-    rw (lent-at l 1148 64 n (omega arith) h (places .order) ∙ map-at pos zigZag 0 n) (rd w32 (num (omega (arith, zig-zag-inside n))) tt)
+    rw (lent-at l 574 64 n (omega arith) h (places .order) ∙ map-at pos zigZag 0 n) (rd w32 (num (omega (arith, zig-zag-inside n))) tt)
 
-pub premultiplier-at : {t : List ℤ} → Lent t → (n : ℕ) → n < 64 → reread w32 (getD t (1212 + n) (pos 0)) ≡ getD premultiplierMatrix n (pos 0)
-premultiplier-at l n h = rw (lent-at l 1212 64 n (omega arith) h (places .premultipliers)) (rd w32 (num (premultiplier-small n)) tt .is)
+pub premultiplier-at : {t : List ℤ} → Lent t → (n : ℕ) → n < 64 → reread w32 (getD t (638 + n) (pos 0)) ≡ getD premultiplierMatrix n (pos 0)
+premultiplier-at l n h = rw (lent-at l 638 64 n (omega arith) h (places .premultipliers)) (rd w32 (num (premultiplier-small n)) tt .is)

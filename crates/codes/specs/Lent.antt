@@ -1,12 +1,12 @@
 -- The tables as functions are lent them: one array, in which each table begins where the one before it ends.
 use mathlib.Core.Path.{_≡_}
-use mathlib.Core.Bool.{Bool, cond, _&&_}
-use mathlib.Core.List.{List, map, _++_}
+use mathlib.Core.Bool.{Bool, true, cond, _&&_}
+use mathlib.Core.List.{List, [], _∷_, map, _++_}
 use Prim.Native.Nat.{ℕ, _≤_}
 use lib.Dec.{T, leb}
-use lib.IntN.{ℤ, pos, natAbs}
+use lib.IntN.{ℤ, pos, natAbs, _+ℤ_, _-ℤ_}
 use lib.ListN.{getD, take, drop}
-use lib.Signed.{nonNeg}
+use lib.Signed.{leZ, nonNeg}
 use Rattle.codes.specs.Tables.{macroblockAddressIncrementIndex, macroblockAddressIncrementValue, macroblockTypeIntraIndex, macroblockTypeIntraValue}
 use Rattle.codes.specs.Tables.{macroblockTypePredictiveIndex, macroblockTypePredictiveValue, macroblockTypeBIndex, macroblockTypeBValue}
 use Rattle.codes.specs.Tables.{codeBlockPatternIndex, codeBlockPatternValue, motionIndex, motionValue}
@@ -14,22 +14,45 @@ use Rattle.codes.specs.Tables.{dctSizeLuminanceIndex, dctSizeLuminanceVa
 use Rattle.codes.specs.Tables.{dctCoeffValue}
 use Rattle.codes.specs.Matrices.{zigZag, premultiplierMatrix}
 
--- RULES 2.1: indices and values of the codes that a macroblock begins with: increments, types, patterns
+-- RULES 2.1, 2.2: a code table of the indices ix and the values vs as it is lent. Only one of an entry's two is ever read: its index where that is above 0,
+-- since the walk goes on there, else its value, which is lent less 65536, so that it is not above 0
+abbrev pub joinedEntry : ℤ → ℤ → ℤ
+joinedEntry i v = cond (leZ i (pos 0)) (v -ℤ pos 65536) i
+
+abbrev pub joined : List ℤ → List ℤ → List ℤ
+joined [] vs = []
+joined (i ∷ ix) [] = joinedEntry i (pos 0) ∷ joined ix []
+joined (i ∷ ix) (v ∷ vs) = joinedEntry i v ∷ joined ix vs
+
+-- values that are not above 0 less 65536
+abbrev pub small : List ℤ → Bool
+small [] = true
+small (v ∷ vs) = leb (natAbs v) 65535 && small vs
+
+pub record Joined (ix vs t : List ℤ) : Type 0 where
+  pub is : t ≡ joined ix vs
+  pub values : T (small vs)
+
+-- no value of the table that is lent as t is below 0
+pub record Naturals (t : List ℤ) : Type 0 where
+  pub each : (k : ℕ) → T (nonNeg (getD t k (pos 0) +ℤ pos 65536))
+
+-- RULES 2.1: the tables of the codes that a macroblock begins with: increments, types, patterns
 unfoldable pub macroblockCodes : List ℤ
 macroblockCodes =
-    macroblockAddressIncrementIndex ++ map pos macroblockAddressIncrementValue
-    ++ macroblockTypeIntraIndex ++ map pos macroblockTypeIntraValue
-    ++ macroblockTypePredictiveIndex ++ map pos macroblockTypePredictiveValue
-    ++ macroblockTypeBIndex ++ map pos macroblockTypeBValue
-    ++ codeBlockPatternIndex ++ map pos codeBlockPatternValue
+    joined macroblockAddressIncrementIndex (map pos macroblockAddressIncrementValue)
+    ++ joined macroblockTypeIntraIndex (map pos macroblockTypeIntraValue)
+    ++ joined macroblockTypePredictiveIndex (map pos macroblockTypePredictiveValue)
+    ++ joined macroblockTypeBIndex (map pos macroblockTypeBValue)
+    ++ joined codeBlockPatternIndex (map pos codeBlockPatternValue)
 
 -- RULES 2.1, 2.7: of the codes of vectors, DC sizes and coefficients; behind them the zig-zag order and the premultipliers
 unfoldable pub blockCodes : List ℤ
 blockCodes =
-    motionIndex ++ motionValue
-    ++ dctSizeLuminanceIndex ++ map pos dctSizeLuminanceValue
-    ++ dctSizeChrominanceIndex ++ map pos dctSizeChrominanceValue
-    ++ dctCoeffIndex ++ map pos dctCoeffValue
+    joined motionIndex motionValue
+    ++ joined dctSizeLuminanceIndex (map pos dctSizeLuminanceValue)
+    ++ joined dctSizeChrominanceIndex (map pos dctSizeChrominanceValue)
+    ++ joined dctCoeffIndex (map pos dctCoeffValue)
     ++ map pos zigZag ++ premultiplierMatrix
 
 -- the tables that are the same for every stream
@@ -42,12 +65,12 @@ tablesWith intra other = fixedTables ++ map pos intra ++ map pos other
 
 -- RULES 3.8: the matrix among the tables t for blocks that are intra or not
 unfoldable pub matrixOf : List ℤ → Bool → List ℕ
-matrixOf t intra = map natAbs (take 64 (drop (cond intra 1276 1340) t))
+matrixOf t intra = map natAbs (take 64 (drop (cond intra 702 766) t))
 
 abbrev pub isByte : ℤ → Bool
 isByte z = nonNeg z && leb (natAbs z) 255
 
 -- t are the tables with some matrices
 pub record Lent (t : List ℤ) : Type 0 where
-  pub fixed : take 1276 t ≡ fixedTables
-  pub bytes : (k : ℕ) → 1276 ≤ k → T (isByte (getD t k (pos 0)))
+  pub fixed : take 702 t ≡ fixedTables
+  pub bytes : (k : ℕ) → 702 ≤ k → T (isByte (getD t k (pos 0)))

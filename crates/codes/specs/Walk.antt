@@ -3,14 +3,9 @@ use Prim.Native.Nat.{ℕ, _+_}
 use mathlib.Core.List.{List}
 use lib.ListN.{length, getD}
 use lib.IntN.{ℤ, pos, natAbs}
-use lib.Dec.{T}
-use lib.Signed.{leZ, nonNeg}
+use lib.Signed.{leZ}
 use Rattle.laws.specs.Turns.{Turn, again, stop}
 use Rattle.bits.specs.Programs.{Prog, done, bits, loop, _>>=_, if_then_else_}
-
--- values that are natural numbers
-pub record Naturals (vs : List ℤ) : Type 0 where
-  pub each : (k : ℕ) → T (nonNeg (getD vs k (pos 0)))
 
 -- one bit: on to a further pair of entries, or the end of the walk at an entry
 unfoldable pub walkTurn : List ℤ → ℕ → Prog (Turn ℕ ℕ)

@@ -7,51 +7,33 @@ ghost use lib.ListN.{getD};
 ghost use Rattle.codes.specs.Lent.{Lent, matrixOf};
 ghost use Rattle.codes.specs.Matrices.{zigZag, premultiplierMatrix};
 
-pub type Tables = [i32; 1404];
+pub type Tables = [i32; 830];
 
-pub const INCREMENT_INDEX: usize = 0;
+pub const INCREMENT: usize = 0;
 
-pub const INCREMENT_VALUE: usize = 80;
+pub const TYPE_I: usize = 80;
 
-pub const TYPE_I_INDEX: usize = 160;
+pub const TYPE_P: usize = 84;
 
-pub const TYPE_I_VALUE: usize = 164;
+pub const TYPE_B: usize = 98;
 
-pub const TYPE_P_INDEX: usize = 168;
+pub const PATTERN: usize = 120;
 
-pub const TYPE_P_VALUE: usize = 182;
+pub const VECTOR: usize = 246;
 
-pub const TYPE_B_INDEX: usize = 196;
+pub const LUMINANCE: usize = 314;
 
-pub const TYPE_B_VALUE: usize = 218;
+pub const CHROMINANCE: usize = 332;
 
-pub const PATTERN_INDEX: usize = 240;
+pub const COEFFICIENT: usize = 350;
 
-pub const PATTERN_VALUE: usize = 366;
+pub const ORDER: usize = 574;
 
-pub const VECTOR_INDEX: usize = 492;
+pub const PREMULTIPLIERS: usize = 638;
 
-pub const VECTOR_VALUE: usize = 560;
+pub const INTRA_MATRIX: usize = 702;
 
-pub const LUMINANCE_INDEX: usize = 628;
-
-pub const LUMINANCE_VALUE: usize = 646;
-
-pub const CHROMINANCE_INDEX: usize = 664;
-
-pub const CHROMINANCE_VALUE: usize = 682;
-
-pub const COEFFICIENT_INDEX: usize = 700;
-
-pub const COEFFICIENT_VALUE: usize = 924;
-
-pub const ORDER: usize = 1148;
-
-pub const PREMULTIPLIERS: usize = 1212;
-
-pub const INTRA_MATRIX: usize = 1276;
-
-pub const OTHER_MATRIX: usize = 1340;
+pub const OTHER_MATRIX: usize = 766;
 
 // The place of the coefficient that is number n in zig-zag order.
 pub fn place_of(tables: &Tables, n: usize) -> usize

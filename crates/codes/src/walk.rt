@@ -1,13 +1,16 @@
 // The walk through a code table.
 use bits::reader::Reader;
 ghost use mathlib.Core.Path.{_≡_};
-ghost use mathlib.Core.List.{map};
-ghost use Prim.Native.Nat.{_<_};
-ghost use lib.ListN.{length};
-ghost use lib.IntN.{pos, natAbs};
+ghost use mathlib.Core.Bool.{true};
+ghost use mathlib.Core.List.{List, map};
+ghost use Prim.Native.Nat.{ℕ, _<_};
+ghost use lib.ListN.{length, getD};
+ghost use lib.IntN.{ℤ, pos};
+ghost use lib.Signed.{leZ};
 ghost use Rattle.bits.specs.Runs.{Inside, Reading};
+ghost use Rattle.codes.specs.Lent.{Joined, Naturals};
 ghost use Rattle.codes.specs.Rule.{Good};
-ghost use Rattle.codes.specs.Walk.{Naturals, walk, vlc};
+ghost use Rattle.codes.specs.Walk.{walk, vlc};
 
 // The entry at which a walk ends.
 pub struct Leaf {
@@ -30,6 +33,7 @@ pub fn walk(s: &[u8], reader: Reader, index: &[i32]) -> Leaf
     requires { ⌜ Good (now index) ⌝ }
     ensures { λ r. ⌜ Reading (walk (now (index .entry))) (now (s .entry)) reader (r .place) (r .reader) ⌝ }
     ensures { λ r. ⌜ r .place < length (now (index .entry)) ⌝ }
+    ensures { λ r. ⌜ leZ (getD (now (index .entry)) (r .place) (pos 0)) (pos 0) ≡ true ⌝ }
 {
     let mut from = reader;
     let mut at: usize = 0;
@@ -48,17 +52,16 @@ pub fn walk(s: &[u8], reader: Reader, index: &[i32]) -> Leaf
     }
 }
 
-// The value at the end of the walk.
-pub fn read_vlc(s: &[u8], reader: Reader, index: &[i32], value: &[i32]) -> Vlc
+// The value at the end of the walk through a code table as it is lent.
+pub fn read_vlc(s: &[u8], reader: Reader, table: &[i32]) -> Vlc
     requires { ⌜ Inside (now s) reader ⌝ }
-    requires { ⌜ Good (now index) ⌝ }
-    requires { ⌜ length (now value) ≡ length (now index) ⌝ }
-    ensures { λ r. ⌜ Reading (vlc (now (index .entry)) (now (value .entry)) (pos 0)) (now (s .entry)) reader (r .value) (r .reader) ⌝ }
+    requires { ⌜ Good (now table) ⌝ }
+    ensures { λ r. ⌜ ((ix vs : List ℤ) → Joined ix vs (now (table .entry)) → Reading (vlc ix vs (pos 0)) (now (s .entry)) reader (r .value) (r .reader)) ⌝ }
 {
-    let leaf = walk(s, reader, index);
+    let leaf = walk(s, reader, table);
     let after = leaf.reader;
     let place = leaf.place;
-    let found = value[place];
+    let found = table[place] + 65536;
     Vlc {
         reader: after,
         value: found,
@@ -66,17 +69,17 @@ pub fn read_vlc(s: &[u8], reader: Reader, index: &[i32], value: &[i32]) -> Vlc
 }
 
 // The same for a table whose values are natural numbers.
-pub fn read_vlc_uint(s: &[u8], reader: Reader, index: &[i32], value: &[i32]) -> VlcUint
+pub fn read_vlc_uint(s: &[u8], reader: Reader, table: &[i32]) -> VlcUint
     requires { ⌜ Inside (now s) reader ⌝ }
-    requires { ⌜ Good (now index) ⌝ }
-    requires { ⌜ length (now value) ≡ length (now index) ⌝ }
-    requires { ⌜ Naturals (now value) ⌝ }
-    ensures { λ r. ⌜ Reading (vlc (now (index .entry)) (map natAbs (now (value .entry))) 0) (now (s .entry)) reader (r .value) (r .reader) ⌝ }
+    requires { ⌜ Good (now table) ⌝ }
+    requires { ⌜ Naturals (now table) ⌝ }
+    ensures { λ r. ⌜ ((ix : List ℤ) (vs : List ℕ) → Joined ix (map pos vs) (now (table .entry))
+        → Reading (vlc ix vs 0) (now (s .entry)) reader (r .value) (r .reader)) ⌝ }
 {
-    let leaf = walk(s, reader, index);
+    let leaf = walk(s, reader, table);
     let after = leaf.reader;
     let place = leaf.place;
-    let found = value[place] as u32;
+    let found = (table[place] + 65536) as u32;
     VlcUint {
         reader: after,
         value: found,

@@ -7,9 +7,9 @@ use native.Mathlib.Numerals.{add-one}
 use native.Mathlib.Omega.{arith}
 use lib.Dec.{T, ltb, ltb→lt, leb, leb→le, le→leb}
 use lib.IntN.{ℤ, pos, natAbs}
-use lib.ListN.{length, getD, set, take, drop, length-set, length-append, length-take}
+use lib.ListN.{length, getD, set, take, drop, length-set, length-append, length-take, length-drop}
 use lib.Seq.{take-append-add, drop-drop, drop-paste, set-append-left, take-set-lt, drop-set-lt, take-at, drop-at}
-use lib.Seq.{getD-append-add, take-all, take-paste, length-paste, paste-zero, paste-suc, paste}
+use lib.Seq.{getD-append-add, getD-drop, take-all, take-paste, length-paste, paste-zero, paste-suc, paste}
 use Rattle.laws.proofs.Tables.{anywhere}
 use Rattle.codes.specs.Lent.{Lent, macroblockCodes, blockCodes, fixedTables, tablesWith, matrixOf, isByte}
 use Rattle.codes.specs.Matrices.{zigZag, downFrom, diagonals, intraQuantMatrix, nonIntraQuantMatrix, premultiplierMatrix}
@@ -44,6 +44,21 @@ module _ (before table : List ℤ) (at : ℕ) where
 
   pub copied-all : (now : List ℤ) (k : ℕ) → length table ≤ k → Copied before table at now k → now ≡ paste before at table (length table)
   copied-all now k h c = let all : k ≡ length table = omega (arith, c .most) in c .is ∙ ap (paste before at table) all
+
+-- a loop that copies the table's entries from `first` on has copied those up to k
+module _ (before table : List ℤ) (at first k : ℕ) where
+  abbrev pub Part : List ℤ → ℕ → Type 0
+  Part now k = Copied before (drop first table) (at + first) now (k - first)
+
+  pub part-one : (now : List ℤ) (x : ℤ) → at + length table ≤ length before → first ≤ k → k < length table → x ≡ getD table k (pos 0)
+      → Part now k → Part (set now (at + k) x) (k + 1)
+  part-one now x h f l e c =
+      let rest = length-drop first table in
+      let place : at + first + (k - first) ≡ at + k = omega arith in
+      let count : k - first + 1 ≡ k + 1 - first = omega arith in
+      let entry : first + (k - first) ≡ k = omega arith in
+      rw (place, count, getD-drop first table (k - first) (pos 0), entry, ← e) at
+      (copied-one before (drop first table) (at + first) now (k - first) (omega arith) (omega arith) c)
 
 -- a store before the part that is pasted
 paste-behind : (d : List ℤ) (at : ℕ) (s : List ℤ) (n i : ℕ) (v : ℤ) → i < at → at ≤ length d
@@ -124,18 +139,15 @@ pub record Laid (before : List ℤ) (at : ℕ) (laid : List ℤ) (n : ℕ) (t : 
   pub inside : at + n ≤ length before
   pub is : t ≡ paste before at laid n
 
-pub laid-first : {before t : List ℤ} (at : ℕ) (table : List ℤ) (n : ℕ) {m : ℕ} → length before ≡ 1404 → length table ≡ n → T (leb (at + n) 1404)
-    → m ≡ n
-    → t ≡ paste before at table m → Laid before at table n t
-laid-first {before} at table n l k h q r =
-    record { long = k; inside = rw l (leb→le (at + n) 1404 h); is = r ∙ ap (paste before at table) q }
+pub laid-none : (before : List ℤ) (at : ℕ) → at ≤ length before → Laid before at [] 0 before
+laid-none before at h = record { long = refl; inside = omega arith; is = paste-zero before at [] }
 
 -- one table more, of m entries, which are k
-pub laid-on : {before t after laid : List ℤ} {at n : ℕ} (table : List ℤ) (k : ℕ) {m : ℕ} → length before ≡ 1404 → Laid before at laid n t
-    → length table ≡ k → T (leb (at + n + k) 1404) → m ≡ k
+pub laid-on : {before t after laid : List ℤ} {at n : ℕ} (table : List ℤ) (k : ℕ) {m : ℕ} → length before ≡ 830 → Laid before at laid n t
+    → length table ≡ k → T (leb (at + n + k) 830) → m ≡ k
     → after ≡ paste t (at + n) table m → Laid before at (laid ++ table) (n + k) after
 laid-on {before} {t} {after} {laid} {at} {n} table k l f w h q r =
-    let most = leb→le (at + n + k) 1404 h in
+    let most = leb→le (at + n + k) 830 h in
     record {
       long = length-append laid table ∙ rw (f .long, w) refl;
       inside = omega (arith, l, most);
@@ -145,28 +157,30 @@ laid-on {before} {t} {after} {laid} {at} {n} table k l f w h q r =
           ∙ paste-on before laid table at n k (f .long) (omega arith) (omega (arith, l, most));
     }
 
--- a code table more: its indices, and its values behind them
-pub laid-table : {before t u v laid : List ℤ} {at n : ℕ} (index value : List ℤ) (k : ℕ) {i j : ℕ} → length before ≡ 1404 → Laid before at laid n t
-    → length index ≡ k → length value ≡ k → T (leb (at + (n + k) + k) 1404) → i ≡ k → j ≡ k
-    → u ≡ paste t (at + n) index i → v ≡ paste u (at + (n + k)) value j → Laid before at (laid ++ index ++ value) (n + k + k) v
-laid-table {at = at} {n = n} index value k l f a b h p q r w =
-    let most = leb→le (at + (n + k) + k) 1404 h in
-    laid-on value k l (laid-on index k l f a (le→leb (at + n + k) 1404 (omega arith)) p r) b h q w
+-- a part of a code table more: k entries of it, from `first` on
+pub laid-codes : {before t after laid : List ℤ} {at n : ℕ} (table : List ℤ) (first k : ℕ) → length before ≡ 830 → Laid before at laid n t
+    → T (leb (first + k) (length table)) → T (leb (at + n + k) 830)
+    → after ≡ paste t (at + n) (drop first table) k → Laid before at (laid ++ take k (drop first table)) (n + k) after
+laid-codes {t = t} {at = at} {n = n} table first k l f w h r =
+    let part = take k (drop first table) in
+    let long : length part ≡ k = omega (arith, length-take k (drop first table), length-drop first table, leb→le (first + k) (length table) w) in
+    laid-on part k l f long h refl
+    (r ∙ ap (λ (x : List ℤ). take (at + n) t ++ x ++ drop (at + n + k) t) (sym (take-all k part (omega arith))))
 
 -- the first n of the numbers t are those of `front`
 pub record Front (t : List ℤ) (n : ℕ) (front : List ℤ) : Type 0 where
-  pub long : length t ≡ 1404
+  pub long : length t ≡ 830
   pub is : take n t ≡ front
 
-pub front-none : {t : List ℤ} → length t ≡ 1404 → Front t 0 []
+pub front-none : {t : List ℤ} → length t ≡ 830 → Front t 0 []
 front-none h = record { long = h; is = refl }
 
 -- one table more, of m entries, which are n
-pub front-on : {t front after : List ℤ} (table : List ℤ) (at n : ℕ) {m : ℕ} → Front t at front → length table ≡ n → T (leb (at + n) 1404)
+pub front-on : {t front after : List ℤ} (table : List ℤ) (at n : ℕ) {m : ℕ} → Front t at front → length table ≡ n → T (leb (at + n) 830)
     → m ≡ n
     → after ≡ paste t at table m → Front after (at + n) (front ++ table)
 front-on {t} {front} {after} table at n f k h q r =
-    let most = leb→le (at + n) 1404 h in
+    let most = leb→le (at + n) 830 h in
     let e = r ∙ ap (paste t at table) q in
     let l = f .long in
     record {
@@ -178,8 +192,8 @@ front-on {t} {front} {after} table at n f k h q r =
           ∙ ap (λ (x : List ℤ). front ++ x) (take-all n table (omega arith));
     }
 
-pub front-all : {t front : List ℤ} → Front t 1404 front → t ≡ front
-front-all {t} f = sym (take-all 1404 t (omega (arith, f .long))) ∙ f .is
+pub front-all : {t front : List ℤ} → Front t 830 front → t ≡ front
+front-all {t} f = sym (take-all 830 t (omega (arith, f .long))) ∙ f .is
 
 -- ---- what has been made is what is lent
 
@@ -188,21 +202,21 @@ pub record Bytes64 (m : List ℕ) : Type 0 where
   pub long : length m ≡ 64
   pub bytes : (k : ℕ) → getD m k 0 < 256
 
-pub macroblock-codes-length : length macroblockCodes ≡ 492
+pub macroblock-codes-length : length macroblockCodes ≡ 246
 unfolding macroblockCodes macroblockAddressIncrementIndex macroblockAddressIncrementValue macroblockTypeIntraIndex macroblockTypeIntraValue
     macroblockTypePredictiveIndex macroblockTypePredictiveValue macroblockTypeBIndex macroblockTypeBValue codeBlockPatternIndex codeBlockPatternValue
 macroblock-codes-length = refl
 
-pub block-codes-length : length blockCodes ≡ 784
+pub block-codes-length : length blockCodes ≡ 456
 unfolding blockCodes motionIndex motionValue dctSizeLuminanceIndex dctSizeLuminanceValue dctSizeChrominanceIndex dctSizeChrominanceValue
     dctCoeffIndex dctCoeffValue zigZag downFrom diagonals premultiplierMatrix
 block-codes-length = refl
 
-fixed-length : length fixedTables ≡ 1276
+fixed-length : length fixedTables ≡ 702
 unfolding fixedTables
 fixed-length =
     length-append macroblockCodes blockCodes ∙ ap (λ (n : ℕ). n + length blockCodes) macroblock-codes-length
-    ∙ ap (λ (n : ℕ). 492 + n) block-codes-length
+    ∙ ap (λ (n : ℕ). 246 + n) block-codes-length
 
 -- bytes, as they stand in the tables
 bytes-in : (l m : List ℕ) → ((k : ℕ) → getD l k 0 < 256) → ((k : ℕ) → getD m k 0 < 256) → (j : ℕ)
@@ -220,30 +234,30 @@ module _ (intra other : List ℕ) (i : Bytes64 intra) (o : Bytes64 other) where
   split : tablesWith intra other ≡ fixedTables ++ matrices
   split = append-assoc fixedTables (map pos intra) (map pos other)
 
-  behind : (k : ℕ) → 1276 ≤ k → getD (fixedTables ++ matrices) k (pos 0) ≡ getD matrices (k - 1276) (pos 0)
+  behind : (k : ℕ) → 702 ≤ k → getD (fixedTables ++ matrices) k (pos 0) ≡ getD matrices (k - 702) (pos 0)
   behind k h =
-      let e : k ≡ length fixedTables + (k - 1276) = omega (arith, fixed-length) in
-      ap (λ (n : ℕ). getD (fixedTables ++ matrices) n (pos 0)) e ∙ getD-append-add fixedTables matrices (k - 1276) (pos 0)
+      let e : k ≡ length fixedTables + (k - 702) = omega (arith, fixed-length) in
+      ap (λ (n : ℕ). getD (fixedTables ++ matrices) n (pos 0)) e ∙ getD-append-add fixedTables matrices (k - 702) (pos 0)
 
   pub lent-with : Lent (tablesWith intra other)
   lent-with =
       rw split
       (record {
-        fixed = take-at fixedTables matrices 1276 fixed-length;
-        bytes = λ k h. rw (behind k h) (bytes-in intra other (i .bytes) (o .bytes) (k - 1276));
+        fixed = take-at fixedTables matrices 702 fixed-length;
+        bytes = λ k h. rw (behind k h) (bytes-in intra other (i .bytes) (o .bytes) (k - 702));
       })
 
   pub matrix-with : (b : Bool) → matrixOf (tablesWith intra other) b ≡ cond b intra other
   unfolding matrixOf
   matrix-with true =
-      ap (λ (l : List ℤ). map natAbs (take 64 (drop 1276 l))) split
-      ∙ ap (λ (l : List ℤ). map natAbs (take 64 l)) (drop-at fixedTables matrices 1276 fixed-length)
+      ap (λ (l : List ℤ). map natAbs (take 64 (drop 702 l))) split
+      ∙ ap (λ (l : List ℤ). map natAbs (take 64 l)) (drop-at fixedTables matrices 702 fixed-length)
       ∙ ap (map natAbs) (take-at (map pos intra) (map pos other) 64 (length-map pos intra ∙ i .long))
       ∙ back intra
   matrix-with false =
-      let front : length (fixedTables ++ map pos intra) ≡ 1340 =
+      let front : length (fixedTables ++ map pos intra) ≡ 766 =
       omega (arith, length-append fixedTables (map pos intra), fixed-length, length-map pos intra, i .long) in
-      ap (λ (l : List ℤ). map natAbs (take 64 l)) (drop-at (fixedTables ++ map pos intra) (map pos other) 1340 front)
+      ap (λ (l : List ℤ). map natAbs (take 64 l)) (drop-at (fixedTables ++ map pos intra) (map pos other) 766 front)
       ∙ ap (map natAbs) (take-all 64 (map pos other) (omega (arith, length-map pos other, o .long)))
       ∙ back other
 

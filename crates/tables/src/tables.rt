@@ -17,37 +17,29 @@ use crate::code_tables::MACROBLOCK_TYPE_PREDICTIVE_INDEX;
 use crate::code_tables::MACROBLOCK_TYPE_PREDICTIVE_VALUE;
 use crate::code_tables::MOTION_INDEX;
 use crate::code_tables::MOTION_VALUE;
-use codes::lent::CHROMINANCE_INDEX;
-use codes::lent::CHROMINANCE_VALUE;
-use codes::lent::COEFFICIENT_INDEX;
-use codes::lent::COEFFICIENT_VALUE;
-use codes::lent::INCREMENT_INDEX;
-use codes::lent::INCREMENT_VALUE;
+use codes::lent::CHROMINANCE;
+use codes::lent::COEFFICIENT;
+use codes::lent::INCREMENT;
 use codes::lent::INTRA_MATRIX;
-use codes::lent::LUMINANCE_INDEX;
-use codes::lent::LUMINANCE_VALUE;
+use codes::lent::LUMINANCE;
 use codes::lent::ORDER;
-use codes::lent::PATTERN_INDEX;
-use codes::lent::PATTERN_VALUE;
+use codes::lent::PATTERN;
 use codes::lent::PREMULTIPLIERS;
-use codes::lent::TYPE_B_INDEX;
-use codes::lent::TYPE_B_VALUE;
-use codes::lent::TYPE_I_INDEX;
-use codes::lent::TYPE_I_VALUE;
-use codes::lent::TYPE_P_INDEX;
-use codes::lent::TYPE_P_VALUE;
+use codes::lent::TYPE_B;
+use codes::lent::TYPE_I;
+use codes::lent::TYPE_P;
 use codes::lent::Tables;
-use codes::lent::VECTOR_INDEX;
-use codes::lent::VECTOR_VALUE;
+use codes::lent::VECTOR;
 use codes::matrices::PREMULTIPLIER_MATRIX;
 use codes::matrices::ZIG_ZAG;
 ghost use mathlib.Core.Path.{_≡_};
 ghost use mathlib.Core.List.{map, _++_};
-ghost use Prim.Native.Nat.{_+_, _≤_};
+ghost use Prim.Native.Nat.{_+_, _-_, _≤_};
+ghost use lib.Dec.{T};
 ghost use lib.IntN.{pos};
-ghost use lib.ListN.{length};
+ghost use lib.ListN.{length, drop};
 ghost use lib.Seq.{paste};
-ghost use Rattle.codes.specs.Lent.{macroblockCodes, blockCodes, tablesWith};
+ghost use Rattle.codes.specs.Lent.{joined, small, macroblockCodes, blockCodes, tablesWith};
 
 fn put(tables: &mut [i32], at: usize, table: &[i32])
     requires { ⌜ at + length (now table) ≤ length (now tables) ⌝ }
@@ -56,6 +48,24 @@ fn put(tables: &mut [i32], at: usize, table: &[i32])
     let mut k: usize = 0;
     while k < table.len() {
         let entry = table[k];
+        tables[at + k] = entry;
+        k += 1;
+    }
+}
+
+// The entries from `first` up to `last` of the code table of these indices and values, which stands at `at`.
+fn put_codes(tables: &mut [i32], at: usize, index: &[i32], value: &[i32], first: usize, last: usize)
+    requires { ⌜ (first ≤ last) × (last ≤ length (now index)) × (length (now value) ≡ length (now index)) ⌝ }
+    requires { ⌜ at + length (now index) ≤ length (now tables) ⌝ }
+    requires { ⌜ T (small (now value)) ⌝ }
+    ensures { λ _. ⌜ now (tables .exit)
+        ≡ paste (now (tables .entry)) (at + first) (drop first (joined (now (index .entry)) (now (value .entry)))) (last - first) ⌝ }
+{
+    let mut k = first;
+    while k < last {
+        let next = index[k];
+        let found = value[k] - 65536;
+        let entry = if next <= 0 { found } else { next };
         tables[at + k] = entry;
         k += 1;
     }
@@ -90,34 +100,58 @@ fn widened(intra_matrix: &[u8], other_matrix: &[u8]) -> [i32; 128]
     wide
 }
 
-// The code tables of increments, types and patterns.
+// The code tables of increments, types and patterns. A long one is laid in parts: the compiler makes constants of a loop of up to some 30 turns.
 fn put_macroblock_codes(t: &mut Tables)
     ensures { λ _. ⌜ now (t .exit) ≡ paste (now (t .entry)) 0 macroblockCodes (length macroblockCodes) ⌝ }
 {
-    put(t, INCREMENT_INDEX, &MACROBLOCK_ADDRESS_INCREMENT_INDEX);
-    put(t, INCREMENT_VALUE, &MACROBLOCK_ADDRESS_INCREMENT_VALUE);
-    put(t, TYPE_I_INDEX, &MACROBLOCK_TYPE_INTRA_INDEX);
-    put(t, TYPE_I_VALUE, &MACROBLOCK_TYPE_INTRA_VALUE);
-    put(t, TYPE_P_INDEX, &MACROBLOCK_TYPE_PREDICTIVE_INDEX);
-    put(t, TYPE_P_VALUE, &MACROBLOCK_TYPE_PREDICTIVE_VALUE);
-    put(t, TYPE_B_INDEX, &MACROBLOCK_TYPE_B_INDEX);
-    put(t, TYPE_B_VALUE, &MACROBLOCK_TYPE_B_VALUE);
-    put(t, PATTERN_INDEX, &CODE_BLOCK_PATTERN_INDEX);
-    put(t, PATTERN_VALUE, &CODE_BLOCK_PATTERN_VALUE);
+    let index = &MACROBLOCK_ADDRESS_INCREMENT_INDEX[..];
+    let value = &MACROBLOCK_ADDRESS_INCREMENT_VALUE[..];
+    put_codes(t, INCREMENT, index, value, 0, 28);
+    put_codes(t, INCREMENT, index, value, 28, 56);
+    put_codes(t, INCREMENT, index, value, 56, 80);
+    let index = &MACROBLOCK_TYPE_INTRA_INDEX[..];
+    let value = &MACROBLOCK_TYPE_INTRA_VALUE[..];
+    put_codes(t, TYPE_I, index, value, 0, 4);
+    let index = &MACROBLOCK_TYPE_PREDICTIVE_INDEX[..];
+    let value = &MACROBLOCK_TYPE_PREDICTIVE_VALUE[..];
+    put_codes(t, TYPE_P, index, value, 0, 14);
+    let index = &MACROBLOCK_TYPE_B_INDEX[..];
+    let value = &MACROBLOCK_TYPE_B_VALUE[..];
+    put_codes(t, TYPE_B, index, value, 0, 22);
+    let index = &CODE_BLOCK_PATTERN_INDEX[..];
+    let value = &CODE_BLOCK_PATTERN_VALUE[..];
+    put_codes(t, PATTERN, index, value, 0, 28);
+    put_codes(t, PATTERN, index, value, 28, 56);
+    put_codes(t, PATTERN, index, value, 56, 84);
+    put_codes(t, PATTERN, index, value, 84, 112);
+    put_codes(t, PATTERN, index, value, 112, 126);
 }
 
 // The code tables of vectors, DC sizes and coefficients, the zig-zag order and the premultipliers.
 fn put_block_codes(t: &mut Tables)
     ensures { λ _. ⌜ now (t .exit) ≡ paste (now (t .entry)) (length macroblockCodes) blockCodes (length blockCodes) ⌝ }
 {
-    put(t, VECTOR_INDEX, &MOTION_INDEX);
-    put(t, VECTOR_VALUE, &MOTION_VALUE);
-    put(t, LUMINANCE_INDEX, &DCT_SIZE_LUMINANCE_INDEX);
-    put(t, LUMINANCE_VALUE, &DCT_SIZE_LUMINANCE_VALUE);
-    put(t, CHROMINANCE_INDEX, &DCT_SIZE_CHROMINANCE_INDEX);
-    put(t, CHROMINANCE_VALUE, &DCT_SIZE_CHROMINANCE_VALUE);
-    put(t, COEFFICIENT_INDEX, &DCT_COEFF_INDEX);
-    put(t, COEFFICIENT_VALUE, &DCT_COEFF_VALUE);
+    let index = &MOTION_INDEX[..];
+    let value = &MOTION_VALUE[..];
+    put_codes(t, VECTOR, index, value, 0, 28);
+    put_codes(t, VECTOR, index, value, 28, 56);
+    put_codes(t, VECTOR, index, value, 56, 68);
+    let index = &DCT_SIZE_LUMINANCE_INDEX[..];
+    let value = &DCT_SIZE_LUMINANCE_VALUE[..];
+    put_codes(t, LUMINANCE, index, value, 0, 18);
+    let index = &DCT_SIZE_CHROMINANCE_INDEX[..];
+    let value = &DCT_SIZE_CHROMINANCE_VALUE[..];
+    put_codes(t, CHROMINANCE, index, value, 0, 18);
+    let index = &DCT_COEFF_INDEX[..];
+    let value = &DCT_COEFF_VALUE[..];
+    put_codes(t, COEFFICIENT, index, value, 0, 28);
+    put_codes(t, COEFFICIENT, index, value, 28, 56);
+    put_codes(t, COEFFICIENT, index, value, 56, 84);
+    put_codes(t, COEFFICIENT, index, value, 84, 112);
+    put_codes(t, COEFFICIENT, index, value, 112, 140);
+    put_codes(t, COEFFICIENT, index, value, 140, 168);
+    put_codes(t, COEFFICIENT, index, value, 168, 196);
+    put_codes(t, COEFFICIENT, index, value, 196, 224);
     put_bytes(t, ORDER, &ZIG_ZAG);
     put(t, PREMULTIPLIERS, &PREMULTIPLIER_MATRIX);
 }
@@ -126,7 +160,7 @@ fn put_block_codes(t: &mut Tables)
 pub fn tables_with(intra_matrix: &[u8; 64], other_matrix: &[u8; 64]) -> Tables
     ensures { λ r. ⌜ r ≡ tablesWith (now («intra_matrix» .entry)) (now («other_matrix» .entry)) ⌝ }
 {
-    let mut tables = [0i32; 1404];
+    let mut tables = [0i32; 830];
     put_macroblock_codes(&mut tables);
     put_block_codes(&mut tables);
     let matrices = widened(intra_matrix, other_matrix);

@@ -1,34 +1,27 @@
-use mathlib.Core.Path.{_≡_, refl}
+use mathlib.Core.List.{List}
 use native.Mathlib.Omega.{arith}
-use lib.ListN.{length}
 use borrow.Author.Needs.{needs}
+use lib.IntN.{ℤ}
+use lib.ListN.{take, drop}
 use Rattle.codes.specs.Codes.{motion}
+use Rattle.codes.specs.Lent.{Lent, Joined}
 use Rattle.codes.specs.Tables.{motionIndex, motionValue}
 use Rattle.codes.proofs.Good.{good-motion}
+use Rattle.codes.proofs.Joined.{joined-good}
 use Rattle.codes.proofs.Parts.{places, lent-part}
 use Rattle.codes.proofs.codes.read_motion.Statement.{statement}
 use Rattle.codes.proofs.codes.read_motion.Tie as tie
 
-lengths : length motionValue ≡ length motionIndex
-unfolding motionIndex motionValue
-lengths = refl
-
-abbrev entry : tie.After-read-vlc-arg2 → tie.Start
-entry c = c .before .before .before .before
-
-read-vlc-requires : tie.Need-read-vlc-requires
-read-vlc-requires c κs =
-    let l = entry c .pre .1 in
-    (entry c .pre .0, rw (lent-part l 492 68 (omega arith) (places .vector .0), lent-part l 560 68 (omega arith) (places .vector .1)) (good-motion, lengths))
+here : {t : List ℤ} → Lent t → Joined motionIndex motionValue (take 68 (drop 246 t))
+unfolding motionValue
+here l = record { is = lent-part l 246 68 (omega arith) (places .vector); values = tt }
 
 returns : tie.Need-returns
 unfolding motion
-returns c =
-    let l = entry (c .before) .pre .1 in
-    rw (lent-part l 492 68 (omega arith) (places .vector .0), lent-part l 560 68 (omega arith) (places .vector .1)) at (c .read-vlc .ensures)
+returns c = c .read-vlc .ensures motionIndex motionValue (here (c .before .before .before .before .pre .1))
 
 pub read-motion-spec : {M : Type 1} → statement M
 read-motion-spec =
     tie.close
-    (tie.spec (λ c. search needs) (λ c. search needs) (λ c. search needs) (λ c. search needs) (λ c. search needs) (λ c. search needs)
-    read-vlc-requires returns)
+    (tie.spec (λ c. search needs) (λ c. search needs) (λ c. search needs)
+    (λ c κs. let s = c .before .before .before in (s .pre .0, joined-good (here (s .pre .1)) good-motion)) returns)

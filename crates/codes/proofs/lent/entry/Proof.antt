@@ -16,24 +16,24 @@ use Rattle.codes.proofs.lent.entry.Tie as tie
 
 -- the entry as the code reads it
 read-entry : {t : List ℤ} → Lent t → (intra t₀ : Bool) (place : ℕ) → intra ≡ t₀ → place < 64
-    → natAbs (reread w32 (getD t (cond t₀ 1276 1340 + place) (pos 0))) ≡ getD (matrixOf t intra) place 0
+    → natAbs (reread w32 (getD t (cond t₀ 702 766 + place) (pos 0))) ≡ getD (matrixOf t intra) place 0
 read-entry {t} l intra t₀ place e h =
-    ap natAbs (lent-byte l (cond t₀ 1276 1340) place (first t₀) .is) ∙ sym (matrix-at t t₀ place h)
+    ap natAbs (lent-byte l (cond t₀ 702 766) place (first t₀) .is) ∙ sym (matrix-at t t₀ place h)
     ∙ ap (λ (b : Bool). getD (matrixOf t b) place 0) (sym e)
   where
-    first : (b : Bool) → 1276 ≤ cond b 1276 1340
+    first : (b : Bool) → 702 ≤ cond b 702 766
     first true = omega arith
     first false = omega arith
 
 cast-result : tie.Need-cast-result
-cast-result c = let s = c .before .before in let b = lent-byte (s .pre .0) 1276 (s .args .place) (omega arith) in
+cast-result c = let s = c .before .before in let b = lent-byte (s .pre .0) 702 (s .args .place) (omega arith) in
     cast-unsigned (b .is) (omega (arith, b .bound))
 
 returns : tie.Need-returns
 returns c = let s = c .before .before in read-entry (s .pre .0) (s .args .intra) true (s .args .place) (c .before .if1 .taken) (s .pre .1)
 
 cast-result-2 : tie.Need-cast-result-2
-cast-result-2 c = let s = c .before .before in let b = lent-byte (s .pre .0) 1340 (s .args .place) (omega arith) in
+cast-result-2 c = let s = c .before .before in let b = lent-byte (s .pre .0) 766 (s .args .place) (omega arith) in
     cast-unsigned (b .is) (omega (arith, b .bound))
 
 returns-2 : tie.Need-returns-2

@@ -39,7 +39,7 @@ returns c =
     let x = c .before .before .before .before in
     let r = x .before .loop .inv in
     let ends = rw (toZ-ofZ (sfits-of (c .before .before .next .given))) at (c .if1 .taken) in
-    (reading (x .before .before .before .pre .0) (loop-end (r .2) (r-call _ (x .read-bit .ensures .runs) (r-yes _ ends r-done))), omega (arith, bit x))
+    (reading (x .before .before .before .pre .0) (loop-end (r .2) (r-call _ (x .read-bit .ensures .runs) (r-yes _ ends r-done))), (omega (arith, bit x), ends))
 
 -- where the bit is read from which the walk goes on, and the entry there
 abbrev read : tie.Else1 Inv-loop μ-loop → tie.After-read-bit Inv-loop μ-loop

@@ -15,13 +15,13 @@ use Rattle.tables.proofs.tables.tables_with.Statement.{statement}
 use Rattle.tables.proofs.tables.tables_with.Tie as tie
 
 -- the array behind the two parts
-fixed : (c : tie.After-put-block-codes) → Front (c .put-block-codes .last .0) 1276 (macroblockCodes ++ blockCodes)
+fixed : (c : tie.After-put-block-codes) → Front (c .put-block-codes .last .0) 702 (macroblockCodes ++ blockCodes)
 fixed c =
     let m = c .before .before in
-    let f = front-on macroblockCodes 0 492 (front-none {t = replicate 1404 (pos 0)} refl) macroblock-codes-length tt macroblock-codes-length
+    let f = front-on macroblockCodes 0 246 (front-none {t = replicate 830 (pos 0)} refl) macroblock-codes-length tt macroblock-codes-length
     (m .put-macroblock-codes .ensures) in
     let behind : ℕ → List ℤ = λ k. paste (m .put-macroblock-codes .last .0) k blockCodes (length blockCodes) in
-    front-on blockCodes 492 784 f block-codes-length tt block-codes-length (c .put-block-codes .ensures ∙ ap behind macroblock-codes-length)
+    front-on blockCodes 246 456 f block-codes-length tt block-codes-length (c .put-block-codes .ensures ∙ ap behind macroblock-codes-length)
 
 slice-aggregate-put : tie.Need-slice-aggregate-put
 slice-aggregate-put c = sym (fixed (c .before .before .before .before) .long)
@@ -42,7 +42,7 @@ returns c =
     let o = w .before .widened-arg2 .given .0 in
     let both = map pos intra ++ map pos other in
     let long : length both ≡ 128 = omega (arith, length-append (map pos intra) (map pos other), length-map pos intra, length-map pos other, i, o) in
-    let all = front-on both 1276 128 (fixed laid) long tt long (rw (w .widened .ensures) at (x .put .ensures)) in
+    let all = front-on both 702 128 (fixed laid) long tt long (rw (w .widened .ensures) at (x .put .ensures)) in
     front-all all ∙ sym (append-assoc fixedTables (map pos intra) (map pos other))
 
 pub tables-with-spec : {M : Type 1} → statement M
