@@ -74,7 +74,8 @@ module _ {ix vs t : List ℤ} (j : Joined ix vs t) where
   unfolding walk walkTurn
   walk-joined =
       ap (λ (n : ℕ). loop n (walkTurn t) 0 0) joined-long
-      ∙ ap (λ (f : ℕ → Prog (Turn ℕ ℕ)). loop (length ix) f 0 0) (fun-ext (λ at. ap (λ (f : ℕ → Prog (Turn ℕ ℕ)). bits 1 >>= f) (fun-ext (λ b. turns (at + b)))))
+      ∙ ap (λ (f : ℕ → Prog (Turn ℕ ℕ)). loop (length ix) f 0 0)
+      (fun-ext (λ at. ap (λ (f : ℕ → Prog (Turn ℕ ℕ)). bits 1 >>= f) (fun-ext (λ b. turns (at + b)))))
 
   -- the entry where it ends gives the value back
   pub value-joined : (k : ℕ) → k < length t → leZ (getD t k (pos 0)) (pos 0) ≡ true → getD t k (pos 0) +ℤ pos 65536 ≡ getD vs k (pos 0)

@@ -14,21 +14,23 @@ use Rattle.codes.specs.Tables.{dctSizeLuminanceIndex, dctSizeLuminanceVa
 use Rattle.codes.specs.Tables.{dctCoeffValue}
 use Rattle.codes.specs.Matrices.{zigZag, premultiplierMatrix}
 
--- RULES 2.1, 2.2: a code table of the indices ix and the values vs as it is lent. Only one of an entry's two is ever read: its index where that is above 0,
--- since the walk goes on there, else its value, which is lent less 65536, so that it is not above 0
+-- RULES 2.1, 2.2: an entry of a code table as it is lent, by its index i and its value v. Only one of the two is ever read: where the index is above 0 the
+-- walk goes on there, else it ends at the value, which is lent less 65536, so that it is not above 0
 abbrev pub joinedEntry : ℤ → ℤ → ℤ
 joinedEntry i v = cond (leZ i (pos 0)) (v -ℤ pos 65536) i
 
+-- the table of the indices ix and the values vs, as many entries as indices
 abbrev pub joined : List ℤ → List ℤ → List ℤ
 joined [] vs = []
 joined (i ∷ ix) [] = joinedEntry i (pos 0) ∷ joined ix []
 joined (i ∷ ix) (v ∷ vs) = joinedEntry i v ∷ joined ix vs
 
--- values that are not above 0 less 65536
+-- values below 65536 in size: as they are lent, they are below 0
 abbrev pub small : List ℤ → Bool
 small [] = true
 small (v ∷ vs) = leb (natAbs v) 65535 && small vs
 
+-- t is the table of ix and vs as it is lent
 pub record Joined (ix vs t : List ℤ) : Type 0 where
   pub is : t ≡ joined ix vs
   pub values : T (small vs)

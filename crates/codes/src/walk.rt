@@ -52,7 +52,7 @@ pub fn walk(s: &[u8], reader: Reader, index: &[i32]) -> Leaf
     }
 }
 
-// The value at the end of the walk through a code table as it is lent.
+// The value at the end of the walk through a code table as it is lent, less 65536: whatever indices ix and values vs it is made of.
 pub fn read_vlc(s: &[u8], reader: Reader, table: &[i32]) -> Vlc
     requires { ⌜ Inside (now s) reader ⌝ }
     requires { ⌜ Good (now table) ⌝ }

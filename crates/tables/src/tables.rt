@@ -53,7 +53,7 @@ fn put(tables: &mut [i32], at: usize, table: &[i32])
     }
 }
 
-// The entries from `first` up to `last` of the code table of these indices and values, which stands at `at`.
+// The entries from `first` up to `last` of a code table that stands at `at`: an index where the walk goes on, else a value less 65536.
 fn put_codes(tables: &mut [i32], at: usize, index: &[i32], value: &[i32], first: usize, last: usize)
     requires { ⌜ (first ≤ last) × (last ≤ length (now index)) × (length (now value) ≡ length (now index)) ⌝ }
     requires { ⌜ at + length (now index) ≤ length (now tables) ⌝ }
