@@ -1,5 +1,6 @@
-// Our calls, those of the archive of crates/mpeg1, on memory of their own.
+// Our calls, those of the archives of crates/mpeg1 and crates/count, on memory of their own.
 extern "C" {
+    fn mpeg1_count(stream: *const u8, n: usize, store: *mut u8, m: usize, pictures: *mut usize) -> u32;
     fn mpeg1_open(
         stream: *const u8,
         n: usize,
@@ -78,6 +79,15 @@ impl Ours {
         let (mut shown, mut time) = (0, 0.0);
         match unsafe { mpeg1_decode(stream.as_ptr(), stream.len(), s, m, n, 21, i, 73, q, 128, c, 4, &mut shown, &mut time) } {
             0 => Some(shown),
+            _ => None,
+        }
+    }
+
+    // Opening and all hand-outs in one call: how many pictures there were, if the stream ends with no more of them.
+    pub fn count(&mut self, stream: &[u8]) -> Option<usize> {
+        let mut pictures = 0;
+        match unsafe { mpeg1_count(stream.as_ptr(), stream.len(), self.store.as_mut_ptr(), self.store.len(), &mut pictures) } {
+            7 => Some(pictures),
             _ => None,
         }
     }

@@ -1,8 +1,9 @@
-// Times whole decoding: ours, the archive of crates/mpeg1, and the Rust on the same bytes in one process.
-// usage: whole ROUNDS FILE ..         ratios of the best processor times, the two in turn: opening and all hand-outs, and the hand-outs alone;
-//                                     and of conversions of the first picture of the first two files
-//        whole once KIND TIMES FILE   passes over the file, for a count of instructions; KIND is ours, rust, ours-opening, rust-opening,
-//                                     or none, which only reads the file and copies it
+// Times whole decoding: ours, the archives of crates/mpeg1 and crates/count, and the Rust on the same bytes in one process.
+// usage: whole ROUNDS FILE ..         ratios of the best processor times, the two in turn: opening and all hand-outs, with the record in our memory between
+//                                     the calls as a host has it; the hand-outs alone; and opening and all hand-outs as calls of `decoder`, the
+//                                     record by value, which is the Rust's way; and of conversions of the first picture of the first two files
+//        whole once KIND TIMES FILE   passes over the file, for a count of instructions; KIND is ours, calls, rust, ours-opening,
+//                                     rust-opening, or none, which only reads the file and copies it
 mod clock;
 mod ours;
 
@@ -60,6 +61,12 @@ fn ours(decoder: &mut Ours, bytes: Vec<u8>, all: bool) {
     black_box(decoder);
 }
 
+// The same of our calls with the record by value.
+fn calls(decoder: &mut Ours, bytes: Vec<u8>, pictures: usize) {
+    let bytes = black_box(bytes);
+    assert_eq!(black_box(decoder.count(&bytes)), Some(pictures), "the calls in one give other pictures");
+}
+
 // The time of a pass, in nanoseconds, from so many of them, each with a copy of the bytes that is made before: the clock is read twice for all of them.
 fn timed(stream: &[u8], times: usize, mut pass: impl FnMut(Vec<u8>)) -> f64 {
     let copies = vec![stream.to_vec(); times];
@@ -76,16 +83,18 @@ fn measure(name: &str, stream: &[u8], rounds: usize) {
     let mut decoder = Ours::new();
     // passes that take 20 ms together, if one takes less
     let times = (2e7 / timed(stream, 1, |bytes| rust(bytes, true))).clamp(1.0, 10_000.0) as usize;
-    let mut best = [f64::MAX; 4];
+    let pictures = first.pictures as usize;
+    let mut best = [f64::MAX; 5];
     for _ in 0..rounds {
         best[1] = best[1].min(timed(stream, times, |bytes| rust(bytes, true)));
         best[0] = best[0].min(timed(stream, times, |bytes| ours(&mut decoder, bytes, true)));
         best[3] = best[3].min(timed(stream, times, |bytes| rust(bytes, false)));
         best[2] = best[2].min(timed(stream, times, |bytes| ours(&mut decoder, bytes, false)));
+        best[4] = best[4].min(timed(stream, times, |bytes| calls(&mut decoder, bytes, pictures)));
     }
     let file = name.rsplit('/').next().unwrap_or(name);
     let (whole, alone) = (ratio("all", best[0], best[1]), ratio("hand-outs alone", best[0] - best[2], best[1] - best[3]));
-    println!("{file:<16} {:>7} bytes {:>3} pictures   {whole}   {alone}", stream.len(), first.pictures);
+    println!("{file:<16} {:>7} bytes {pictures:>3} pictures   {whole}   {alone}   {}", stream.len(), ratio("by value", best[4], best[1]));
 }
 
 // The conversion of the first picture to an area of w by h, in nanoseconds a pixel.
@@ -109,6 +118,7 @@ fn once(kind: &str, times: usize, stream: &[u8]) {
     for bytes in vec![stream.to_vec(); times] {
         match kind {
             "ours" => ours(&mut decoder, bytes, true),
+            "calls" => drop(black_box(decoder.count(&black_box(bytes)))),
             "rust" => rust(bytes, true),
             "ours-opening" => ours(&mut decoder, bytes, false),
             "rust-opening" => rust(bytes, false),

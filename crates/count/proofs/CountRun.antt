@@ -1,0 +1,78 @@
+-- What a count says of the run of calls from an accepted opening (RULES R). A stream is one of bytes, as every slice that is lent is.
+use mathlib.Core.Path.{_≡_, refl, ap, subst, _∙_}
+use mathlib.Core.List.{List}
+use mathlib.Core.Logic.{⊎-elim}
+use Prim.Native.Nat.{ℕ, zero, suc, _+_, _*_, _/_, _≤_, _<_}
+use native.Mathlib.Nat.{eq-or-lt-of-le}
+use native.Mathlib.Omega.{arith}
+use lib.ListN.{length, getD}
+use Rattle.bits.specs.Programs.{many}
+use Rattle.decoder.specs.declared.answers.Opening.the-variants as O
+use Rattle.decoder.specs.declared.answers.Outcome.{Outcome}
+use Rattle.decoder.specs.declared.answers.Outcome.the-variants as H
+use Rattle.decoder.specs.Opening.{opening}
+use Rattle.decoder.specs.Turns.{Going}
+use Rattle.decoder.specs.Run.{begin, before, answer, pictureIn, handedOut}
+use Rattle.demands.proofs.Numbers.{hand-named}
+use Rattle.demands.proofs.After.{hand-after}
+use Rattle.demands.proofs.RunCall.{Between, few}
+use Rattle.demands.proofs.Run.{run-on, opening-begins, seven-for-good}
+use Rattle.count.specs.Count.{counts, countFrom, countOf, countsIn, CountsRun}
+use Rattle.count.proofs.Counting.{ready-short}
+
+-- the calls 0 .. n - 1 handed out a picture each
+record Handed (s : List ℕ) (x : Going) (n : ℕ) : Type 0 where
+  pictures : (k : ℕ) → k < n → pictureIn (answer s x k) ≡ 1
+  handed : handedOut s x n ≡ n
+
+module _ (s : List ℕ) (x : Going) (n : ℕ) (h : Handed s x n) (one : pictureIn (answer s x n) ≡ 1) where
+  one-more : Handed s x (suc n)
+  unfolding handedOut
+  one-more = record {
+    pictures = λ k p. ⊎-elim (λ (e : k ≡ n). rw e one) (λ (q : k < n). h .pictures k q) (eq-or-lt-of-le (omega arith));
+    handed = let z = h .handed in omega arith;
+  }
+
+module _ (s : List ℕ) (short : length s ≤ 16777216) (bytes : (k : ℕ) → getD s k 0 < 256) (x : Going) (begins : Between s x 0) where
+  -- RULES R.1: the fuel is more than the pictures that are left
+  from-run : (j n : ℕ) → Handed s x n → 8 * length s / 29 + 1 < n + j → CountsRun s x (countFrom j s n (before s x n .decoder) (before s x n .store))
+  unfolding countFrom before answer
+  from-run zero n h p =
+      let f = few s short bytes (run-on s short bytes begins n) in let z = h .handed in let no : ⊥ = omega arith in absurd no
+  from-run (suc j) n h p = go (answer s x n) refl (λ r. from-run j (suc n) r (omega arith))
+    where
+      next : Going
+      next = before s x (suc n)
+
+      go : (o : Outcome) → answer s x n ≡ o → (Handed s x (suc n) → CountsRun s x (countFrom j s (suc n) (next .decoder) (next .store)))
+          → CountsRun s x (elim o [ H.Picture i ↦ countFrom j s (n + 1) (next .decoder) (next .store) | H.Refused a ↦ counts a n (next .store) ])
+      go (H.Picture i) e r =
+          subst (λ (k : ℕ). CountsRun s x (countFrom j s k (next .decoder) (next .store))) (omega arith)
+          (r (one-more s x n h (ap pictureIn e)))
+      go (H.Refused a) e r = record {
+        pictures = h .pictures;
+        handed = h .handed;
+        ends = e;
+        number = let y = before s x n in hand-named (hand-after (y .decoder) s (y .store) a e);
+        stored = refl;
+      }
+
+-- ---- every stream and every store
+
+-- refused by opening: no picture, and the number is that of the refusal
+pub count-refused : (s l : List ℕ) (a : ℕ) → opening s l .answer ≡ O.Refused a → countsIn s l ≡ counts a 0 (opening s l .store)
+unfolding countOf
+count-refused s l a e = rw e refl
+
+module _ (s l : List ℕ) (bytes : (k : ℕ) → getD s k 0 < 256) (ready : opening s l .answer ≡ O.Ready) where
+  -- RULES R: the count is that of the run
+  pub count-runs : CountsRun s (begin s l) (countsIn s l)
+  unfolding countOf before handedOut
+  count-runs =
+      let h = ready-short s l ready in
+      rw ready
+      (from-run s h bytes (begin s l) (opening-begins s h bytes l) many 0 (record { pictures = λ k p. omega arith; handed = refl }) (omega arith))
+
+  -- RULES R.2: behind 7 no call hands out a picture
+  pub count-all : countsIn s l .answer ≡ 7 → (k : ℕ) → answer s (begin s l) (countsIn s l .pictures + k) ≡ H.Refused 7
+  count-all e k = seven-for-good s l bytes (countsIn s l .pictures) k (count-runs .ends ∙ ap H.Refused e)

@@ -1,0 +1,48 @@
+-- RULES R: how many pictures a stream hands out, and the number that ends the calls.
+use mathlib.Core.Path.{_≡_}
+use mathlib.Core.Bool.{true}
+use mathlib.Core.List.{List}
+use Prim.Native.Nat.{ℕ, zero, suc, _+_, _<_}
+use Rattle.bits.specs.Programs.{many}
+use Rattle.decoder.specs.declared.record.Decoder.{Decoder}
+use Rattle.decoder.specs.declared.answers.Opening.{Opening}
+use Rattle.decoder.specs.declared.answers.Opening.the-variants as O
+use Rattle.decoder.specs.declared.answers.Outcome.the-variants as H
+use Rattle.decoder.specs.Record.{Left}
+use Rattle.decoder.specs.Opening.{opening}
+use Rattle.decoder.specs.Turns.{Going}
+use Rattle.decoder.specs.HandOut.{handOut}
+use Rattle.decoder.specs.Run as Run
+use Rattle.demands.specs.Numbers.{among, handOutNumbers}
+
+-- what a count leaves: its answer, the pictures and the whole store
+pub record Counts : Type 0 where
+  pub answer : ℕ
+  pub pictures : ℕ
+  pub store : List ℕ
+
+abbrev pub counts : ℕ → ℕ → List ℕ → Counts
+counts answer pictures store = record { answer = answer; pictures = pictures; store = store }
+
+-- hand-outs up to the first number, with n pictures so far; the fuel is never spent (proofs/CountRun.antt)
+unfoldable pub countFrom : ℕ → List ℕ → ℕ → Decoder → List ℕ → Counts
+countFrom zero s n d l = counts 0 n l
+countFrom (suc fuel) s n d l =
+    let x = handOut d s l in
+    elim (x .answer) [ H.Picture p ↦ countFrom fuel s (n + 1) (x .decoder) (x .store) | H.Refused answer ↦ counts answer n (x .store) ]
+
+-- a number from opening ends it at once
+unfoldable pub countOf : List ℕ → Left Opening → Counts
+countOf s x = elim (x .answer) [ O.Ready ↦ countFrom many s 0 (x .decoder) (x .store) | O.Refused answer ↦ counts answer 0 (x .store) ]
+
+abbrev pub countsIn : List ℕ → List ℕ → Counts
+countsIn s l = countOf s (opening s l)
+
+-- what a count says of the run of calls from x (decoder, Run.antt)
+pub record CountsRun (s : List ℕ) (x : Going) (c : Counts) : Type 0 where
+  -- the calls before the last one hand out a picture each, and that one answers with the number
+  pub pictures : (k : ℕ) → k < c .pictures → Run.pictureIn (Run.answer s x k) ≡ 1
+  pub handed : Run.handedOut s x (c .pictures) ≡ c .pictures
+  pub ends : Run.answer s x (c .pictures) ≡ H.Refused (c .answer)
+  pub number : among (c .answer) handOutNumbers ≡ true
+  pub stored : Run.before s x (suc (c .pictures)) .store ≡ c .store
