@@ -40,6 +40,12 @@ uint32_t mpeg1_decode(const uint8_t *stream, size_t stream_bytes, uint8_t *store
                       size_t *numbers, size_t numbers_count, int32_t *integers, size_t integers_count,
                       uint8_t *matrices, size_t matrices_count, double *clock, size_t clock_count, size_t *shown, double *time);
 
+/* Opens a stream and hands out all its pictures, with no record: how many are there, and by which number does it end? This one is in a library of its own,
+   target/staticlib/libcount.a, which `rt staticlib count` writes.
+   *pictures is how many were handed out, in every case. The answer is the first number that opening or a hand-out gives: 7 where all pictures
+   were handed out; 1 and 3 to 6 as in mpeg1_open, with no picture; 8 and 9 as in mpeg1_decode. The store is left as those calls leave it. */
+uint32_t mpeg1_count(const uint8_t *stream, size_t stream_bytes, uint8_t *store, size_t store_bytes, size_t *pictures);
+
 /* Writes the picture in store `index`, scaled, as width x height pixels 0xFFRRGGBB, row by row. The clock is not asked for.
    0: written. Else nothing is: 2 a part of the record is too short, or they hold no record; 6 the store is too short; 10 no header is
    accepted, or index is above 2; 11 a size is above 4096, or the area has fewer than width x height elements. */

@@ -167,6 +167,8 @@ static void list(const char *path)
     }
     printf("%s %zu 0 0 %u - -\n", name, handed, answer);
     expect(mpeg1_record_decode(&record, stream, bytes, other_store, room, &other_shown, &other_time) == answer, "the struct's last answer");
+    expect(mpeg1_count(stream, bytes, other_store, room, &other_shown) == answer && other_shown == handed, "the count");
+    expect(!memcmp(store, other_store, mpeg1_store_bytes(mpeg1_record_width(&record), mpeg1_record_height(&record))), "the store of the count");
     memset(&before, 0x5a, sizeof before);
     expect(!memcmp(m.numbers + 21, before.numbers + 21, sizeof(size_t) * MORE) && !memcmp(m.integers + 73, before.integers + 73, sizeof(int32_t) * MORE)
                && !memcmp(m.matrices + 128, before.matrices + 128, MORE) && !memcmp(m.clock + 4, before.clock + 4, sizeof(double) * MORE),
