@@ -1,21 +1,27 @@
 -- What a count says of the run of calls from an accepted opening (RULES R). A stream is one of bytes, as every slice that is lent is.
-use mathlib.Core.Path.{_≡_, refl, ap, subst, _∙_}
-use mathlib.Core.List.{List}
-use mathlib.Core.Logic.{⊎-elim}
+use mathlib.Core.Path.{_≡_, refl, sym, ap, subst, _∙_}
+use mathlib.Core.Bool.{true, false≢true}
+use mathlib.Core.List.{List, [], _∷_}
+use mathlib.Core.Logic.{_⊎_, inl, inr, ⊎-elim}
 use Prim.Native.Nat.{ℕ, zero, suc, _+_, _*_, _/_, _≤_, _<_}
 use native.Mathlib.Nat.{eq-or-lt-of-le}
 use native.Mathlib.Omega.{arith}
 use lib.ListN.{length, getD}
 use Rattle.bits.specs.Programs.{many}
+use Rattle.decoder.specs.declared.record.Decoder.{Decoder}
 use Rattle.decoder.specs.declared.answers.Opening.the-variants as O
 use Rattle.decoder.specs.declared.answers.Outcome.{Outcome}
 use Rattle.decoder.specs.declared.answers.Outcome.the-variants as H
+use Rattle.decoder.specs.Record.{Left}
+use Rattle.decoder.specs.Headers.{accepted}
 use Rattle.decoder.specs.Opening.{opening}
-use Rattle.decoder.specs.Turns.{Going}
-use Rattle.decoder.specs.Run.{begin, before, answer, pictureIn, handedOut}
-use Rattle.demands.proofs.Numbers.{hand-named}
-use Rattle.demands.proofs.After.{hand-after}
-use Rattle.demands.proofs.RunCall.{Between, few}
+use Rattle.decoder.specs.Turns.{Going, going, Ended, gave, stopped}
+use Rattle.decoder.specs.HandOut.{pictures, ended}
+use Rattle.decoder.specs.Run.{call, begin, before, answer, pictureIn, handedOut}
+use Rattle.demands.specs.Numbers.{among}
+use Rattle.demands.proofs.After.{opening-ready}
+use Rattle.demands.proofs.RunTurns.{Ends, seven, stops, pictures-row}
+use Rattle.demands.proofs.RunCall.{Between, waiting, live, stuck, marked, keeps-call, stuck-call, marked-call, few}
 use Rattle.demands.proofs.Run.{run-on, opening-begins, seven-for-good}
 use Rattle.count.specs.Count.{counts, countFrom, countOf, countsIn, CountsRun}
 use Rattle.count.proofs.Counting.{ready-short}
@@ -33,7 +39,40 @@ module _ (s : List ℕ) (x : Going) (n : ℕ) (h : Handed s x n) (one : pictureI
     handed = let z = h .handed in omega arith;
   }
 
-module _ (s : List ℕ) (short : length s ≤ 16777216) (bytes : (k : ℕ) → getD s k 0 < 256) (x : Going) (begins : Between s x 0) where
+-- ---- the number
+
+-- the numbers of a record with a header
+abbrev Ending : Outcome → Type 0
+Ending o = elim o [ H.Picture i ↦ Unit {0} | H.Refused a ↦ among a (7 ∷ 8 ∷ 9 ∷ []) ≡ true ]
+
+mark-ending : {n : ℕ} → (n ≡ 8) ⊎ (n ≡ 9) → Ending (H.Refused n)
+unfolding among
+mark-ending (inl e) = rw e refl
+mark-ending (inr e) = rw e refl
+
+ended-ending : (s : List ℕ) (d : Decoder) (n : ℕ) (e : Ended) → Ends s n e → Ending (ended d e .answer)
+unfolding ended among
+ended-ending s d n (gave (H.Picture i) x m) r = tt
+ended-ending s d n (gave (H.Refused i) x m) (seven j e u) = refl
+ended-ending s d n (stopped i m) (stops e) = mark-ending e
+
+module _ (s : List ℕ) (short : length s ≤ 16777216) (bytes : (k : ℕ) → getD s k 0 < 256) where
+  abbrev Ends-with : Left Outcome → Type 0
+  Ends-with r = Ending (r .answer)
+
+  call-ending : {x : Going} {n : ℕ} → Between s x n → (n ≡ 0 → x .decoder .sequence .«has_sequence_header» ≡ true) → Ends-with (call s x)
+  unfolding among
+  call-ending (waiting k q) h = absurd (false≢true (sym (k .header) ∙ h q))
+  call-ending {x} (live k q) h =
+      let d = x .decoder in let l = x .store in
+      subst Ends-with (sym (keeps-call s short d l k)) (ended-ending s d (d .«frames_decoded») (pictures s (going d l)) (pictures-row s short bytes d l k))
+  call-ending {x} (stuck k t q) h = subst Ends-with (sym (stuck-call s short (x .decoder) (x .store) k t)) refl
+  call-ending {x} (marked p m q) h = subst Ends-with (sym (marked-call s short (x .decoder) (x .store) p m)) (mark-ending m)
+
+-- ---- the run
+
+module _ (s : List ℕ) (short : length s ≤ 16777216) (bytes : (k : ℕ) → getD s k 0 < 256) (x : Going) (begins : Between s x 0)
+    (header : x .decoder .sequence .«has_sequence_header» ≡ true) where
   -- RULES R.1: the fuel is more than the pictures that are left
   from-run : (j n : ℕ) → Handed s x n → 8 * length s / 29 + 1 < n + j → CountsRun s x (countFrom j s n (before s x n .decoder) (before s x n .store))
   unfolding countFrom before answer
@@ -44,6 +83,9 @@ module _ (s : List ℕ) (short : length s ≤ 16777216) (bytes : (k : ℕ) → g
       next : Going
       next = before s x (suc n)
 
+      first : n ≡ 0 → before s x n .decoder .sequence .«has_sequence_header» ≡ true
+      first q = rw q header
+
       go : (o : Outcome) → answer s x n ≡ o → (Handed s x (suc n) → CountsRun s x (countFrom j s (suc n) (next .decoder) (next .store)))
           → CountsRun s x (elim o [ H.Picture i ↦ countFrom j s (n + 1) (next .decoder) (next .store) | H.Refused a ↦ counts a n (next .store) ])
       go (H.Picture i) e r =
@@ -53,7 +95,7 @@ module _ (s : List ℕ) (short : length s ≤ 16777216) (bytes : (k : ℕ) → g
         pictures = h .pictures;
         handed = h .handed;
         ends = e;
-        number = let y = before s x n in hand-named (hand-after (y .decoder) s (y .store) a e);
+        number = subst Ending e (call-ending s short bytes (run-on s short bytes begins n) (λ q. first (sym (h .handed) ∙ q)));
         stored = refl;
       }
 
@@ -64,6 +106,10 @@ pub count-refused : (s l : List ℕ) (a : ℕ) → opening s l .answer ≡ O.Ref
 unfolding countOf
 count-refused s l a e = rw e refl
 
+ready-header : (s l : List ℕ) → opening s l .answer ≡ O.Ready → opening s l .decoder .sequence .«has_sequence_header» ≡ true
+unfolding accepted
+ready-header s l e = ap (λ (d : Decoder). d .sequence .«has_sequence_header») (opening-ready s l e .decoder)
+
 module _ (s l : List ℕ) (bytes : (k : ℕ) → getD s k 0 < 256) (ready : opening s l .answer ≡ O.Ready) where
   -- RULES R: the count is that of the run
   pub count-runs : CountsRun s (begin s l) (countsIn s l)
@@ -71,7 +117,8 @@ module _ (s l : List ℕ) (bytes : (k : ℕ) → getD s k 0 < 256) (ready : open
   count-runs =
       let h = ready-short s l ready in
       rw ready
-      (from-run s h bytes (begin s l) (opening-begins s h bytes l) many 0 (record { pictures = λ k p. omega arith; handed = refl }) (omega arith))
+      (from-run s h bytes (begin s l) (opening-begins s h bytes l) (ready-header s l ready) many 0
+      (record { pictures = λ k p. omega arith; handed = refl }) (omega arith))
 
   -- RULES R.2: behind 7 no call hands out a picture
   pub count-all : countsIn s l .answer ≡ 7 → (k : ℕ) → answer s (begin s l) (countsIn s l .pictures + k) ≡ H.Refused 7

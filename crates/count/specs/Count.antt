@@ -1,7 +1,7 @@
 -- RULES R: how many pictures a stream hands out, and the number that ends the calls.
 use mathlib.Core.Path.{_≡_}
 use mathlib.Core.Bool.{true}
-use mathlib.Core.List.{List}
+use mathlib.Core.List.{List, [], _∷_}
 use Prim.Native.Nat.{ℕ, zero, suc, _+_, _<_}
 use Rattle.bits.specs.Programs.{many}
 use Rattle.decoder.specs.declared.record.Decoder.{Decoder}
@@ -13,7 +13,7 @@ use Rattle.decoder.specs.Opening.{opening}
 use Rattle.decoder.specs.Turns.{Going}
 use Rattle.decoder.specs.HandOut.{handOut}
 use Rattle.decoder.specs.Run as Run
-use Rattle.demands.specs.Numbers.{among, handOutNumbers}
+use Rattle.demands.specs.Numbers.{among}
 
 -- what a count leaves: its answer, the pictures and the whole store
 pub record Counts : Type 0 where
@@ -44,5 +44,5 @@ pub record CountsRun (s : List ℕ) (x : Going) (c : Counts) : Type 0 where
   pub pictures : (k : ℕ) → k < c .pictures → Run.pictureIn (Run.answer s x k) ≡ 1
   pub handed : Run.handedOut s x (c .pictures) ≡ c .pictures
   pub ends : Run.answer s x (c .pictures) ≡ H.Refused (c .answer)
-  pub number : among (c .answer) handOutNumbers ≡ true
+  pub number : among (c .answer) (7 ∷ 8 ∷ 9 ∷ []) ≡ true
   pub stored : Run.before s x (suc (c .pictures)) .store ≡ c .store

@@ -35,8 +35,8 @@ fn hand_outs(stream: &[u8], store: &mut [u8]) -> Count
     }
 }
 
-// RULES R: opening and the hand-outs up to the first number, which is the answer: 1 to 9, and 7 where all pictures were handed out.
-// `pictures`: how many were handed out.
+// RULES R: opening and the hand-outs up to the first number, which is the answer: 1 or 3 to 6 from opening, 7 where all pictures were handed out, or
+// 8 or 9. `pictures`: how many were handed out.
 #[no_mangle]
 pub extern "C" fn mpeg1_count(stream: &[u8], store: &mut [u8], pictures: &mut usize) -> u32
     ensures { λ r. ⌜ counts r (now (pictures .exit)) (now (store .exit)) ≡ countsIn (now (stream .entry)) (now (store .entry)) ⌝ }
