@@ -71,16 +71,20 @@ answered : (d : Decoded) (a : Outcome) → let x = d .decode in let l = turn d .
     → left a (x .result .decoder) (x .last .1 .1 .0) ≡ handOut (l .decoder) (now (entry (at-open (turn d .before)) .args .stream)) (l .store)
 answered d a e = ap (λ (y : Outcome). left y (d .decode .result .decoder) (d .decode .last .1 .1 .0)) (sym e) ∙ d .decode .ensures
 
+-- where a refusal is answered
+abbrev refused : tie.After-outcome Inv-loop μ-loop → Decoded
+refused n = n .before .before .before .before .before
+
 same-length-2 : tie.Need-same-length-2 Inv-loop μ-loop
 same-length-2 c =
-    let d = c .before .before .before .before .before .before in
+    let d = refused (c .before) in
     let l = turn d in
     d .decode .kept .1 .1 .0 ∙ l .loop .inv .long ∙ at-open (l .before) .«open» .kept .1 .0
 
 returns-2 : tie.Need-returns-2 Inv-loop μ-loop
 returns-2 c =
     let n = c .before in
-    let d = n .before .before .before .before .before in
+    let d = refused n in
     let l = turn d in
     let o = at-open (l .before) in
     let s = entry o in

@@ -23,7 +23,10 @@ abbrev sized : tie.After-clear → tie.After-store-bytes
 sized k = k .before .before .before
 
 abbrev clear : tie.After-state-of → tie.After-clear
-clear x = let values = x .before .before .before .before .before .before .before .before in values .before .before .before
+clear x =
+    let lent = x .before .before .before .before in
+    let values = lent .before .before .before .before in
+    values .before .before .before
 
 -- the questions up to 5 are those that question 6 follows
 asks : (f : tie.After-ask-header) → let a = entry f .args in let r = f .ask-header .result in

@@ -11,12 +11,13 @@ returns c = shows-as (c .handed .ensures) (λ q mark left. shown-b (decoderOf q 
 returns-2 : tie.Need-returns-2
 returns-2 c =
     let i = c .before in
-    shows-as (c .handed2 .ensures) (λ q mark left. shown-held (decoderOf q mark (i .before .before .args .d) left) (ne-eqb _ _ (i .before .if1 .left)) (i .if2 .taken))
+    let d = i .before .before .args .d in
+    shows-as (c .handed2 .ensures) (λ q mark left. shown-held (decoderOf q mark d left) (ne-eqb _ _ (i .before .if1 .left)) (i .if2 .taken))
 
 returns-3 : tie.Need-returns-3
-returns-3 c = record {
-  is = λ q mark left. shown-first (decoderOf q mark (c .before .before .args .d) left) (ne-eqb _ _ (c .before .if1 .left)) (c .if2 .left);
-}
+returns-3 c =
+    let d = c .before .before .args .d in
+    record { is = λ q mark left. shown-first (decoderOf q mark d left) (ne-eqb _ _ (c .before .if1 .left)) (c .if2 .left) }
 
 pub shown-spec : {M : Type 1} → statement M
 shown-spec = tie.close (tie.spec (λ c κs. search needs) returns (λ c κs. search needs) returns-2 returns-3)

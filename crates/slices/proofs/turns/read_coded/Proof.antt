@@ -15,7 +15,9 @@ abbrev entry : tie.After-tables-with → tie.Start
 entry x = first x .before .before .before .before
 
 abbrev roles : tie.After-struct-told → tie.After-roles-of
-roles g = g .before .before .before .before .before .before .before
+roles g =
+    let during = g .before .before .before .before in
+    during .before .before .before
 
 -- the matrices are those among the tables
 lent : (x : tie.After-tables-with) → let a = entry x .args in Made (matrices (now (a .intra)) (now (a .other))) (x .tables-with .result)

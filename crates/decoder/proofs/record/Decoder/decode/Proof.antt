@@ -89,7 +89,10 @@ returns-5 c =
 
 -- where the state is taken out of the record
 abbrev roomy : tie.After-state-of → tie.Else5
-roomy x = let values = x .before .before .before .before .before .before .before .before in values .before
+roomy x =
+    let lent = x .before .before .before .before in
+    let values = lent .before .before .before .before in
+    values .before
 
 pictures-requires : tie.Need-pictures-requires
 pictures-requires c κs =
