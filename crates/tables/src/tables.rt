@@ -83,7 +83,7 @@ fn put_bytes(tables: &mut [i32], at: usize, table: &[u8])
     }
 }
 
-// Both matrices, the other behind that of intra blocks. One loop for the two: it stays a loop, and the compiler makes vectors of it.
+// Both matrices, the other behind that of intra blocks. One loop for the two: the compiler makes vectors of it, and single bytes of two loops.
 fn widened(intra_matrix: &[u8], other_matrix: &[u8]) -> [i32; 128]
     requires { ⌜ (length (now «intra_matrix») ≡ 64) × (length (now «other_matrix») ≡ 64) ⌝ }
     ensures { λ r. ⌜ r ≡ map pos (now («intra_matrix» .entry)) ++ map pos (now («other_matrix» .entry)) ⌝ }
