@@ -2,7 +2,7 @@
 use mathlib.Core.Path.{_≡_, refl, ap, sym, _∙_}
 use mathlib.Core.Bool.{Bool, true, cond}
 use mathlib.Core.List.{List, [], _∷_, map}
-use Prim.Native.Nat.{ℕ, zero, suc, _+_, _≤_, _<_}
+use Prim.Native.Nat.{ℕ, zero, suc, _+_, _%_, _≤_, _<_}
 use native.Mathlib.Omega.{arith}
 use lib.Dec.{T, leb, leb→le}
 use lib.IntN.{ℤ, pos, natAbs, _+ℤ_}
@@ -14,12 +14,12 @@ use Rattle.bits.specs.Runs.{Runs, Reading}
 use Rattle.bits.proofs.Rules.{r-call, r-done}
 use Rattle.bits.specs.declared.reader.Reader.{Reader}
 use mir.Facts.{and-yes}
-use mir.Syntax.{w32}
+use mir.Syntax.{w16, w32}
 use Rattle.laws.proofs.Ints.{reread}
 use Rattle.laws.proofs.Nums.{Num, num, rd}
 use Rattle.codes.specs.Codes.{macroblockAddressIncrement, macroblockTypeIntra, macroblockTypePredictive, macroblockTypeB}
 use Rattle.codes.specs.Codes.{codeBlockPattern, dctSizeLuminance, dctSizeChrominance, dctCoeff}
-use Rattle.codes.specs.Lent.{Lent, Joined, Naturals, joined, small, macroblockCodes, blockCodes, fixedTables, matrixOf}
+use Rattle.codes.specs.Lent.{Lent, Joined, lentValue, joined, all, short, macroblockCodes, blockCodes, fixedTables, matrixOf}
 use Rattle.codes.specs.Matrices.{zigZag, downFrom, diagonals, premultiplierMatrix}
 use Rattle.codes.specs.Tables.{macroblockAddressIncrementIndex, macroblockAddressIncrementValue, macroblockTypeIntraIndex, macroblockTypeIntraValue}
 use Rattle.codes.specs.Tables.{macroblockTypePredictiveIndex, macroblockTypePredictiveValue, macroblockTypeBIndex, macroblockTypeBValue}
@@ -31,7 +31,7 @@ use Rattle.codes.specs.Rule.{Good}
 use Rattle.codes.proofs.Good.{good-macroblock-address-increment, good-macroblock-type-intra, good-macroblock-type-predictive, good-macroblock-type-b}
 use Rattle.codes.proofs.Good.{good-code-block-pattern, good-dct-size-luminance, good-dct-size-chrominance, good-dct-coeff}
 use Rattle.codes.proofs.Entries.{natural}
-use Rattle.codes.proofs.Joined.{joined-good, joined-naturals, walk-joined, value-joined}
+use Rattle.codes.proofs.Joined.{short-at, natural-back, walk-joined, ends-joined, joined-good}
 use Rattle.codes.specs.Walk.{walk, vlc}
 
 -- ---- lists
@@ -63,9 +63,14 @@ back (x ∷ vs) = ap (λ (l : List ℕ). x ∷ l) (back vs)
 
 -- at the end of the walk a natural value is read
 pub natural-runs : {ix : List ℤ} (vs : List ℕ) {t : List ℤ} → Joined ix (map pos vs) t → {s : List ℕ} {a k e : ℕ} → Runs (walk t) s a k e → k < length t
-    → leZ (getD t k (pos 0)) (pos 0) ≡ true → Runs (vlc ix vs 0) s a (natAbs (getD t k (pos 0) +ℤ pos 65536)) e
+    → leZ (getD t k (pos 0)) (pos 0) ≡ true → Runs (vlc ix vs 0) s a (natAbs (getD t k (pos 0) +ℤ pos 81920) % 65536) e
 unfolding vlc
-natural-runs vs j {k = k} r h l = rw (ap natAbs (value-joined j k h l ∙ map-at pos vs 0 k)) (r-call _ (rw (walk-joined j) at r) r-done)
+natural-runs vs j {k = k} r h l =
+    let n = getD vs k 0 in
+    let is : getD (map pos vs) k (pos 0) ≡ pos n = map-at pos vs 0 k in
+    let most = rw is at (short-at (map pos vs) (j .values) k .most) in
+    rw (ap (λ (z : ℤ). natAbs (z +ℤ pos 81920) % 65536) (ends-joined j k h l ∙ ap lentValue is) ∙ natural-back n (omega arith))
+    (r-call _ (rw (walk-joined j) at r) r-done)
 
 -- ---- parts of the tables
 
@@ -73,7 +78,7 @@ natural-runs vs j {k = k} r h l = rw (ap natAbs (value-joined j k h l ∙ map-at
 pub record Natural (a n : ℕ) (index : List ℤ) (value : List ℕ) (code : Prog ℕ) : Type 0 where
   pub inside : T (leb (a + n) 702)
   pub part : take n (drop a fixedTables) ≡ joined index (map pos value)
-  pub values : T (small (map pos value))
+  pub values : T (all short (map pos value))
   pub good : Good index
   pub walks : vlc index value 0 ≡ code
 
@@ -132,18 +137,18 @@ module _ {t : List ℤ} (l : Lent t) where
     natural-code r = rw (p .walks) at (r index value here)
 
     -- what `read_natural` asks of its places and of the part there
-    pub natural-table : ((a ≤ a + n) × (a + n ≤ 830)) × (Good (take n (drop a t)) × Naturals (take n (drop a t)))
+    pub natural-table : ((a ≤ a + n) × (a + n ≤ 830)) × Good (take n (drop a t))
     natural-table =
         let most = leb→le (a + n) 702 (p .inside) in
-        ((omega arith, omega arith), (joined-good here (p .good), rw (here .is) (joined-naturals index value)))
+        ((omega arith, omega arith), joined-good here (p .good))
 
 -- an entry behind the fixed tables is a byte
 pub lent-byte : {t : List ℤ} → Lent t → (a i : ℕ) → 702 ≤ a
-    → Num (reread w32 (getD t (a + i) (pos 0))) (pos (natAbs (getD t (a + i) (pos 0)))) 255
+    → Num (reread w16 (getD t (a + i) (pos 0))) (pos (natAbs (getD t (a + i) (pos 0)))) 255
 lent-byte {t} l a i h =
     let z = getD t (a + i) (pos 0) in
     let b = and-yes (nonNeg z) (leb (natAbs z) 255) (l .bytes (a + i) (omega arith)) in
-    let n = rd w32 (num {s = z} (leb→le (natAbs z) 255 (b .1))) tt in
+    let n = rd w16 (num {s = z} (leb→le (natAbs z) 255 (b .1))) tt in
     record { is = n .is ∙ natural z (b .0); bound = n .bound }
 
 -- and one of the matrices
@@ -152,9 +157,11 @@ unfolding matrixOf
 matrix-at t intra i h = let a : ℕ = cond intra 702 766 in map-at natAbs (take 64 (drop a t)) (pos 0) i ∙ ap natAbs (part-at a 64 i t (pos 0) h)
 
 -- the zig-zag order and the premultipliers
-pub place-at : {t : List ℤ} → Lent t → (n : ℕ) → n < 64 → Num (reread w32 (getD t (574 + n) (pos 0))) (pos (getD zigZag n 0)) 63
+pub place-at : {t : List ℤ} → Lent t → (n : ℕ) → n < 64 → Num (reread w16 (getD t (574 + n) (pos 0))) (pos (getD zigZag n 0)) 63
 place-at l n h =
-    rw (lent-at l 574 64 n (omega arith) h (places .order) ∙ map-at pos zigZag 0 n) (rd w32 (num (omega (arith, zig-zag-inside n))) tt)
+    rw (lent-at l 574 64 n (omega arith) h (places .order) ∙ map-at pos zigZag 0 n) (rd w16 (num (omega (arith, zig-zag-inside n))) tt)
 
-pub premultiplier-at : {t : List ℤ} → Lent t → (n : ℕ) → n < 64 → reread w32 (getD t (638 + n) (pos 0)) ≡ getD premultiplierMatrix n (pos 0)
-premultiplier-at l n h = rw (lent-at l 638 64 n (omega arith) h (places .premultipliers)) (rd w32 (num (premultiplier-small n)) tt .is)
+-- which are read as numbers of 32 bits
+pub premultiplier-at : {t : List ℤ} → Lent t → (n : ℕ) → n < 64 → reread w32 (reread w16 (getD t (638 + n) (pos 0))) ≡ getD premultiplierMatrix n (pos 0)
+premultiplier-at l n h =
+    rw (lent-at l 638 64 n (omega arith) h (places .premultipliers)) (rd w32 (rd w16 (num (premultiplier-small n)) tt) tt .is)

@@ -2,9 +2,9 @@
 use mathlib.Core.Path.{_≡_}
 use mathlib.Core.Bool.{Bool, true, cond, _&&_}
 use mathlib.Core.List.{List, [], _∷_, map, _++_}
-use Prim.Native.Nat.{ℕ, _≤_}
+use Prim.Native.Nat.{ℕ, _%_, _≤_}
 use lib.Dec.{T, leb}
-use lib.IntN.{ℤ, pos, natAbs, _+ℤ_, _-ℤ_}
+use lib.IntN.{ℤ, pos, natAbs, negℤ, _+ℤ_, _-ℤ_}
 use lib.ListN.{getD, take, drop}
 use lib.Signed.{leZ, nonNeg}
 use Rattle.codes.specs.Tables.{macroblockAddressIncrementIndex, macroblockAddressIncrementValue, macroblockTypeIntraIndex, macroblockTypeIntraValue}
@@ -14,10 +14,14 @@ use Rattle.codes.specs.Tables.{dctSizeLuminanceIndex, dctSizeLuminanceVa
 use Rattle.codes.specs.Tables.{dctCoeffValue}
 use Rattle.codes.specs.Matrices.{zigZag, premultiplierMatrix}
 
+-- RULES 2.1: a value of a code table as it is lent: 16 bits of it, moved below 0
+abbrev pub lentValue : ℤ → ℤ
+lentValue v = pos (natAbs (v +ℤ pos 49152) % 65536) -ℤ pos 65536
+
 -- RULES 2.1, 2.2: an entry of a code table as it is lent, by its index i and its value v. Only one of the two is ever read: where the index is above 0 the
--- walk goes on there, else it ends at the value, which is lent less 65536, so that it is not above 0
+-- walk goes on there, else it ends at the value
 abbrev pub joinedEntry : ℤ → ℤ → ℤ
-joinedEntry i v = cond (leZ i (pos 0)) (v -ℤ pos 65536) i
+joinedEntry i v = cond (leZ i (pos 0)) (lentValue v) i
 
 -- the table of the indices ix and the values vs, as many entries as indices
 abbrev pub joined : List ℤ → List ℤ → List ℤ
@@ -25,19 +29,22 @@ joined [] vs = []
 joined (i ∷ ix) [] = joinedEntry i (pos 0) ∷ joined ix []
 joined (i ∷ ix) (v ∷ vs) = joinedEntry i v ∷ joined ix vs
 
--- values below 65536 in size: as they are lent, they are below 0
-abbrev pub small : List ℤ → Bool
-small [] = true
-small (v ∷ vs) = leb (natAbs v) 65535 && small vs
+abbrev pub all : (ℤ → Bool) → List ℤ → Bool
+all p [] = true
+all p (x ∷ xs) = p x && all p xs
+
+-- an index, and a value that is read with its sign
+abbrev pub near : ℤ → Bool
+near x = leb (natAbs x) 16383
+
+-- a value that is lent as a number of 16 bits
+abbrev pub short : ℤ → Bool
+short v = leZ (negℤ (pos 16384)) v && (leZ v (pos 65535) && leb 32768 (natAbs (v +ℤ pos 49152) % 65536))
 
 -- t is the table of ix and vs as it is lent
 pub record Joined (ix vs t : List ℤ) : Type 0 where
   pub is : t ≡ joined ix vs
-  pub values : T (small vs)
-
--- no value of the table that is lent as t is below 0
-pub record Naturals (t : List ℤ) : Type 0 where
-  pub each : (k : ℕ) → T (nonNeg (getD t k (pos 0) +ℤ pos 65536))
+  pub values : T (all short vs)
 
 -- RULES 2.1: the tables of the codes that a macroblock begins with: increments, types, patterns
 unfoldable pub macroblockCodes : List ℤ

@@ -7,7 +7,7 @@ ghost use lib.ListN.{getD};
 ghost use Rattle.codes.specs.Lent.{Lent, matrixOf};
 ghost use Rattle.codes.specs.Matrices.{zigZag, premultiplierMatrix};
 
-pub type Tables = [i32; 830];
+pub type Tables = [i16; 830];
 
 pub const INCREMENT: usize = 0;
 
@@ -49,7 +49,7 @@ pub fn premultiplier(tables: &Tables, place: usize) -> i32
     requires { ⌜ place < 64 ⌝ }
     ensures { λ r. ⌜ r ≡ getD premultiplierMatrix place (pos 0) ⌝ }
 {
-    tables[PREMULTIPLIERS + place]
+    tables[PREMULTIPLIERS + place] as i32
 }
 
 // The entry at this place of the matrix for intra blocks, or of the other.

@@ -4,11 +4,12 @@ ghost use mathlib.Core.Path.{_≡_};
 ghost use mathlib.Core.Bool.{true};
 ghost use mathlib.Core.List.{List, map};
 ghost use Prim.Native.Nat.{ℕ, _<_};
+ghost use lib.Dec.{T};
 ghost use lib.ListN.{length, getD};
 ghost use lib.IntN.{ℤ, pos};
 ghost use lib.Signed.{leZ};
 ghost use Rattle.bits.specs.Runs.{Inside, Reading};
-ghost use Rattle.codes.specs.Lent.{Joined, Naturals};
+ghost use Rattle.codes.specs.Lent.{Joined, all, near};
 ghost use Rattle.codes.specs.Rule.{Good};
 ghost use Rattle.codes.specs.Walk.{walk, vlc};
 
@@ -28,7 +29,7 @@ pub struct VlcUint {
     pub value: u32,
 }
 
-pub fn walk(s: &[u8], reader: Reader, index: &[i32]) -> Leaf
+pub fn walk(s: &[u8], reader: Reader, index: &[i16]) -> Leaf
     requires { ⌜ Inside (now s) reader ⌝ }
     requires { ⌜ Good (now index) ⌝ }
     ensures { λ r. ⌜ Reading (walk (now (index .entry))) (now (s .entry)) reader (r .place) (r .reader) ⌝ }
@@ -52,16 +53,18 @@ pub fn walk(s: &[u8], reader: Reader, index: &[i32]) -> Leaf
     }
 }
 
-// The value at the end of the walk through a code table as it is lent, less 65536: whatever indices ix and values vs it is made of.
-pub fn read_vlc(s: &[u8], reader: Reader, table: &[i32]) -> Vlc
+// The value at the end of the walk through a code table as it is lent, with its sign: whatever indices ix and values vs it is made of.
+pub fn read_vlc(s: &[u8], reader: Reader, table: &[i16]) -> Vlc
     requires { ⌜ Inside (now s) reader ⌝ }
     requires { ⌜ Good (now table) ⌝ }
-    ensures { λ r. ⌜ ((ix vs : List ℤ) → Joined ix vs (now (table .entry)) → Reading (vlc ix vs (pos 0)) (now (s .entry)) reader (r .value) (r .reader)) ⌝ }
+    ensures { λ r. ⌜ ((ix vs : List ℤ) → Joined ix vs (now (table .entry)) → T (all near vs)
+        → Reading (vlc ix vs (pos 0)) (now (s .entry)) reader (r .value) (r .reader)) ⌝ }
 {
     let leaf = walk(s, reader, table);
     let after = leaf.reader;
     let place = leaf.place;
-    let found = table[place] + 65536;
+    let entry = table[place] as i32;
+    let found = entry + 16384;
     Vlc {
         reader: after,
         value: found,
@@ -69,17 +72,17 @@ pub fn read_vlc(s: &[u8], reader: Reader, table: &[i32]) -> Vlc
 }
 
 // The same for a table whose values are natural numbers.
-pub fn read_vlc_uint(s: &[u8], reader: Reader, table: &[i32]) -> VlcUint
+pub fn read_vlc_uint(s: &[u8], reader: Reader, table: &[i16]) -> VlcUint
     requires { ⌜ Inside (now s) reader ⌝ }
     requires { ⌜ Good (now table) ⌝ }
-    requires { ⌜ Naturals (now table) ⌝ }
     ensures { λ r. ⌜ ((ix : List ℤ) (vs : List ℕ) → Joined ix (map pos vs) (now (table .entry))
         → Reading (vlc ix vs 0) (now (s .entry)) reader (r .value) (r .reader)) ⌝ }
 {
     let leaf = walk(s, reader, table);
     let after = leaf.reader;
     let place = leaf.place;
-    let found = (table[place] + 65536) as u32;
+    let entry = table[place] as i32;
+    let found = (entry + 81920) as u32 % 65536;
     VlcUint {
         reader: after,
         value: found,

@@ -2,23 +2,61 @@
 use mathlib.Core.Path.{_≡_, refl, ap, sym, _∙_}
 use mathlib.Core.Bool.{Bool, true, false, cond}
 use mathlib.Core.List.{List, [], _∷_, map, _++_, append-assoc}
-use Prim.Native.Nat.{ℕ, zero, suc, _+_, _-_, _≤_, _<_}
+use Prim.Native.Nat.{ℕ, zero, suc, _+_, _-_, _%_, _≤_, _<_}
 use native.Mathlib.Numerals.{add-one}
 use native.Mathlib.Omega.{arith}
 use lib.Dec.{T, ltb, ltb→lt, leb, leb→le, le→leb}
-use lib.IntN.{ℤ, pos, natAbs}
+use lib.IntN.{ℤ, pos, natAbs, _+ℤ_, _-ℤ_}
 use lib.ListN.{length, getD, set, take, drop, length-set, length-append, length-take, length-drop}
 use lib.Seq.{take-append-add, drop-drop, drop-paste, set-append-left, take-set-lt, drop-set-lt, take-at, drop-at}
 use lib.Seq.{getD-append-add, getD-drop, take-all, take-paste, length-paste, paste-zero, paste-suc, paste}
+use lib.Signed.{leZ, nonNeg}
+use mir.Syntax.{w16, w32}
+use mir.Val.{SFits, Fits, toZ}
+use Rattle.laws.proofs.Ints.{up, dn, v, lit, _⊕_, _⊖_, Dif, back, reread, fits-by, cast-by, cast-is}
+use Rattle.laws.proofs.Bytes.{natural-num}
+use Rattle.laws.proofs.Nums.{Num, num, con, rd, fits, _⊟_}
 use Rattle.laws.proofs.Tables.{anywhere}
-use Rattle.codes.specs.Lent.{Lent, macroblockCodes, blockCodes, fixedTables, tablesWith, matrixOf, isByte}
+use Rattle.codes.specs.Lent.{lentValue, joinedEntry, all, near, Lent, macroblockCodes, blockCodes, fixedTables, tablesWith, matrixOf, isByte}
 use Rattle.codes.specs.Matrices.{zigZag, downFrom, diagonals, intraQuantMatrix, nonIntraQuantMatrix, premultiplierMatrix}
 use Rattle.codes.specs.Tables.{macroblockAddressIncrementIndex, macroblockAddressIncrementValue, macroblockTypeIntraIndex, macroblockTypeIntraValue}
 use Rattle.codes.specs.Tables.{macroblockTypePredictiveIndex, macroblockTypePredictiveValue, macroblockTypeBIndex, macroblockTypeBValue}
 use Rattle.codes.specs.Tables.{codeBlockPatternIndex, codeBlockPatternValue, motionIndex, motionValue}
 use Rattle.codes.specs.Tables.{dctSizeLuminanceIndex, dctSizeLuminanceValue, dctSizeChrominanceIndex, dctSizeChrominanceValue, dctCoeffIndex}
 use Rattle.codes.specs.Tables.{dctCoeffValue}
-use Rattle.codes.proofs.Parts.{length-map, back}
+use Rattle.codes.proofs.Joined.{near-at, low, Short}
+use Rattle.codes.proofs.Parts as Parts
+
+-- ---- entries as they are laid
+
+pub near-read : (xs : List ℤ) → T (all near xs) → (k : ℕ) → Num (reread w32 (getD xs k (pos 0))) (getD xs k (pos 0)) 16383
+near-read xs t k = rd w32 (num (near-at xs t k)) tt
+
+-- a value as the code computes what is lent of it
+module _ (x : ℤ) (s : Short x) where
+  read : Dif (reread w32 x) (up x) (dn x)
+  read = back (fits-by (v x) (omega (arith, s .most)) (omega (arith, s .least))) (v x)
+
+  pub raised-fits : SFits w32 (reread w32 x +ℤ pos 49152)
+  raised-fits = fits-by (read ⊕ lit 49152) (omega (arith, s .most)) (omega (arith, s .least))
+
+  pub raised-cast : let y = reread w32 (reread w32 x +ℤ pos 49152) in T (nonNeg y) × Fits w32 (natAbs y)
+  raised-cast = cast-by (back raised-fits (read ⊕ lit 49152)) (omega (arith, s .least)) (omega (arith, s .most))
+
+  pub raised-is : natAbs (reread w32 (reread w32 x +ℤ pos 49152)) ≡ natAbs (x +ℤ pos 49152)
+  raised-is =
+      cast-is (back raised-fits (read ⊕ lit 49152)) (omega (arith, s .least)) ∙ sym (cast-is (v x ⊕ lit 49152) (omega (arith, s .least)))
+
+  pub lent-value : Num (toZ w32 (natAbs (reread w32 (reread w32 x +ℤ pos 49152)) % 65536) -ℤ pos 65536) (lentValue x) 131071
+  lent-value = rw raised-is (natural-num w32 (low x) 65535 (omega arith) tt ⊟ con 65536)
+
+  -- an entry with this value has room in 16 bits
+  pub entry-fits : (i : ℤ) → natAbs i ≤ 16383 → SFits w16 (joinedEntry i x)
+  entry-fits i h = go (leZ i (pos 0))
+    where
+      go : (b : Bool) → SFits w16 (cond b (lentValue x) i)
+      go true = fits-by (lit (low x) ⊖ lit 65536) (omega arith) (omega (arith, s .half))
+      go false = fits w16 (num h) tt
 
 -- ---- the tables as they are made
 
@@ -70,53 +108,45 @@ paste-behind d at s n i v l h =
     ∙ ap (λ (x : List ℤ). x ++ drop (at + n) d) (set-append-left (take at d) (take n s) i v front)
     ∙ rw (take-set-lt at d i v l, drop-set-lt (at + n) d i v (omega arith))
 
--- a loop that copies two tables of 64 entries, one behind the other, has copied k entries of each
-pub record Beside (before first second now : List ℤ) (k : ℕ) : Type 0 where
+-- a loop that copies both matrices, one behind the other, has copied k entries of each
+pub record Beside (before intra other now : List ℤ) (k : ℕ) : Type 0 where
   pub most : k ≤ 64
-  pub is : now ≡ paste (paste before 0 first k) 64 second k
+  pub is : now ≡ paste (paste before 702 intra k) 766 other k
 
-module _ (before first second : List ℤ) where
-  pub beside-none : Beside before first second before 0
-  beside-none = record { most = omega arith; is = paste-zero before 0 first ∙ paste-zero (paste before 0 first 0) 64 second }
+module _ (before intra other : List ℤ) where
+  pub beside-none : Beside before intra other before 0
+  beside-none = record { most = omega arith; is = paste-zero before 702 intra ∙ paste-zero (paste before 702 intra 0) 766 other }
 
-  module _ (l : length before ≡ 128) (a : length first ≡ 64) (b : length second ≡ 64) (now : List ℤ) (k : ℕ) (c : Beside before first second now k) where
-    first-long : (n : ℕ) → n ≤ 64 → length (paste before 0 first n) ≡ 128
-    first-long n h = length-paste before 0 first n (omega arith) (omega arith) ∙ l
+  module _ (l : length before ≡ 830) (a : length intra ≡ 64) (b : length other ≡ 64) (now : List ℤ) (k : ℕ) (c : Beside before intra other now k) where
+    intra-long : (n : ℕ) → n ≤ 64 → length (paste before 702 intra n) ≡ 830
+    intra-long n h = length-paste before 702 intra n (omega arith) (omega arith) ∙ l
 
-    pub beside-long : length now ≡ 128
+    pub beside-long : length now ≡ 830
     beside-long =
-        let h = first-long k (c .most) in
-        ap length (c .is) ∙ length-paste (paste before 0 first k) 64 second k (omega (arith, c .most)) (omega (arith, c .most)) ∙ h
+        let h = intra-long k (c .most) in
+        ap length (c .is) ∙ length-paste (paste before 702 intra k) 766 other k (omega (arith, c .most)) (omega (arith, c .most)) ∙ h
 
     pub beside-one : k < 64
-        → Beside before first second (set (set now k (getD first k (pos 0))) (64 + k) (getD second k (pos 0))) (k + 1)
+        → Beside before intra other (set (set now (702 + k) (getD intra k (pos 0))) (766 + k) (getD other k (pos 0))) (k + 1)
     beside-one h =
-        let x = getD first k (pos 0) in
-        let y = getD second k (pos 0) in
-        let m = first-long k (c .most) in
-        let n = first-long (suc k) (omega arith) in
-        let zero-on : 0 + k ≡ k = omega arith in
+        let x = getD intra k (pos 0) in
+        let y = getD other k (pos 0) in
+        let m = intra-long k (c .most) in
+        let n = intra-long (suc k) (omega arith) in
         record {
           most = omega arith;
           is =
-              ap (λ (t : List ℤ). set (set t k x) (64 + k) y) (c .is)
-              ∙ ap (λ (t : List ℤ). set t (64 + k) y) (paste-behind (paste before 0 first k) 64 second k k x h (omega arith))
-              ∙ ap (λ (i : ℕ). set (paste (set (paste before 0 first k) i x) 64 second k) (64 + k) y) (sym zero-on)
-              ∙ ap (λ (t : List ℤ). set (paste t 64 second k) (64 + k) y) (paste-suc before 0 first k (pos 0) (omega arith) (omega arith))
-              ∙ paste-suc (paste before 0 first (suc k)) 64 second k (pos 0) (omega arith) (omega arith)
-              ∙ ap (λ (i : ℕ). paste (paste before 0 first i) 64 second i) (sym (add-one k));
+              ap (λ (t : List ℤ). set (set t (702 + k) x) (766 + k) y) (c .is)
+              ∙ ap (λ (t : List ℤ). set t (766 + k) y) (paste-behind (paste before 702 intra k) 766 other k (702 + k) x (omega arith) (omega arith))
+              ∙ ap (λ (t : List ℤ). set (paste t 766 other k) (766 + k) y) (paste-suc before 702 intra k (pos 0) (omega arith) (omega arith))
+              ∙ paste-suc (paste before 702 intra (suc k)) 766 other k (pos 0) (omega arith) (omega arith)
+              ∙ ap (λ (i : ℕ). paste (paste before 702 intra i) 766 other i) (sym (add-one k));
         }
 
-    pub beside-all : 64 ≤ k → now ≡ first ++ second
+    pub beside-all : 64 ≤ k → now ≡ paste (paste before 702 intra 64) 766 other 64
     beside-all h =
         let all : k ≡ 64 = omega (arith, c .most) in
-        let m = first-long 64 (omega arith) in
-        let e = c .is ∙ ap (λ (i : ℕ). paste (paste before 0 first i) 64 second i) all in
-        sym (take-all 128 now (omega (arith, beside-long)))
-        ∙ ap (take 128) e
-        ∙ take-paste (paste before 0 first 64) 64 second 64 (omega arith) (omega arith)
-        ∙ ap (λ (t : List ℤ). t ++ take 64 second) (take-paste before 0 first 64 (omega arith) (omega arith))
-        ∙ rw (take-all 64 first (omega arith), take-all 64 second (omega arith))
+        c .is ∙ ap (λ (i : ℕ). paste (paste before 702 intra i) 766 other i) all
 
 -- a table behind another
 paste-on : (t a b : List ℤ) (at n m : ℕ) → length a ≡ n → m ≤ length b → at + n + m ≤ length t
@@ -252,14 +282,14 @@ module _ (intra other : List ℕ) (i : Bytes64 intra) (o : Bytes64 other) where
   matrix-with true =
       ap (λ (l : List ℤ). map natAbs (take 64 (drop 702 l))) split
       ∙ ap (λ (l : List ℤ). map natAbs (take 64 l)) (drop-at fixedTables matrices 702 fixed-length)
-      ∙ ap (map natAbs) (take-at (map pos intra) (map pos other) 64 (length-map pos intra ∙ i .long))
-      ∙ back intra
+      ∙ ap (map natAbs) (take-at (map pos intra) (map pos other) 64 (Parts.length-map pos intra ∙ i .long))
+      ∙ Parts.back intra
   matrix-with false =
       let front : length (fixedTables ++ map pos intra) ≡ 766 =
-      omega (arith, length-append fixedTables (map pos intra), fixed-length, length-map pos intra, i .long) in
+      omega (arith, length-append fixedTables (map pos intra), fixed-length, Parts.length-map pos intra, i .long) in
       ap (λ (l : List ℤ). map natAbs (take 64 l)) (drop-at (fixedTables ++ map pos intra) (map pos other) 766 front)
-      ∙ ap (map natAbs) (take-all 64 (map pos other) (omega (arith, length-map pos other, o .long)))
-      ∙ back other
+      ∙ ap (map natAbs) (take-all 64 (map pos other) (omega (arith, Parts.length-map pos other, o .long)))
+      ∙ Parts.back other
 
 -- RULES 2.7: the default matrices, and the tables with them
 pub intra-bytes : Bytes64 intraQuantMatrix

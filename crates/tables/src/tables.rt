@@ -23,6 +23,7 @@ use codes::lent::INCREMENT;
 use codes::lent::INTRA_MATRIX;
 use codes::lent::LUMINANCE;
 use codes::lent::ORDER;
+use codes::lent::OTHER_MATRIX;
 use codes::lent::PATTERN;
 use codes::lent::PREMULTIPLIERS;
 use codes::lent::TYPE_B;
@@ -33,82 +34,85 @@ use codes::lent::VECTOR;
 use codes::matrices::PREMULTIPLIER_MATRIX;
 use codes::matrices::ZIG_ZAG;
 ghost use mathlib.Core.Path.{_≡_};
-ghost use mathlib.Core.List.{map, _++_};
+ghost use mathlib.Core.List.{map};
 ghost use Prim.Native.Nat.{_+_, _-_, _≤_};
 ghost use lib.Dec.{T};
 ghost use lib.IntN.{pos};
 ghost use lib.ListN.{length, drop};
 ghost use lib.Seq.{paste};
-ghost use Rattle.codes.specs.Lent.{joined, small, macroblockCodes, blockCodes, tablesWith};
+ghost use Rattle.codes.specs.Lent.{joined, all, near, short, macroblockCodes, blockCodes, tablesWith};
 
-fn put(tables: &mut [i32], at: usize, table: &[i32])
+fn put(tables: &mut [i16], at: usize, table: &[i32])
     requires { ⌜ at + length (now table) ≤ length (now tables) ⌝ }
+    requires { ⌜ T (all near (now table)) ⌝ }
     ensures { λ _. ⌜ now (tables .exit) ≡ paste (now (tables .entry)) at (now (table .entry)) (length (now (table .entry))) ⌝ }
 {
     let mut k: usize = 0;
     while k < table.len() {
-        let entry = table[k];
+        let entry = table[k] as i16;
         tables[at + k] = entry;
         k += 1;
     }
 }
 
-// The entries from `first` up to `last` of a code table that stands at `at`: an index where the walk goes on, else a value less 65536.
-fn put_codes(tables: &mut [i32], at: usize, index: &[i32], value: &[i32], first: usize, last: usize)
+// The entries from `first` up to `last` of a code table that stands at `at`: an index where the walk goes on, else 16 bits of a value, below 0.
+fn put_codes(tables: &mut [i16], at: usize, index: &[i32], value: &[i32], first: usize, last: usize)
     requires { ⌜ (first ≤ last) × (last ≤ length (now index)) × (length (now value) ≡ length (now index)) ⌝ }
     requires { ⌜ at + length (now index) ≤ length (now tables) ⌝ }
-    requires { ⌜ T (small (now value)) ⌝ }
+    requires { ⌜ T (all near (now index)) × T (all short (now value)) ⌝ }
     ensures { λ _. ⌜ now (tables .exit)
         ≡ paste (now (tables .entry)) (at + first) (drop first (joined (now (index .entry)) (now (value .entry)))) (last - first) ⌝ }
 {
     let mut k = first;
     while k < last {
         let next = index[k];
-        let found = value[k] - 65536;
+        let low = (value[k] + 49152) as u32 % 65536;
+        let found = low as i32 - 65536;
         let entry = if next <= 0 { found } else { next };
-        tables[at + k] = entry;
+        tables[at + k] = entry as i16;
         k += 1;
     }
 }
 
-fn put_bytes(tables: &mut [i32], at: usize, table: &[u8])
+fn put_bytes(tables: &mut [i16], at: usize, table: &[u8])
     requires { ⌜ at + length (now table) ≤ length (now tables) ⌝ }
     ensures { λ _. ⌜ now (tables .exit) ≡ paste (now (tables .entry)) at (map pos (now (table .entry))) (length (now (table .entry))) ⌝ }
 {
     let mut k: usize = 0;
     while k < table.len() {
-        let entry = table[k] as i32;
+        let entry = table[k] as i16;
         tables[at + k] = entry;
         k += 1;
     }
 }
 
 // Both matrices, the other behind that of intra blocks. One loop for the two: the compiler makes vectors of it, and single bytes of two loops.
-fn widened(intra_matrix: &[u8], other_matrix: &[u8]) -> [i32; 128]
+fn put_matrices(tables: &mut Tables, intra_matrix: &[u8], other_matrix: &[u8])
+    requires { ⌜ length (now tables) ≡ 830 ⌝ }
     requires { ⌜ (length (now «intra_matrix») ≡ 64) × (length (now «other_matrix») ≡ 64) ⌝ }
-    ensures { λ r. ⌜ r ≡ map pos (now («intra_matrix» .entry)) ++ map pos (now («other_matrix» .entry)) ⌝ }
+    ensures { λ _. ⌜ now (tables .exit)
+        ≡ paste (paste (now (tables .entry)) 702 (map pos (now («intra_matrix» .entry))) 64) 766 (map pos (now («other_matrix» .entry))) 64 ⌝ }
 {
-    let mut wide = [0i32; 128];
     let mut k: usize = 0;
     while k < 64 {
-        let intra = intra_matrix[k] as i32;
-        let other = other_matrix[k] as i32;
-        wide[k] = intra;
-        wide[64 + k] = other;
+        let intra = intra_matrix[k] as i16;
+        let other = other_matrix[k] as i16;
+        tables[INTRA_MATRIX + k] = intra;
+        tables[OTHER_MATRIX + k] = other;
         k += 1;
     }
-    wide
 }
 
-// The code tables of increments, types and patterns. A long one is laid in parts: the compiler makes constants of a loop of up to some 30 turns.
+// The code tables of increments, types and patterns. A long one is laid in parts: the compiler makes constants of a loop of up to some 25 turns.
 fn put_macroblock_codes(t: &mut Tables)
     ensures { λ _. ⌜ now (t .exit) ≡ paste (now (t .entry)) 0 macroblockCodes (length macroblockCodes) ⌝ }
 {
     let index = &MACROBLOCK_ADDRESS_INCREMENT_INDEX[..];
     let value = &MACROBLOCK_ADDRESS_INCREMENT_VALUE[..];
-    put_codes(t, INCREMENT, index, value, 0, 28);
-    put_codes(t, INCREMENT, index, value, 28, 56);
-    put_codes(t, INCREMENT, index, value, 56, 80);
+    put_codes(t, INCREMENT, index, value, 0, 24);
+    put_codes(t, INCREMENT, index, value, 24, 48);
+    put_codes(t, INCREMENT, index, value, 48, 72);
+    put_codes(t, INCREMENT, index, value, 72, 80);
     let index = &MACROBLOCK_TYPE_INTRA_INDEX[..];
     let value = &MACROBLOCK_TYPE_INTRA_VALUE[..];
     put_codes(t, TYPE_I, index, value, 0, 4);
@@ -120,11 +124,12 @@ fn put_macroblock_codes(t: &mut Tables)
     put_codes(t, TYPE_B, index, value, 0, 22);
     let index = &CODE_BLOCK_PATTERN_INDEX[..];
     let value = &CODE_BLOCK_PATTERN_VALUE[..];
-    put_codes(t, PATTERN, index, value, 0, 28);
-    put_codes(t, PATTERN, index, value, 28, 56);
-    put_codes(t, PATTERN, index, value, 56, 84);
-    put_codes(t, PATTERN, index, value, 84, 112);
-    put_codes(t, PATTERN, index, value, 112, 126);
+    put_codes(t, PATTERN, index, value, 0, 24);
+    put_codes(t, PATTERN, index, value, 24, 48);
+    put_codes(t, PATTERN, index, value, 48, 72);
+    put_codes(t, PATTERN, index, value, 72, 96);
+    put_codes(t, PATTERN, index, value, 96, 120);
+    put_codes(t, PATTERN, index, value, 120, 126);
 }
 
 // The code tables of vectors, DC sizes and coefficients, the zig-zag order and the premultipliers.
@@ -133,9 +138,9 @@ fn put_block_codes(t: &mut Tables)
 {
     let index = &MOTION_INDEX[..];
     let value = &MOTION_VALUE[..];
-    put_codes(t, VECTOR, index, value, 0, 28);
-    put_codes(t, VECTOR, index, value, 28, 56);
-    put_codes(t, VECTOR, index, value, 56, 68);
+    put_codes(t, VECTOR, index, value, 0, 24);
+    put_codes(t, VECTOR, index, value, 24, 48);
+    put_codes(t, VECTOR, index, value, 48, 68);
     let index = &DCT_SIZE_LUMINANCE_INDEX[..];
     let value = &DCT_SIZE_LUMINANCE_VALUE[..];
     put_codes(t, LUMINANCE, index, value, 0, 18);
@@ -144,14 +149,16 @@ fn put_block_codes(t: &mut Tables)
     put_codes(t, CHROMINANCE, index, value, 0, 18);
     let index = &DCT_COEFF_INDEX[..];
     let value = &DCT_COEFF_VALUE[..];
-    put_codes(t, COEFFICIENT, index, value, 0, 28);
-    put_codes(t, COEFFICIENT, index, value, 28, 56);
-    put_codes(t, COEFFICIENT, index, value, 56, 84);
-    put_codes(t, COEFFICIENT, index, value, 84, 112);
-    put_codes(t, COEFFICIENT, index, value, 112, 140);
-    put_codes(t, COEFFICIENT, index, value, 140, 168);
-    put_codes(t, COEFFICIENT, index, value, 168, 196);
-    put_codes(t, COEFFICIENT, index, value, 196, 224);
+    put_codes(t, COEFFICIENT, index, value, 0, 24);
+    put_codes(t, COEFFICIENT, index, value, 24, 48);
+    put_codes(t, COEFFICIENT, index, value, 48, 72);
+    put_codes(t, COEFFICIENT, index, value, 72, 96);
+    put_codes(t, COEFFICIENT, index, value, 96, 120);
+    put_codes(t, COEFFICIENT, index, value, 120, 144);
+    put_codes(t, COEFFICIENT, index, value, 144, 168);
+    put_codes(t, COEFFICIENT, index, value, 168, 192);
+    put_codes(t, COEFFICIENT, index, value, 192, 216);
+    put_codes(t, COEFFICIENT, index, value, 216, 224);
     put_bytes(t, ORDER, &ZIG_ZAG);
     put(t, PREMULTIPLIERS, &PREMULTIPLIER_MATRIX);
 }
@@ -160,10 +167,9 @@ fn put_block_codes(t: &mut Tables)
 pub fn tables_with(intra_matrix: &[u8; 64], other_matrix: &[u8; 64]) -> Tables
     ensures { λ r. ⌜ r ≡ tablesWith (now («intra_matrix» .entry)) (now («other_matrix» .entry)) ⌝ }
 {
-    let mut tables = [0i32; 830];
+    let mut tables = [0i16; 830];
     put_macroblock_codes(&mut tables);
     put_block_codes(&mut tables);
-    let matrices = widened(intra_matrix, other_matrix);
-    put(&mut tables, INTRA_MATRIX, &matrices);
+    put_matrices(&mut tables, intra_matrix, other_matrix);
     tables
 }

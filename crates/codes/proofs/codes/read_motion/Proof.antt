@@ -17,8 +17,8 @@ unfolding motionValue
 here l = record { is = lent-part l 246 68 (omega arith) (places .vector); values = tt }
 
 returns : tie.Need-returns
-unfolding motion
-returns c = c .read-vlc .ensures motionIndex motionValue (here (c .before .before .before .before .pre .1))
+unfolding motion motionValue
+returns c = c .read-vlc .ensures motionIndex motionValue (here (c .before .before .before .before .pre .1)) tt
 
 pub read-motion-spec : {M : Type 1} → statement M
 read-motion-spec =

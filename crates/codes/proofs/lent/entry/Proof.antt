@@ -6,7 +6,7 @@ use native.Mathlib.Omega.{arith}
 use borrow.Author.Needs.{needs}
 use lib.IntN.{ℤ, pos, natAbs}
 use lib.ListN.{getD}
-use mir.Syntax.{w32}
+use mir.Syntax.{w16}
 use Rattle.laws.proofs.Bytes.{cast-unsigned}
 use Rattle.laws.proofs.Ints.{reread}
 use Rattle.codes.specs.Lent.{Lent, matrixOf}
@@ -16,7 +16,7 @@ use Rattle.codes.proofs.lent.entry.Tie as tie
 
 -- the entry as the code reads it
 read-entry : {t : List ℤ} → Lent t → (intra t₀ : Bool) (place : ℕ) → intra ≡ t₀ → place < 64
-    → natAbs (reread w32 (getD t (cond t₀ 702 766 + place) (pos 0))) ≡ getD (matrixOf t intra) place 0
+    → natAbs (reread w16 (getD t (cond t₀ 702 766 + place) (pos 0))) ≡ getD (matrixOf t intra) place 0
 read-entry {t} l intra t₀ place e h =
     ap natAbs (lent-byte l (cond t₀ 702 766) place (first t₀) .is) ∙ sym (matrix-at t t₀ place h)
     ∙ ap (λ (b : Bool). getD (matrixOf t b) place 0) (sym e)

@@ -4,7 +4,7 @@ use Prim.Native.Nat.{_+_, _-_, _<_}
 use native.Mathlib.Omega.{arith}
 use lib.ListN.{length, getD}
 use lib.IntN.{ℤ, pos, natAbs}
-use mir.Syntax.{w32}
+use mir.Syntax.{w16}
 use mir.Facts.{toZ-ofZ}
 use denote.Ref.{now}
 use borrow.Author.Needs.{sfits-of}
@@ -50,11 +50,11 @@ entry c =
     let x = read c in
     getD (now (x .before .before .before .args .index)) (x .before .loop .at + x .read-bit .result .value) (pos 0)
 
-back : (c : tie.Else1 Inv-loop μ-loop) → reread w32 (entry c) ≡ entry c
+back : (c : tie.Else1 Inv-loop μ-loop) → reread w16 (entry c) ≡ entry c
 back c = toZ-ofZ (sfits-of (c .before .before .next .given))
 
 record Next (c : tie.Else1 Inv-loop μ-loop) : Type 0 where
-  is : reread w32 (entry c) ≡ pos (natAbs (entry c))
+  is : reread w16 (entry c) ≡ pos (natAbs (entry c))
   further : read c .before .loop .at < natAbs (entry c)
   inside : natAbs (entry c) + 1 < length (now (read c .before .before .before .args .index))
 

@@ -2,10 +2,11 @@
 use Prim.Native.Nat.{_-_}
 use native.Mathlib.Omega.{arith}
 use denote.Ref.{now}
-use borrow.Author.Needs.{needs, sfits-of}
+use borrow.Author.Needs.{needs}
 use lib.ListN.{length}
-use mir.Facts.{toZ-ofZ}
-use Rattle.tables.proofs.Made.{Copied, copied-none, copied-one, copied-all}
+use mir.Syntax.{w16}
+use Rattle.laws.proofs.Nums.{rd, fits}
+use Rattle.tables.proofs.Made.{near-read, Copied, copied-none, copied-one, copied-all}
 use Rattle.tables.proofs.tables.put.Statement.{statement}
 use Rattle.tables.proofs.tables.put.Tie as tie
 
@@ -19,8 +20,14 @@ loop-again : tie.Need-loop-again Inv-loop μ-loop
 loop-again c =
     let x = c .before .before in
     let a = x .before .args in
-    rw (toZ-ofZ (sfits-of (c .entry .given)))
-    (copied-one (now (a .tables)) (now (a .table)) (a .at) (x .loop .tables) (x .loop .k) (x .before .pre) (c .before .loop-test .taken) (x .loop .inv))
+    rw (rd w16 (near-read (now (a .table)) (x .before .pre .1) (x .loop .k)) tt .is)
+    (copied-one (now (a .tables)) (now (a .table)) (a .at) (x .loop .tables) (x .loop .k) (x .before .pre .0) (c .before .loop-test .taken) (x .loop .inv))
+
+cast-entry : tie.Need-cast-entry Inv-loop μ-loop
+cast-entry c =
+    let x = c .before .before in
+    let s = x .before in
+    fits w16 (near-read (now (s .args .table)) (s .pre .1) (x .loop .k)) tt
 
 returns : tie.Need-returns Inv-loop μ-loop
 returns c = let x = c .before in copied-all _ _ _ _ (x .loop .k) (c .loop-test .left) (x .loop .inv)
@@ -29,5 +36,5 @@ pub put-spec : {M : Type 1} → statement M
 put-spec =
     tie.close
     (tie.spec
-    Inv-loop μ-loop (λ c. copied-none _ _ _) (λ c. search needs) (λ c. search needs) (λ c. omega arith) (λ c. search needs) (λ c. omega arith)
+    Inv-loop μ-loop (λ c. copied-none _ _ _) (λ c. search needs) (λ c. search needs) cast-entry (λ c. omega arith) (λ c. search needs) (λ c. omega arith)
     (λ c. omega arith) (λ c. omega arith) loop-again (λ c. c .before .loop .inv .long) returns)

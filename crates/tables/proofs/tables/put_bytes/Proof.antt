@@ -6,7 +6,7 @@ use denote.Ref.{now}
 use borrow.Author.Needs.{needs}
 use lib.IntN.{pos}
 use lib.ListN.{length, getD}
-use mir.Syntax.{w32}
+use mir.Syntax.{w16}
 use mir.ValLaws.{toZ-pos}
 use Rattle.codes.proofs.Parts.{length-map, map-at}
 use Rattle.tables.proofs.Made.{Copied, copied-none, copied-one, copied-all}
@@ -29,7 +29,7 @@ loop-again c =
     let k = x .loop .k in
     let s = now (a .table) in
     let all = length-map pos s in
-    rw (toZ-pos w32 (getD s k 0) (omega (arith, c .shared-slice-known .given k)), ← map-at pos s 0 k)
+    rw (toZ-pos w16 (getD s k 0) (omega (arith, c .shared-slice-known .given k)), ← map-at pos s 0 k)
     (copied-one (now (a .tables)) (map pos s) (a .at) (x .loop .tables) k (omega arith) (omega arith) (x .loop .inv))
 
 returns : tie.Need-returns Inv-loop μ-loop

@@ -1,23 +1,23 @@
 -- The loop's invariant: the first k entries of both are copied.
-use mathlib.Core.Path.{refl, _∙_}
+use mathlib.Core.Path.{_∙_}
 use mathlib.Core.List.{map}
 use Prim.Native.Nat.{_-_}
 use native.Mathlib.Omega.{arith}
 use denote.Ref.{now}
 use lib.IntN.{pos}
-use lib.ListN.{getD, replicate}
-use mir.Syntax.{w32}
+use lib.ListN.{getD}
+use mir.Syntax.{w16}
 use mir.ValLaws.{toZ-pos}
 use Rattle.codes.proofs.Parts.{length-map, map-at}
 use Rattle.tables.proofs.Made.{Beside, beside-none, beside-one, beside-all}
-use Rattle.tables.proofs.tables.widened.Statement.{statement}
-use Rattle.tables.proofs.tables.widened.Tie as tie
+use Rattle.tables.proofs.tables.put_matrices.Statement.{statement}
+use Rattle.tables.proofs.tables.put_matrices.Tie as tie
 
 abbrev Inv-loop : tie.InvT-loop
-Inv-loop intra-matrix other-matrix wide₀ k₀ wide k = Beside (replicate 128 (pos 0)) (map pos intra-matrix) (map pos other-matrix) wide k
+Inv-loop tables₀ intra-matrix other-matrix k₀ tables k = Beside tables₀ (map pos intra-matrix) (map pos other-matrix) tables k
 
 abbrev μ-loop : tie.MeasureT-loop
-μ-loop intra-matrix other-matrix wide₀ k₀ wide k = 64 - k
+μ-loop tables₀ intra-matrix other-matrix k₀ tables k = 64 - k
 
 cast-intra : tie.Need-cast-intra Inv-loop μ-loop
 cast-intra c = record { sfits = omega (arith, c .shared-slice-known .given (c .before .before .loop .k)) }
@@ -33,13 +33,13 @@ loop-again c =
     let o = now (s .args .other-matrix) in
     let k = x .loop .k in
     rw (
-      toZ-pos w32 (getD i k 0) (omega (arith, c .before .shared-slice-known .given k)),
+      toZ-pos w16 (getD i k 0) (omega (arith, c .before .shared-slice-known .given k)),
       ← map-at pos i 0 k,
-      toZ-pos w32 (getD o k 0) (omega (arith, c .shared-slice-known2 .given k)),
+      toZ-pos w16 (getD o k 0) (omega (arith, c .shared-slice-known2 .given k)),
       ← map-at pos o 0 k,
     )
-    (beside-one (replicate 128 (pos 0)) (map pos i) (map pos o) refl (length-map pos i ∙ s .pre .0) (length-map pos o ∙ s .pre .1)
-    (x .loop .wide) k (x .loop .inv) (c .before .before .loop-test .taken))
+    (beside-one (now (s .args .tables)) (map pos i) (map pos o) (s .pre .0) (length-map pos i ∙ s .pre .1 .0) (length-map pos o ∙ s .pre .1 .1)
+    (x .loop .tables) k (x .loop .inv) (c .before .before .loop-test .taken))
 
 returns : tie.Need-returns Inv-loop μ-loop
 returns c =
@@ -47,12 +47,12 @@ returns c =
     let s = x .before in
     let i = now (s .args .intra-matrix) in
     let o = now (s .args .other-matrix) in
-    beside-all (replicate 128 (pos 0)) (map pos i) (map pos o) refl (length-map pos i ∙ s .pre .0) (length-map pos o ∙ s .pre .1)
-    (x .loop .wide) (x .loop .k) (x .loop .inv) (c .loop-test .left)
+    beside-all (now (s .args .tables)) (map pos i) (map pos o) (s .pre .0) (length-map pos i ∙ s .pre .1 .0) (length-map pos o ∙ s .pre .1 .1)
+    (x .loop .tables) (x .loop .k) (x .loop .inv) (c .loop-test .left)
 
-pub widened-spec : {M : Type 1} → statement M
-widened-spec =
+pub put-matrices-spec : {M : Type 1} → statement M
+put-matrices-spec =
     tie.close
     (tie.spec
     Inv-loop μ-loop (λ c. beside-none _ _ _) (λ c. omega arith) cast-intra (λ c. omega arith) cast-other (λ c. omega arith) (λ c. omega arith)
-    (λ c. omega arith) (λ c. omega arith) (λ c. omega arith) (λ c. omega arith) (λ c. omega arith) loop-again returns)
+    (λ c. omega arith) (λ c. omega arith) (λ c. omega arith) (λ c. omega arith) (λ c. omega arith) (λ c. omega arith) loop-again returns)
