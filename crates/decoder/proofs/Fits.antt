@@ -1,6 +1,6 @@
 -- Where a record fits: what question 2 asks for is enough, and the changes of the record keep it. Assumes nothing.
 use mathlib.Core.Path.{_≡_, refl, subst}
-use mathlib.Core.Bool.{true, _||_}
+use mathlib.Core.Bool.{Bool, true, false, _&&_, _||_, and-assoc, and-comm}
 use mathlib.Core.List.{List, [], _∷_}
 use Prim.Native.Nat.{ℕ, _≤_}
 use native.Mathlib.Omega.{arith}
@@ -11,8 +11,11 @@ use Rattle.laws.proofs.Tests.{each}
 use Rattle.bits.specs.declared.reader.Reader.{Reader}
 use Rattle.bits.specs.Programs.{Out, findStartCode}
 use Rattle.bits.specs.Runs.{Reading}
+use Rattle.codes.specs.Matrices.{bounded}
 use Rattle.picture.specs.declared.state.Matrices.{Matrices}
+use Rattle.picture.specs.declared.state.PictureState.{PictureState}
 use Rattle.picture.specs.Possible.{between, possiblePicture}
+use Rattle.picture.specs.Views.{pictureOf}
 use Rattle.picture.proofs.Possible.{picture-of}
 use Rattle.header.specs.Possible.{possibleSequence}
 use Rattle.header.specs.Sequences.{Size, Rest}
@@ -22,7 +25,7 @@ use Rattle.decoder.specs.Record.{place, fresh, searchedAs}
 use Rattle.decoder.specs.Possible.{possible}
 use Rattle.decoder.specs.Headers.{sized, accepted}
 use Rattle.decoder.specs.Fit.{Fit}
-use Rattle.decoder.specs.State.{stateOf, FitState}
+use Rattle.decoder.specs.State.{stateOf, stateOfPicture, FitState}
 use Rattle.decoder.proofs.Searches.{Sought, hit, miss, sought}
 use Rattle.decoder.proofs.Starts.{fresh-starts}
 
@@ -37,6 +40,19 @@ possible-parts d e =
     (possibleSequence (d .sequence) ∷ possiblePicture (d .picture) ∷ leb (d .«frames_decoded») 134217728 ∷
     (eqb (d .stop) 0 || eqb (d .stop) 8 || eqb (d .stop) 9) ∷ []) e in
     (leb-true _ _ (h 0), h 1, h 2, leb-true _ _ (h 3))
+
+-- the same, as the code joins them: the numbers before the rest, and the state of a picture apart from its coefficients
+numbers-first : (a f m q p : Bool) → (a && f && m && q && p) ≡ (a && q && p && f && m)
+numbers-first true f m q p = rw (and-assoc (f && m) q p, and-comm (f && m) (q && p), ← and-assoc (q && p) f m)
+numbers-first false f m q p = refl
+
+pub possible-by : (d : Decoder) (p : Bool) {n q l : Bool} {x : PictureState}
+    → n ≡ (leb (place d) 134217728 && leb (d .«frames_decoded») 134217728 && (eqb (d .stop) 0 || eqb (d .stop) 8 || eqb (d .stop) 9))
+    → q ≡ possibleSequence (d .sequence) → x ≡ stateOfPicture (d .picture) → ((left : List ℤ) → (p && bounded left) ≡ possiblePicture (pictureOf x left))
+    → l ≡ bounded (d .picture .slice .«block_data») → (n && q && (p && l)) ≡ possible d
+unfolding possible
+possible-by d p numbers sequence is state left =
+    rw (numbers, sequence, left, state (d .picture .slice .«block_data»), is, numbers-first (leb (place d) 134217728))
 
 pub fit-of : {d : Decoder} → possible d ≡ true → Fit d
 fit-of {d} e =

@@ -1,28 +1,42 @@
 // RULES Q2: is a record possible? The tests of its parts are joined by `&` and `|`: none of them needs another to be asked first.
+// A conversion and a hand-out ask it by a function each, with a body each: called from one place only, it is joined into its caller, which then
+// copies no record for it.
 use crate::record::Decoder;
+use crate::state::picture_state;
+use codes::matrices::bounded;
 use header::possible::possible_sequence;
-use picture::limits::possible_picture;
+use picture::limits::possible_state;
 ghost use mathlib.Core.Path.{_≡_};
+ghost use mathlib.Core.Bool.{_&&_, _||_};
+ghost use lib.Dec.{eqb, leb};
 ghost use Rattle.decoder.specs.Possible.{possible, possibleWith};
+
+// Position, count of pictures handed out, stop mark.
+fn possible_numbers(at: usize, frames_decoded: u32, stop: u32) -> bool
+    ensures { λ r. ⌜ r ≡ (leb at 134217728 && leb «frames_decoded» 134217728 && (eqb stop 0 || eqb stop 8 || eqb stop 9)) ⌝ }
+{
+    (at <= 134217728) & (frames_decoded <= 134217728) & ((stop == 0) | (stop == 8) | (stop == 9))
+}
 
 pub fn possible(d: Decoder) -> bool
     ensures { λ r. ⌜ r ≡ possible d ⌝ }
 {
-    let at = d.reader.at.0;
-    let frames_decoded = d.frames_decoded;
-    let stop = d.stop;
+    let values = d.picture.slice.block_data;
+    let left = bounded(&values);
+    let numbers = possible_numbers(d.reader.at.0, d.frames_decoded, d.stop);
     let sequence = possible_sequence(d.sequence);
-    let picture = possible_picture(d.picture);
-    (at <= 134217728)
-        & sequence
-        & picture
-        & (frames_decoded <= 134217728)
-        & ((stop == 0) | (stop == 8) | (stop == 9))
+    let state = possible_state(picture_state(d.picture));
+    numbers & sequence & (state & left)
 }
 
 // As a hand-out asks it, which has a stream.
 pub fn possible_with(s: &[u8], d: Decoder) -> bool
     ensures { λ r. ⌜ r ≡ possibleWith (now (s .entry)) d ⌝ }
 {
-    possible(d)
+    let values = d.picture.slice.block_data;
+    let left = bounded(&values);
+    let numbers = possible_numbers(d.reader.at.0, d.frames_decoded, d.stop);
+    let sequence = possible_sequence(d.sequence);
+    let state = possible_state(picture_state(d.picture));
+    numbers & sequence & (state & left)
 }

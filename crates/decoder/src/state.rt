@@ -21,7 +21,7 @@ pub struct DecoderState {
     pub frames_decoded: u32,
 }
 
-fn picture_state(p: Picture) -> PictureState
+pub fn picture_state(p: Picture) -> PictureState
     ensures { λ r. ⌜ r ≡ stateOfPicture p ⌝ }
 {
     let x = p.slice;
