@@ -41,11 +41,11 @@ not-whole g q number address f p Dropped l k = (refl, refl)
 not-whole g q number address f p Outside l k = (refl, refl)
 
 -- the matrix of a kind of blocks is the one among the tables
-matrix-for : (g : Setting) (t : List ℤ) (intra : Bool) → matrixFor (given g t) intra ≡ matrixOf t intra
+matrix-for : (g : Setting) (t : List ℕ) (intra : Bool) → matrixFor (given g t) intra ≡ matrixOf t intra
 matrix-for g t true = refl
 matrix-for g t false = refl
 
-module _ (g : Setting) (t : List ℤ) (intra : Bool) (number : ℕ) (x : SliceState) (left : List ℤ) (store : List ℕ) where
+module _ (g : Setting) (t : List ℕ) (intra : Bool) (number : ℕ) (x : SliceState) (left : List ℤ) (store : List ℕ) where
   abbrev q : Quantiser
   q = quantiser intra (x .«quantizer_scale»)
 

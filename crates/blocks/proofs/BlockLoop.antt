@@ -21,17 +21,17 @@ use Rattle.picture.proofs.Ways.{Follows, f-start, f-end, f-onward, f-leave, way
 use Rattle.blocks.specs.declared.blocks.CodedBlocks.{CodedBlocks}
 
 -- a macroblock's blocks, the last n of them, and the one with this number
-abbrev all : CodedBlocks → List ℤ → World → Prog (Way World)
+abbrev all : CodedBlocks → List ℕ → World → Prog (Way World)
 all c t w = blocks (given (c .setting) t) (c .intra) (c .pattern) w
 
-abbrev last : CodedBlocks → List ℤ → ℕ → World → Prog (Way World)
+abbrev last : CodedBlocks → List ℕ → ℕ → World → Prog (Way World)
 last c t n w = lastBlocks (given (c .setting) t) (c .intra) (c .pattern) n w
 
-abbrev numbered : CodedBlocks → List ℤ → ℕ → World → Prog (Way World)
+abbrev numbered : CodedBlocks → List ℕ → ℕ → World → Prog (Way World)
 numbered c t number w = patternBlock (given (c .setting) t) (c .intra) (c .pattern) (2 ^ (5 - number)) number w
 
 -- a block whose bit is not in the pattern, and one whose bit is
-module _ (c : CodedBlocks) (t : List ℤ) (number : ℕ) (x : SliceState) (left : List ℤ) (store : List ℕ) {s : List ℕ} {from : Reader} where
+module _ (c : CodedBlocks) (t : List ℕ) (number : ℕ) (x : SliceState) (left : List ℤ) (store : List ℕ) {s : List ℕ} {from : Reader} where
   pub bit-no : flag (c .pattern) (2 ^ (5 - number)) ≡ false → Ready (c .setting) s from x left store
       → Went (numbered c t number (worldOf x left store)) (c .setting) s from (record { reader = from; state = x; stop = 0 }) left store
   bit-no h k = record { runs = r-no _ h r-done; ready = k }
@@ -42,19 +42,19 @@ module _ (c : CodedBlocks) (t : List ℤ) (number : ℕ) (x : SliceState) (left 
   bit-yes h w = record { runs = r-yes _ h (w .runs); ready = w .ready }
 
 -- before the block with this number, in the state x, `left`, `store` at `from`; the loop began in w₀ at from₀
-pub record AtBlock (c : CodedBlocks) (t : List ℤ) (s : List ℕ) (from₀ : Reader) (w₀ : World)
+pub record AtBlock (c : CodedBlocks) (t : List ℕ) (s : List ℕ) (from₀ : Reader) (w₀ : World)
     (from : Reader) (x : SliceState) (left : List ℤ) (store : List ℕ) (number : ℕ) : Type 0 where
   pub few : number ≤ 6
   pub ready : Ready (c .setting) s from x left store
   pub long : length store ≡ length (w₀ .store)
   pub rest : Follows (all c t w₀) s (from₀ .at .0) (last c t (6 - number) (worldOf x left store)) (from .at .0)
 
-pub at-first : {c : CodedBlocks} {t : List ℤ} {s : List ℕ} {from : Reader} {x : SliceState} {left : List ℤ} {store : List ℕ}
+pub at-first : {c : CodedBlocks} {t : List ℕ} {s : List ℕ} {from : Reader} {x : SliceState} {left : List ℤ} {store : List ℕ}
     → Ready (c .setting) s from x left store → AtBlock c t s from (worldOf x left store) from x left store 0
 unfolding blocks
 at-first k = record { few = omega arith; ready = k; long = refl; rest = f-start }
 
-module _ {c : CodedBlocks} {t : List ℤ} {s : List ℕ} {from₀ : Reader} {w₀ : World} {from : Reader} {x : SliceState} {left : List ℤ}
+module _ {c : CodedBlocks} {t : List ℕ} {s : List ℕ} {from₀ : Reader} {w₀ : World} {from : Reader} {x : SliceState} {left : List ℤ}
     {store : List ℕ} {number : ℕ} (i : AtBlock c t s from₀ w₀ from x left store number) where
   -- the program's next block
   next : number < 6

@@ -6,6 +6,7 @@ pub mod Figures
 pub mod Follow
 pub mod Good
 pub mod Joined
+pub mod Lists
 pub mod Parts
 pub mod Standard
 pub mod Tested

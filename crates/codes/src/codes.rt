@@ -20,8 +20,7 @@ ghost use Prim.Native.Nat.{ℕ, _-_, _≤_};
 ghost use lib.IntN.{ℤ, pos};
 ghost use lib.ListN.{take, drop};
 ghost use Rattle.bits.specs.Runs.{Inside, Reading};
-ghost use Rattle.codes.specs.Lent.{Lent, Joined};
-ghost use Rattle.codes.specs.Rule.{Good};
+ghost use Rattle.codes.specs.Lent.{Lent, Joined, Leading};
 ghost use Rattle.codes.specs.Walk.{vlc};
 ghost use Rattle.codes.specs.Codes.{macroblockAddressIncrement, macroblockTypeIntra, macroblockTypePredictive, macroblockTypeB};
 ghost use Rattle.codes.specs.Codes.{codeBlockPattern, motion, dctSizeLuminance, dctSizeChrominance, dctCoeff};
@@ -30,7 +29,7 @@ ghost use Rattle.codes.specs.Codes.{codeBlockPattern, motion, dctSizeLum
 fn read_natural(s: &[u8], reader: Reader, tables: &Tables, at: usize, end: usize) -> VlcUint
     requires { ⌜ Inside (now s) reader ⌝ }
     requires { ⌜ (at ≤ end) × (end ≤ 830) ⌝ }
-    requires { ⌜ Good (take (end - at) (drop at (now tables))) ⌝ }
+    requires { ⌜ Leading (take (end - at) (drop at (now tables))) ⌝ }
     ensures { λ r. ⌜ ((ix : List ℤ) (vs : List ℕ) → Joined ix (map pos vs) (take (end - at) (drop at (now (tables .entry))))
         → Reading (vlc ix vs 0) (now (s .entry)) reader (r .value) (r .reader)) ⌝ }
 {

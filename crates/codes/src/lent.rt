@@ -7,7 +7,7 @@ ghost use lib.ListN.{getD};
 ghost use Rattle.codes.specs.Lent.{Lent, matrixOf};
 ghost use Rattle.codes.specs.Matrices.{zigZag, premultiplierMatrix};
 
-pub type Tables = [i16; 830];
+pub type Tables = [u16; 830];
 
 pub const INCREMENT: usize = 0;
 

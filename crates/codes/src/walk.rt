@@ -1,16 +1,12 @@
 // The walk through a code table.
 use bits::reader::Reader;
-ghost use mathlib.Core.Path.{_≡_};
-ghost use mathlib.Core.Bool.{true};
 ghost use mathlib.Core.List.{List, map};
-ghost use Prim.Native.Nat.{ℕ, _<_};
+ghost use Prim.Native.Nat.{ℕ, _≤_, _<_};
 ghost use lib.Dec.{T};
 ghost use lib.ListN.{length, getD};
 ghost use lib.IntN.{ℤ, pos};
-ghost use lib.Signed.{leZ};
 ghost use Rattle.bits.specs.Runs.{Inside, Reading};
-ghost use Rattle.codes.specs.Lent.{Joined, all, near};
-ghost use Rattle.codes.specs.Rule.{Good};
+ghost use Rattle.codes.specs.Lent.{Joined, Leading, all, near, indices};
 ghost use Rattle.codes.specs.Walk.{walk, vlc};
 
 // The entry at which a walk ends.
@@ -29,21 +25,21 @@ pub struct VlcUint {
     pub value: u32,
 }
 
-pub fn walk(s: &[u8], reader: Reader, index: &[i16]) -> Leaf
+pub fn walk(s: &[u8], reader: Reader, table: &[u16]) -> Leaf
     requires { ⌜ Inside (now s) reader ⌝ }
-    requires { ⌜ Good (now index) ⌝ }
-    ensures { λ r. ⌜ Reading (walk (now (index .entry))) (now (s .entry)) reader (r .place) (r .reader) ⌝ }
-    ensures { λ r. ⌜ r .place < length (now (index .entry)) ⌝ }
-    ensures { λ r. ⌜ leZ (getD (now (index .entry)) (r .place) (pos 0)) (pos 0) ≡ true ⌝ }
+    requires { ⌜ Leading (now table) ⌝ }
+    ensures { λ r. ⌜ Reading (walk (indices (now (table .entry)))) (now (s .entry)) reader (r .place) (r .reader) ⌝ }
+    ensures { λ r. ⌜ r .place < length (now (table .entry)) ⌝ }
+    ensures { λ r. ⌜ 256 ≤ getD (now (table .entry)) (r .place) 0 ⌝ }
 {
     let mut from = reader;
     let mut at: usize = 0;
     loop {
         let bit = from.read_bit(s);
         let place = at + bit.value as usize;
-        let next = index[place];
+        let next = table[place];
         from = bit.reader;
-        if next <= 0 {
+        if 256 <= next {
             return Leaf {
                 reader: from,
                 place,
@@ -54,9 +50,9 @@ pub fn walk(s: &[u8], reader: Reader, index: &[i16]) -> Leaf
 }
 
 // The value at the end of the walk through a code table as it is lent, with its sign: whatever indices ix and values vs it is made of.
-pub fn read_vlc(s: &[u8], reader: Reader, table: &[i16]) -> Vlc
+pub fn read_vlc(s: &[u8], reader: Reader, table: &[u16]) -> Vlc
     requires { ⌜ Inside (now s) reader ⌝ }
-    requires { ⌜ Good (now table) ⌝ }
+    requires { ⌜ Leading (now table) ⌝ }
     ensures { λ r. ⌜ ((ix vs : List ℤ) → Joined ix vs (now (table .entry)) → T (all near vs)
         → Reading (vlc ix vs (pos 0)) (now (s .entry)) reader (r .value) (r .reader)) ⌝ }
 {
@@ -64,7 +60,7 @@ pub fn read_vlc(s: &[u8], reader: Reader, table: &[i16]) -> Vlc
     let after = leaf.reader;
     let place = leaf.place;
     let entry = table[place] as i32;
-    let found = entry + 16384;
+    let found = entry - 1024;
     Vlc {
         reader: after,
         value: found,
@@ -72,17 +68,17 @@ pub fn read_vlc(s: &[u8], reader: Reader, table: &[i16]) -> Vlc
 }
 
 // The same for a table whose values are natural numbers.
-pub fn read_vlc_uint(s: &[u8], reader: Reader, table: &[i16]) -> VlcUint
+pub fn read_vlc_uint(s: &[u8], reader: Reader, table: &[u16]) -> VlcUint
     requires { ⌜ Inside (now s) reader ⌝ }
-    requires { ⌜ Good (now table) ⌝ }
+    requires { ⌜ Leading (now table) ⌝ }
     ensures { λ r. ⌜ ((ix : List ℤ) (vs : List ℕ) → Joined ix (map pos vs) (now (table .entry))
         → Reading (vlc ix vs 0) (now (s .entry)) reader (r .value) (r .reader)) ⌝ }
 {
     let leaf = walk(s, reader, table);
     let after = leaf.reader;
     let place = leaf.place;
-    let entry = table[place] as i32;
-    let found = (entry + 81920) as u32 % 65536;
+    let entry = table[place] as u32;
+    let found = (entry + 64512) % 65536;
     VlcUint {
         reader: after,
         value: found,

@@ -30,7 +30,7 @@ use Rattle.blocks.proofs.Stores.{size-most}
 
 module _ (g : Setting) (x : SliceState) where
   -- the definition's reset is the code's
-  skip-is : (tables left : List ℤ) → skipReset (given g tables) (sliceOf x left) ≡ sliceOf (skipOf g x) left
+  skip-is : (tables : List ℕ) (left : List ℤ) → skipReset (given g tables) (sliceOf x left) ≡ sliceOf (skipOf g x) left
   unfolding skipReset skipOf
   skip-is tables left =
       by-case (λ y. skipReset (given g tables) (sliceOf x left) ≡ sliceOf y left) (eqb (g .«picture_type») 2)
@@ -56,7 +56,7 @@ unfolding also
 also-same (on x) e = e x
 also-same (out n l) e = refl
 
-skipped-same : (g : Setting) (x : SliceState) (tables left : List ℤ) (address n : ℕ) (l : List ℕ)
+skipped-same : (g : Setting) (x : SliceState) (tables : List ℕ) (left : List ℤ) (address n : ℕ) (l : List ℕ)
     → predictSkipped (given g tables) (sliceOf x left) address n l ≡ predictSkipped (setting g) (motions x) address n l
 unfolding predictSkipped predict predictBoth predictFrom
 skipped-same g x tables left address zero l = refl

@@ -33,7 +33,7 @@ motions-possible k = block-kept k (k .predictors) (record { each = λ i h. zero-
 
 -- ---- prediction: neither the matrices nor the coefficients matter
 
-unless-same : (g : Setting) (t : ℕ) (x : SliceState) (tables : List ℤ) (left : List ℤ) (l : List ℕ)
+unless-same : (g : Setting) (t : ℕ) (x : SliceState) (tables : List ℕ) (left : List ℤ) (l : List ℕ)
     → predictUnlessIntra (given g tables) t (worldOf x left l) ≡ predictUnlessIntra (setting g) t (world (motions x) l)
 unfolding predictUnlessIntra predict predictBoth predictFrom
 unless-same g t x tables left l = refl
@@ -74,7 +74,7 @@ module _ {g : Setting} {x y : SliceState} {left : List ℤ} {store s : List ℕ}
 
   module _ {q : Predicted} {store₁ : List ℕ} (told : Foretold (predictUnlessIntra (setting g) t (world (motions y) store)) q store₁)
       (long : length store₁ ≡ length store) where
-    pub body-refused : (tables : List ℤ) → q ≡ Refused
+    pub body-refused : (tables : List ℕ) → q ≡ Refused
         → Went (body (given g tables) (worldOf x left store)) g s from (record { reader = headed; state = y; stop = 9 }) left store₁
     unfolding body
     body-refused tables e =
@@ -88,7 +88,7 @@ module _ {g : Setting} {x y : SliceState} {left : List ℤ} {store s : List ℕ}
       pub blocks-ready : Ready g s patterned y left store₁
       blocks-ready = ready-on ready (p .inside) headed-possible headed-address long
 
-      pub body-on : (tables : List ℤ) → q ≡ Done → {r : Progress} {left₁ : List ℤ} {store₂ : List ℕ}
+      pub body-on : (tables : List ℕ) → q ≡ Done → {r : Progress} {left₁ : List ℤ} {store₂ : List ℕ}
           → Went (blocks (given g tables) (isIntra t) c (worldOf y left store₁)) g s patterned r left₁ store₂
           → Went (body (given g tables) (worldOf x left store)) g s from r left₁ store₂
       unfolding body

@@ -54,7 +54,7 @@ module _ {g : Setting} {x y : SliceState} {n : ℕ} {left : List ℤ} {store s :
   further-reads = record { inside = k .reads .inside; slice = further-possible }
 
   module _ {t : Bool} (at : t ≡ (ltZ (y .«macroblock_address») (pos 0) || leZ (pos (g .sizes .«mb_size»)) (y .«macroblock_address»))) where
-    pub first-nowhere : (tables : List ℤ) → t ≡ true
+    pub first-nowhere : (tables : List ℕ) → t ≡ true
         → Passed (firstOf (given g tables) n (worldOf x left store)) g s reader (record { reader = reader; state = y; stop = 0 }) left store
     unfolding firstOf
     first-nowhere tables e = let q = rw is at (sym at ∙ e) in record { runs = rw is (r-yes _ q r-done); reads = further-reads; held = k .held }
@@ -62,7 +62,7 @@ module _ {g : Setting} {x y : SliceState} {n : ℕ} {left : List ℤ} {store s :
     pub first-ready : t ≡ false → Ready g s reader y left store
     first-ready e = record { reads = further-reads; held = k .held; here = here-by (y .«macroblock_address») (k .held) (sym at ∙ e) }
 
-    pub first-body : (tables : List ℤ) → t ≡ false → {r : Progress} {left₁ : List ℤ} {store₁ : List ℕ}
+    pub first-body : (tables : List ℕ) → t ≡ false → {r : Progress} {left₁ : List ℤ} {store₁ : List ℕ}
         → Went (body (given g tables) (worldOf y left store)) g s reader r left₁ store₁
         → Passed (firstOf (given g tables) n (worldOf x left store)) g s reader r left₁ store₁
     unfolding firstOf

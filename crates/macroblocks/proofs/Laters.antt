@@ -28,7 +28,7 @@ use Rattle.blocks.proofs.Stores.{size-most}
 
 module _ {g : Setting} {x : SliceState} {n : ℕ} {left : List ℤ} {store s : List ℕ} {reader : Reader}
     (k : Between g s reader x n left store) where
-  pub later-past : (tables : List ℤ) → leZ (pos (g .sizes .«mb_size»)) (x .«macroblock_address» +ℤ pos n) ≡ true
+  pub later-past : (tables : List ℕ) → leZ (pos (g .sizes .«mb_size»)) (x .«macroblock_address» +ℤ pos n) ≡ true
       → Passed (laterOf (given g tables) n (worldOf x left store)) g s reader (record { reader = reader; state = x; stop = 0 }) left store
   unfolding laterOf
   later-past tables e = record { runs = r-yes _ e r-done; reads = k .reads; held = k .held }
@@ -38,7 +38,7 @@ module _ {g : Setting} {x : SliceState} {n : ℕ} {left : List ℤ} {store s : L
     later-reads : Reads s reader y left
     later-reads = record { inside = k .reads .inside; slice = a .possible (k .reads .slice) }
 
-    pub later-stop : (tables : List ℤ) → (stop ≡ 0 → ⊥)
+    pub later-stop : (tables : List ℕ) → (stop ≡ 0 → ⊥)
         → Passed (laterOf (given g tables) n (worldOf x left store)) g s reader (record { reader = reader; state = y; stop = stop }) left store₁
     unfolding laterOf
     later-stop tables h =
@@ -48,7 +48,7 @@ module _ {g : Setting} {x : SliceState} {n : ℕ} {left : List ℤ} {store s : L
     pub later-ready : stop ≡ 0 → Ready g s reader y left store₁
     later-ready z = record { reads = later-reads; held = held-on (k .held) long; here = a .here z (k .more) }
 
-    pub later-body : (tables : List ℤ) → stop ≡ 0 → {r : Progress} {left₁ : List ℤ} {store₂ : List ℕ}
+    pub later-body : (tables : List ℕ) → stop ≡ 0 → {r : Progress} {left₁ : List ℤ} {store₂ : List ℕ}
         → Went (body (given g tables) (worldOf y left store₁)) g s reader r left₁ store₂
         → Passed (laterOf (given g tables) n (worldOf x left store)) g s reader r left₁ store₂
     unfolding laterOf
@@ -91,7 +91,7 @@ module _ {g : Setting} {first : Bool} {x : SliceState} {left : List ℤ} {store 
         more = k .later e;
       }
 
-  module _ (tables : List ℤ) {p : Progress} {left₁ : List ℤ} {store₁ : List ℕ} where
+  module _ (tables : List ℕ) {p : Progress} {left₁ : List ℤ} {store₁ : List ℕ} where
     pub macroblock-first : first ≡ true → Passed (firstOf (given g tables) n (worldOf x left store)) g s after p left₁ store₁
         → Passed (macroblock (given g tables) first (worldOf x left store)) g s reader p left₁ store₁
     unfolding macroblock

@@ -46,7 +46,7 @@ use Rattle.picture.specs.declared.state.PictureProgress.{PictureProgress
 -- ---- the code's state as the definitions have it
 
 -- with the matrices that are among the tables t
-abbrev pub given : Setting → List ℤ → Given
+abbrev pub given : Setting → List ℕ → Given
 given g t = record {
   type = g .«picture_type»;
   sizes = g .sizes;
@@ -317,7 +317,7 @@ pub record Foretold (w : Way (List ℕ)) (r : Predicted) (store : List ℕ) : Ty
 
 -- the macroblock after the next n leaves, or goes on, as the state and the number say, whatever matrices and coefficients there are
 pub record Advances (g : Setting) (n : ℕ) (x : SliceState) (store : List ℕ) (y : SliceState) (stop : ℕ) (store₁ : List ℕ) : Type 0 where
-  pub is : (t : List ℤ) (left : List ℤ) → advance (given g t) n (worldOf x left store) ≡ way stop (worldOf y left store₁) store₁
+  pub is : (t : List ℕ) (left : List ℤ) → advance (given g t) n (worldOf x left store) ≡ way stop (worldOf y left store₁) store₁
   pub possible : {left : List ℤ} → PossibleSlice (sliceOf x left) → PossibleSlice (sliceOf y left)
   pub here : stop ≡ 0 → leZ (pos (g .sizes .«mb_size»)) (x .«macroblock_address» +ℤ pos 1) ≡ false → Here g (y .«macroblock_address»)
 
@@ -339,7 +339,7 @@ pub record Passed (p : Prog (Way World)) (g : Setting) (s : List ℕ) (reader : 
 
 -- whether a slice goes on behind a macroblock, whatever matrices, coefficients and store there are
 pub record GoesOn (g : Setting) (s : List ℕ) (reader : Reader) (x : SliceState) (n : ℕ) (more : Bool) : Type 0 where
-  pub runs : (t : List ℤ) (left : List ℤ) (store : List ℕ)
+  pub runs : (t : List ℕ) (left : List ℤ) (store : List ℕ)
       → Runs (pastMacroblock (given g t) (way n (worldOf x left store) store)) s (reader .at .0) (onTurn more n (worldOf x left store) store) (reader .at .0)
   pub later : more ≡ true → leZ (pos (g .sizes .«mb_size»)) (x .«macroblock_address» +ℤ pos 1) ≡ false
 
@@ -349,7 +349,7 @@ pub record Sliced (p : Way World → Prog (Way World)) (g : Setting) (s : List �
   pub passed : (w₀ : Way World) → Passed (p w₀) g s reader r left store
 
 -- a turn over the slices, whatever start code came before
-pub record Turned (g : Setting) (t : List ℤ) (s : List ℕ) (reader : Reader) (begun : Bool) (x : SliceState) (left : List ℤ) (store : List ℕ)
+pub record Turned (g : Setting) (t : List ℕ) (s : List ℕ) (reader : Reader) (begun : Bool) (x : SliceState) (left : List ℤ) (store : List ℕ)
     (r : SlicesProgress) (left₁ : List ℤ) (store₁ : List ℕ) : Type 0 where
   pub runs : (code : ℤ) → Runs (P.slicesTurn (given g t) (P.slicesOf begun (frameOf g code x left store))) s (reader .at .0)
       (slicesOn (r .again) (r .begun) (r .stop) (frameOf g (r .code) (r .state) left₁ store₁)) (r .reader .at .0)

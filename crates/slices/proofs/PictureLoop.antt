@@ -88,7 +88,7 @@ module _ (g : Setting) (w : Progress) {c code : ℤ} (e : c ≡ code) where
 -- ---- a turn
 
 module _ {g : Setting} {s : List ℕ} {reader : Reader} {x : SliceState} {left : List ℤ} {store : List ℕ} (k : Reads s reader x left)
-    (held : Held g store) (tables : List ℤ) (begun : Bool) {code : ℤ} {after : Reader} (found : Reading nextStartCode s reader code after)
+    (held : Held g store) (tables : List ℕ) (begun : Bool) {code : ℤ} {after : Reader} (found : Reading nextStartCode s reader code after)
     (few : natAbs code ≤ 255) where
   -- a slice that ended with the number n, and behind which the picture ends or not
   behind : (y : SliceState) (left₁ : List ℤ) (store₁ : List ℕ) (to : Reader) (n : ℕ) (last : Bool)
@@ -132,7 +132,7 @@ module _ {g : Setting} {s : List ℕ} {reader : Reader} {x : SliceState} {left :
 -- ---- the loop
 
 -- before a start code, at `from`; the code that came before does not matter
-pub record AtSlices (g : Setting) (tables : List ℤ) (s : List ℕ) (from₀ : Reader) (f₀ : P.Frame) (begun : Bool) (from : Reader)
+pub record AtSlices (g : Setting) (tables : List ℕ) (s : List ℕ) (from₀ : Reader) (f₀ : P.Frame) (begun : Bool) (from : Reader)
     (x : SliceState) (left : List ℤ) (store : List ℕ) : Type 0 where
   pub code : ℤ
   pub reads : Reads s from x left
@@ -141,11 +141,11 @@ pub record AtSlices (g : Setting) (tables : List ℤ) (s : List ℕ) (from₀ : 
   pub rest : Loops many (P.slicesTurn (given g tables)) (on f₀) (P.slicesOf false f₀) s (from₀ .at .0)
       (P.slicesOf begun (frameOf g code x left store)) (from .at .0) (length s * 8 - from .at .0)
 
-pub at-slices : {g : Setting} {tables : List ℤ} {s : List ℕ} {from : Reader} {x : SliceState} {left : List ℤ} {store : List ℕ} (code : ℤ)
+pub at-slices : {g : Setting} {tables : List ℕ} {s : List ℕ} {from : Reader} {x : SliceState} {left : List ℤ} {store : List ℕ} (code : ℤ)
     → Reads s from x left → Held g store → AtSlices g tables s from (frameOf g code x left store) false from x left store
 at-slices code k h = record { code = code; reads = k; held = h; long = refl; rest = loop-start (omega (arith, k .inside .stream)) }
 
-module _ {g : Setting} {tables : List ℤ} {s : List ℕ} {from₀ : Reader} {f₀ : P.Frame} {begun : Bool} {from : Reader} {x : SliceState}
+module _ {g : Setting} {tables : List ℕ} {s : List ℕ} {from₀ : Reader} {f₀ : P.Frame} {begun : Bool} {from : Reader} {x : SliceState}
     {left : List ℤ} {store : List ℕ} (i : AtSlices g tables s from₀ f₀ begun from x left store)
     {r : SlicesProgress} {left₁ : List ℤ} {store₁ : List ℕ} (t : Turned g tables s from begun x left store r left₁ store₁) where
   pub slices-end : r .again ≡ false → Pictured (P.slices (given g tables) f₀) g s from₀ r left₁ store₁

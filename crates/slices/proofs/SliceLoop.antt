@@ -105,7 +105,7 @@ module _ {s : List ℕ} {reader from to : Reader} {g : Setting} {x : SliceState}
         later = λ z. absurd (false≢true (sym z));
       }
 
-  pub slice-runs : (tables : List ℤ) {y : SliceState} → y ≡ startOf g number q x → {w : Way World} {end : ℕ}
+  pub slice-runs : (tables : List ℕ) {y : SliceState} → y ≡ startOf g number q x → {w : Way World} {end : ℕ}
       → Runs (macroblocks (given g tables) (on (worldOf x left store)) (worldOf y left store)) s (to .at .0) w end
       → Runs (slice (given g tables) number (worldOf x left store)) s (reader .at .0) w end
   unfolding slice
@@ -146,7 +146,7 @@ module _ {g : Setting} {s : List ℕ} {reader : Reader} {x : SliceState} {n : �
 -- ---- the loop
 
 -- before a macroblock, at `from`
-pub record AtMacroblock (g : Setting) (tables : List ℤ) (s : List ℕ) (from₀ : Reader) (x₀ : SliceState) (left₀ : List ℤ) (store₀ : List ℕ)
+pub record AtMacroblock (g : Setting) (tables : List ℕ) (s : List ℕ) (from₀ : Reader) (x₀ : SliceState) (left₀ : List ℤ) (store₀ : List ℕ)
     (first : Bool) (from : Reader) (x : SliceState) (left : List ℤ) (store : List ℕ) : Type 0 where
   pub awaits : Awaits g s from first x left store
   pub long : length store ≡ length store₀
@@ -154,11 +154,11 @@ pub record AtMacroblock (g : Setting) (tables : List ℤ) (s : List ℕ) (from�
       → Loops many (sliceTurn (given g tables)) w₀ (slicing true (worldOf x₀ left₀ store₀)) s (from₀ .at .0)
       (slicing first (worldOf x left store)) (from .at .0) (length s * 8 - from .at .0)
 
-pub at-macroblock : {g : Setting} {tables : List ℤ} {s : List ℕ} {from : Reader} {x : SliceState} {left : List ℤ} {store : List ℕ}
+pub at-macroblock : {g : Setting} {tables : List ℕ} {s : List ℕ} {from : Reader} {x : SliceState} {left : List ℤ} {store : List ℕ}
     → Awaits g s from true x left store → AtMacroblock g tables s from x left store true from x left store
 at-macroblock k = record { awaits = k; long = refl; rest = λ w₀. loop-start (omega (arith, k .reads .inside .stream)) }
 
-module _ {g : Setting} {tables : List ℤ} {s : List ℕ} {from₀ : Reader} {x₀ : SliceState} {left₀ : List ℤ} {store₀ : List ℕ}
+module _ {g : Setting} {tables : List ℕ} {s : List ℕ} {from₀ : Reader} {x₀ : SliceState} {left₀ : List ℤ} {store₀ : List ℕ}
     {first : Bool} {from : Reader} {x : SliceState} {left : List ℤ} {store : List ℕ}
     (i : AtMacroblock g tables s from₀ x₀ left₀ store₀ first from x left store) {m : Progress} {left₁ : List ℤ} {store₁ : List ℕ}
     (p : Passed (macroblock (given g tables) first (worldOf x left store)) g s from m left₁ store₁)

@@ -51,18 +51,18 @@ held-during p z {store} {t} e k = go (eqb (p .«picture_type») 3) e
 -- ---- the tables
 
 -- the matrices are those among the tables t
-pub record Made (m : Matrices) (t : List ℤ) : Type 0 where
+pub record Made (m : Matrices) (t : List ℕ) : Type 0 where
   pub lent : Lent t
   pub intra : matrixOf t true ≡ m .«intra_quant_matrix»
   pub other : matrixOf t false ≡ m .«non_intra_quant_matrix»
 
-pub made : {a b : List ℕ} {t : List ℤ} → Bytes64 a → Bytes64 b → t ≡ tablesWith a b → Made (matrices a b) t
+pub made : {a b t : List ℕ} → Bytes64 a → Bytes64 b → t ≡ tablesWith a b → Made (matrices a b) t
 made {a} {b} i o e = rw e (record { lent = lent-with a b i o; intra = matrix-with a b i o true; other = matrix-with a b i o false })
 
 -- ---- the picture
 
 -- a picture whose slices were read, before the stores turn; the start code before them is as the code has it
-coded-with : (p : PictureState) (z : Sizes) (t : Stores) (tables : List ℤ) (left : List ℤ) (store : List ℕ) {s : List ℕ} {from : Reader}
+coded-with : (p : PictureState) (z : Sizes) (t : Stores) (tables : List ℕ) (left : List ℤ) (store : List ℕ) {s : List ℕ} {from : Reader}
     (r : SlicesProgress) {left₁ : List ℤ} {store₁ : List ℕ} {first : ℤ} → let g = settingOf (pictureOf p left) z t in
     first ≡ p .«start_code» → Pictured (P.slices (given g tables) (frameOf g first (p .slice) left store)) g s from r left₁ store₁
     → Coded (P.slices (given g tables) (P.frame (storesAs t (pictureOf p left)) store)) s from (progressOf g t r) left₁ store₁
@@ -81,7 +81,7 @@ roled t r = record {
   stop = r .stop;
 }
 
-module _ (z : Sizes) {m : Matrices} {tables : List ℤ} (k : Made m tables) (p : Picture) (store : List ℕ) {s : List ℕ} {from : Reader}
+module _ (z : Sizes) {m : Matrices} {tables : List ℕ} (k : Made m tables) (p : Picture) (store : List ℕ) {s : List ℕ} {from : Reader}
     {left : List ℤ} {store₁ : List ℕ} (r : PictureProgress) where
   coded-b : eqb (p .«picture_type») 3 ≡ true
       → Coded (P.slices (given (settingOf p z (p .stores)) tables) (P.frame (storesAs (p .stores) p) store)) s from r left store₁
@@ -101,7 +101,7 @@ module _ (z : Sizes) {m : Matrices} {tables : List ℤ} (k : Made m tables) (p :
     inside = c .inside;
   }
 
-pub coded-of : (z : Sizes) {m : Matrices} {tables : List ℤ} → Made m tables → (p : PictureState) (left : List ℤ) (store : List ℕ) {s : List ℕ}
+pub coded-of : (z : Sizes) {m : Matrices} {tables : List ℕ} → Made m tables → (p : PictureState) (left : List ℤ) (store : List ℕ) {s : List ℕ}
     {from : Reader} (r : SlicesProgress) {left₁ : List ℤ} {store₁ : List ℕ} {during turned : Stores} {first : ℤ} {q : PictureProgress}
     → let g = settingOf (pictureOf p left) z during in
     during ≡ (if eqb (p .«picture_type») 3 then p .stores else P.before (p .stores))

@@ -1,123 +1,147 @@
 -- The tables that are made of the constant arrays, and that they are what is lent. Assumes nothing.
 use mathlib.Core.Path.{_≡_, refl, ap, sym, _∙_}
 use mathlib.Core.Bool.{Bool, true, false, cond}
-use mathlib.Core.List.{List, [], _∷_, map, _++_, append-assoc}
+use mathlib.Core.List.{List, [], _∷_, _++_, append-assoc}
 use Prim.Native.Nat.{ℕ, zero, suc, _+_, _-_, _%_, _≤_, _<_}
 use native.Mathlib.Numerals.{add-one}
 use native.Mathlib.Omega.{arith}
-use lib.Dec.{T, ltb, ltb→lt, leb, leb→le, le→leb}
-use lib.IntN.{ℤ, pos, natAbs, _+ℤ_, _-ℤ_}
+use lib.Dec.{T, ltb, ltb→lt, leb, leb→le}
+use lib.IntN.{ℤ, pos, natAbs, _+ℤ_}
 use lib.ListN.{length, getD, set, take, drop, length-set, length-append, length-take, length-drop}
 use lib.Seq.{take-append-add, drop-drop, drop-paste, set-append-left, take-set-lt, drop-set-lt, take-at, drop-at}
 use lib.Seq.{getD-append-add, getD-drop, take-all, take-paste, length-paste, paste-zero, paste-suc, paste}
 use lib.Signed.{leZ, nonNeg}
+use mir.Facts.{and-yes}
 use mir.Syntax.{w16, w32}
-use mir.Val.{SFits, Fits, toZ}
-use Rattle.laws.proofs.Ints.{up, dn, v, lit, _⊕_, _⊖_, Dif, back, reread, fits-by, cast-by, cast-is}
-use Rattle.laws.proofs.Bytes.{natural-num}
-use Rattle.laws.proofs.Nums.{Num, num, con, rd, fits, _⊟_}
+use mir.Val.{SFits, Fits}
+use Rattle.laws.proofs.Ints.{up, dn, v, lit, _⊕_, Dif, back, reread, fits-by, cast-by, cast-is}
+use Rattle.laws.proofs.Bytes.{cast-unsigned}
+use Rattle.laws.proofs.Nums.{Num, num, rd}
 use Rattle.laws.proofs.Tables.{anywhere}
-use Rattle.codes.specs.Lent.{lentValue, joinedEntry, all, near, Lent, macroblockCodes, blockCodes, fixedTables, tablesWith, matrixOf, isByte}
+use Rattle.codes.specs.Lent.{lentValue, joinedEntry, all, Lent, macroblockCodes, blockCodes, fixedTables, tablesWith, matrixOf, isByte}
 use Rattle.codes.specs.Matrices.{zigZag, downFrom, diagonals, intraQuantMatrix, nonIntraQuantMatrix, premultiplierMatrix}
 use Rattle.codes.specs.Tables.{macroblockAddressIncrementIndex, macroblockAddressIncrementValue, macroblockTypeIntraIndex, macroblockTypeIntraValue}
 use Rattle.codes.specs.Tables.{macroblockTypePredictiveIndex, macroblockTypePredictiveValue, macroblockTypeBIndex, macroblockTypeBValue}
 use Rattle.codes.specs.Tables.{codeBlockPatternIndex, codeBlockPatternValue, motionIndex, motionValue}
 use Rattle.codes.specs.Tables.{dctSizeLuminanceIndex, dctSizeLuminanceValue, dctSizeChrominanceIndex, dctSizeChrominanceValue, dctCoeffIndex}
 use Rattle.codes.specs.Tables.{dctCoeffValue}
-use Rattle.codes.proofs.Joined.{near-at, low, Short}
-use Rattle.codes.proofs.Parts as Parts
+use Rattle.codes.proofs.Entries.{natural, above}
+use Rattle.codes.proofs.Joined.{all-at, Short}
 
 -- ---- entries as they are laid
 
-pub near-read : (xs : List ℤ) → T (all near xs) → (k : ℕ) → Num (reread w32 (getD xs k (pos 0))) (getD xs k (pos 0)) 16383
-near-read xs t k = rd w32 (num (near-at xs t k)) tt
+-- a number that is a byte, as the code casts it
+byte-at : (xs : List ℤ) → T (all isByte xs) → (k : ℕ) → let z = getD xs k (pos 0) in T (nonNeg z) × (natAbs z ≤ 255)
+byte-at xs t k =
+    let z = getD xs k (pos 0) in
+    let b = and-yes (nonNeg z) (leb (natAbs z) 255) (all-at isByte xs tt t k) in
+    (b .0, leb→le (natAbs z) 255 (b .1))
 
--- a value as the code computes what is lent of it
+module _ (xs : List ℤ) (t : T (all isByte xs)) (k : ℕ) where
+  byte-read : Num (reread w32 (getD xs k (pos 0))) (getD xs k (pos 0)) 255
+  byte-read = rd w32 (num (byte-at xs t k .1)) tt
+
+  pub byte-is : natAbs (reread w32 (getD xs k (pos 0))) ≡ natAbs (getD xs k (pos 0))
+  byte-is = ap natAbs (byte-read .is)
+
+  pub byte-cast : let y = reread w32 (getD xs k (pos 0)) in T (nonNeg y) × Fits w16 (natAbs y)
+  byte-cast = cast-unsigned (byte-read .is ∙ natural _ (byte-at xs t k .0)) (omega (arith, byte-at xs t k .1))
+
+-- an index above 0, as the code casts it
+module _ (i : ℤ) (h : natAbs i ≤ 255) where
+  index-read : Num (reread w32 i) i 255
+  index-read = rd w32 (num h) tt
+
+  pub index-is : natAbs (reread w32 i) ≡ natAbs i
+  index-is = ap natAbs (index-read .is)
+
+  pub index-cast : leZ (reread w32 i) (pos 0) ≡ false → let y = reread w32 i in T (nonNeg y) × Fits w32 (natAbs y)
+  index-cast e = cast-unsigned (above (reread w32 i) e .0) (omega (arith, index-is))
+
+-- a value, as the code computes what is lent of it
 module _ (x : ℤ) (s : Short x) where
   read : Dif (reread w32 x) (up x) (dn x)
   read = back (fits-by (v x) (omega (arith, s .most)) (omega (arith, s .least))) (v x)
 
-  pub raised-fits : SFits w32 (reread w32 x +ℤ pos 49152)
-  raised-fits = fits-by (read ⊕ lit 49152) (omega (arith, s .most)) (omega (arith, s .least))
+  pub raised-fits : SFits w32 (reread w32 x +ℤ pos 1024)
+  raised-fits = fits-by (read ⊕ lit 1024) (omega (arith, s .most)) (omega (arith, s .least))
 
-  pub raised-cast : let y = reread w32 (reread w32 x +ℤ pos 49152) in T (nonNeg y) × Fits w32 (natAbs y)
-  raised-cast = cast-by (back raised-fits (read ⊕ lit 49152)) (omega (arith, s .least)) (omega (arith, s .most))
+  pub raised-cast : let y = reread w32 (reread w32 x +ℤ pos 1024) in T (nonNeg y) × Fits w32 (natAbs y)
+  raised-cast = cast-by (back raised-fits (read ⊕ lit 1024)) (omega (arith, s .least)) (omega (arith, s .most))
 
-  pub raised-is : natAbs (reread w32 (reread w32 x +ℤ pos 49152)) ≡ natAbs (x +ℤ pos 49152)
+  pub raised-is : natAbs (reread w32 (reread w32 x +ℤ pos 1024)) % 65536 ≡ lentValue x
   raised-is =
-      cast-is (back raised-fits (read ⊕ lit 49152)) (omega (arith, s .least)) ∙ sym (cast-is (v x ⊕ lit 49152) (omega (arith, s .least)))
+      ap (λ (n : ℕ). n % 65536)
+      (cast-is (back raised-fits (read ⊕ lit 1024)) (omega (arith, s .least)) ∙ sym (cast-is (v x ⊕ lit 1024) (omega (arith, s .least))))
 
-  pub lent-value : Num (toZ w32 (natAbs (reread w32 (reread w32 x +ℤ pos 49152)) % 65536) -ℤ pos 65536) (lentValue x) 131071
-  lent-value = rw raised-is (natural-num w32 (low x) 65535 (omega arith) tt ⊟ con 65536)
-
-  -- an entry with this value has room in 16 bits
-  pub entry-fits : (i : ℤ) → natAbs i ≤ 16383 → SFits w16 (joinedEntry i x)
-  entry-fits i h = go (leZ i (pos 0))
-    where
-      go : (b : Bool) → SFits w16 (cond b (lentValue x) i)
-      go true = fits-by (lit (low x) ⊖ lit 65536) (omega arith) (omega (arith, s .half))
-      go false = fits w16 (num h) tt
+-- an entry has room in 16 bits
+pub entry-most : (i x : ℤ) → natAbs i ≤ 255 → joinedEntry i x ≤ 65535
+entry-most i x h = go (leZ i (pos 0))
+  where
+    go : (b : Bool) → cond b (lentValue x) (natAbs i) ≤ 65535
+    go true = omega arith
+    go false = omega arith
 
 -- ---- the tables as they are made
 
 -- a loop that copies the table to the place `at` has copied k entries
-pub record Copied (before table : List ℤ) (at : ℕ) (now : List ℤ) (k : ℕ) : Type 0 where
+pub record Copied (before table : List ℕ) (at : ℕ) (now : List ℕ) (k : ℕ) : Type 0 where
   pub most : k ≤ length table
   pub long : length now ≡ length before
   pub is : now ≡ paste before at table k
 
-module _ (before table : List ℤ) (at : ℕ) where
+module _ (before table : List ℕ) (at : ℕ) where
   pub copied-none : Copied before table at before 0
   copied-none = record { most = omega arith; long = refl; is = paste-zero before at table }
 
-  pub copied-one : (now : List ℤ) (k : ℕ) → at + length table ≤ length before → k < length table → Copied before table at now k
-      → Copied before table at (set now (at + k) (getD table k (pos 0))) (k + 1)
+  pub copied-one : (now : List ℕ) (k : ℕ) → at + length table ≤ length before → k < length table → Copied before table at now k
+      → Copied before table at (set now (at + k) (getD table k 0)) (k + 1)
   copied-one now k h l c =
       record {
         most = omega arith;
-        long = length-set now (at + k) (getD table k (pos 0)) ∙ c .long;
-        is = ap (λ (xs : List ℤ). set xs (at + k) (getD table k (pos 0))) (c .is) ∙ paste-suc before at table k (pos 0) (omega arith) l
+        long = length-set now (at + k) (getD table k 0) ∙ c .long;
+        is = ap (λ (xs : List ℕ). set xs (at + k) (getD table k 0)) (c .is) ∙ paste-suc before at table k 0 (omega arith) l
             ∙ ap (paste before at table) (sym (add-one k));
       }
 
-  pub copied-all : (now : List ℤ) (k : ℕ) → length table ≤ k → Copied before table at now k → now ≡ paste before at table (length table)
+  pub copied-all : (now : List ℕ) (k : ℕ) → length table ≤ k → Copied before table at now k → now ≡ paste before at table (length table)
   copied-all now k h c = let all : k ≡ length table = omega (arith, c .most) in c .is ∙ ap (paste before at table) all
 
 -- a loop that copies the table's entries from `first` on has copied those up to k
-module _ (before table : List ℤ) (at first k : ℕ) where
-  abbrev pub Part : List ℤ → ℕ → Type 0
+module _ (before table : List ℕ) (at first k : ℕ) where
+  abbrev pub Part : List ℕ → ℕ → Type 0
   Part now k = Copied before (drop first table) (at + first) now (k - first)
 
-  pub part-one : (now : List ℤ) (x : ℤ) → at + length table ≤ length before → first ≤ k → k < length table → x ≡ getD table k (pos 0)
+  pub part-one : (now : List ℕ) (x : ℕ) → at + length table ≤ length before → first ≤ k → k < length table → x ≡ getD table k 0
       → Part now k → Part (set now (at + k) x) (k + 1)
   part-one now x h f l e c =
       let rest = length-drop first table in
       let place : at + first + (k - first) ≡ at + k = omega arith in
       let count : k - first + 1 ≡ k + 1 - first = omega arith in
       let entry : first + (k - first) ≡ k = omega arith in
-      rw (place, count, getD-drop first table (k - first) (pos 0), entry, ← e) at
+      rw (place, count, getD-drop first table (k - first) 0, entry, ← e) at
       (copied-one before (drop first table) (at + first) now (k - first) (omega arith) (omega arith) c)
 
 -- a store before the part that is pasted
-paste-behind : (d : List ℤ) (at : ℕ) (s : List ℤ) (n i : ℕ) (v : ℤ) → i < at → at ≤ length d
+paste-behind : (d : List ℕ) (at : ℕ) (s : List ℕ) (n i : ℕ) (v : ℕ) → i < at → at ≤ length d
     → set (paste d at s n) i v ≡ paste (set d i v) at s n
 paste-behind d at s n i v l h =
     let front : i < length (take at d) = simp length-take (omega arith) in
     let more : i < length (take at d ++ take n s) = simp length-append (omega arith) in
     set-append-left (take at d ++ take n s) (drop (at + n) d) i v more
-    ∙ ap (λ (x : List ℤ). x ++ drop (at + n) d) (set-append-left (take at d) (take n s) i v front)
+    ∙ ap (λ (x : List ℕ). x ++ drop (at + n) d) (set-append-left (take at d) (take n s) i v front)
     ∙ rw (take-set-lt at d i v l, drop-set-lt (at + n) d i v (omega arith))
 
 -- a loop that copies both matrices, one behind the other, has copied k entries of each
-pub record Beside (before intra other now : List ℤ) (k : ℕ) : Type 0 where
+pub record Beside (before intra other now : List ℕ) (k : ℕ) : Type 0 where
   pub most : k ≤ 64
   pub is : now ≡ paste (paste before 702 intra k) 766 other k
 
-module _ (before intra other : List ℤ) where
+module _ (before intra other : List ℕ) where
   pub beside-none : Beside before intra other before 0
   beside-none = record { most = omega arith; is = paste-zero before 702 intra ∙ paste-zero (paste before 702 intra 0) 766 other }
 
-  module _ (l : length before ≡ 830) (a : length intra ≡ 64) (b : length other ≡ 64) (now : List ℤ) (k : ℕ) (c : Beside before intra other now k) where
+  module _ (l : length before ≡ 830) (a : length intra ≡ 64) (b : length other ≡ 64) (now : List ℕ) (k : ℕ) (c : Beside before intra other now k) where
     intra-long : (n : ℕ) → n ≤ 64 → length (paste before 702 intra n) ≡ 830
     intra-long n h = length-paste before 702 intra n (omega arith) (omega arith) ∙ l
 
@@ -127,19 +151,19 @@ module _ (before intra other : List ℤ) where
         ap length (c .is) ∙ length-paste (paste before 702 intra k) 766 other k (omega (arith, c .most)) (omega (arith, c .most)) ∙ h
 
     pub beside-one : k < 64
-        → Beside before intra other (set (set now (702 + k) (getD intra k (pos 0))) (766 + k) (getD other k (pos 0))) (k + 1)
+        → Beside before intra other (set (set now (702 + k) (getD intra k 0)) (766 + k) (getD other k 0)) (k + 1)
     beside-one h =
-        let x = getD intra k (pos 0) in
-        let y = getD other k (pos 0) in
+        let x = getD intra k 0 in
+        let y = getD other k 0 in
         let m = intra-long k (c .most) in
         let n = intra-long (suc k) (omega arith) in
         record {
           most = omega arith;
           is =
-              ap (λ (t : List ℤ). set (set t (702 + k) x) (766 + k) y) (c .is)
-              ∙ ap (λ (t : List ℤ). set t (766 + k) y) (paste-behind (paste before 702 intra k) 766 other k (702 + k) x (omega arith) (omega arith))
-              ∙ ap (λ (t : List ℤ). set (paste t 766 other k) (766 + k) y) (paste-suc before 702 intra k (pos 0) (omega arith) (omega arith))
-              ∙ paste-suc (paste before 702 intra (suc k)) 766 other k (pos 0) (omega arith) (omega arith)
+              ap (λ (t : List ℕ). set (set t (702 + k) x) (766 + k) y) (c .is)
+              ∙ ap (λ (t : List ℕ). set t (766 + k) y) (paste-behind (paste before 702 intra k) 766 other k (702 + k) x (omega arith) (omega arith))
+              ∙ ap (λ (t : List ℕ). set (paste t 766 other k) (766 + k) y) (paste-suc before 702 intra k 0 (omega arith) (omega arith))
+              ∙ paste-suc (paste before 702 intra (suc k)) 766 other k 0 (omega arith) (omega arith)
               ∙ ap (λ (i : ℕ). paste (paste before 702 intra i) 766 other i) (sym (add-one k));
         }
 
@@ -149,7 +173,7 @@ module _ (before intra other : List ℤ) where
         c .is ∙ ap (λ (i : ℕ). paste (paste before 702 intra i) 766 other i) all
 
 -- a table behind another
-paste-on : (t a b : List ℤ) (at n m : ℕ) → length a ≡ n → m ≤ length b → at + n + m ≤ length t
+paste-on : (t a b : List ℕ) (at n m : ℕ) → length a ≡ n → m ≤ length b → at + n + m ≤ length t
     → paste (paste t at a n) (at + n) b m ≡ paste t at (a ++ b) (n + m)
 paste-on t a b at n m l k h =
     let front : take n a ≡ a = take-all n a (omega arith) in
@@ -157,23 +181,23 @@ paste-on t a b at n m l k h =
     let behind : drop (at + n + m) (paste t at a n) ≡ drop (at + n + m) t =
     sym (drop-drop m (at + n) (paste t at a n)) ∙ ap (drop m) (drop-paste t at a n (omega arith) (omega arith)) ∙ drop-drop m (at + n) t in
     let sum : at + n + m ≡ at + (n + m) = omega arith in
-    ap (λ (x : List ℤ). x ++ take m b ++ drop (at + n + m) (paste t at a n)) (take-paste t at a n (omega arith) (omega arith))
-    ∙ ap (λ (x : List ℤ). take at t ++ x ++ take m b ++ drop (at + n + m) (paste t at a n)) front
-    ∙ ap (λ (x : List ℤ). take at t ++ a ++ take m b ++ x) (behind ∙ ap (λ (i : ℕ). drop i t) sum)
-    ∙ ap (λ (x : List ℤ). x ++ drop (at + (n + m)) t) (append-assoc (take at t) a (take m b))
-    ∙ ap (λ (x : List ℤ). take at t ++ x ++ drop (at + (n + m)) t) (sym both)
+    ap (λ (x : List ℕ). x ++ take m b ++ drop (at + n + m) (paste t at a n)) (take-paste t at a n (omega arith) (omega arith))
+    ∙ ap (λ (x : List ℕ). take at t ++ x ++ take m b ++ drop (at + n + m) (paste t at a n)) front
+    ∙ ap (λ (x : List ℕ). take at t ++ a ++ take m b ++ x) (behind ∙ ap (λ (i : ℕ). drop i t) sum)
+    ∙ ap (λ (x : List ℕ). x ++ drop (at + (n + m)) t) (append-assoc (take at t) a (take m b))
+    ∙ ap (λ (x : List ℕ). take at t ++ x ++ drop (at + (n + m)) t) (sym both)
 
 -- of the numbers t the n from `at` on have become those of `laid`, which has as many
-pub record Laid (before : List ℤ) (at : ℕ) (laid : List ℤ) (n : ℕ) (t : List ℤ) : Type 0 where
+pub record Laid (before : List ℕ) (at : ℕ) (laid : List ℕ) (n : ℕ) (t : List ℕ) : Type 0 where
   pub long : length laid ≡ n
   pub inside : at + n ≤ length before
   pub is : t ≡ paste before at laid n
 
-pub laid-none : (before : List ℤ) (at : ℕ) → at ≤ length before → Laid before at [] 0 before
+pub laid-none : (before : List ℕ) (at : ℕ) → at ≤ length before → Laid before at [] 0 before
 laid-none before at h = record { long = refl; inside = omega arith; is = paste-zero before at [] }
 
 -- one table more, of m entries, which are k
-pub laid-on : {before t after laid : List ℤ} {at n : ℕ} (table : List ℤ) (k : ℕ) {m : ℕ} → length before ≡ 830 → Laid before at laid n t
+pub laid-on : {before t after laid : List ℕ} {at n : ℕ} (table : List ℕ) (k : ℕ) {m : ℕ} → length before ≡ 830 → Laid before at laid n t
     → length table ≡ k → T (leb (at + n + k) 830) → m ≡ k
     → after ≡ paste t (at + n) table m → Laid before at (laid ++ table) (n + k) after
 laid-on {before} {t} {after} {laid} {at} {n} table k l f w h q r =
@@ -183,30 +207,30 @@ laid-on {before} {t} {after} {laid} {at} {n} table k l f w h q r =
       inside = omega (arith, l, most);
       is =
           r ∙ ap (paste t (at + n) table) q
-          ∙ ap (λ (x : List ℤ). paste x (at + n) table k) (f .is)
+          ∙ ap (λ (x : List ℕ). paste x (at + n) table k) (f .is)
           ∙ paste-on before laid table at n k (f .long) (omega arith) (omega (arith, l, most));
     }
 
 -- a part of a code table more: k entries of it, from `first` on
-pub laid-codes : {before t after laid : List ℤ} {at n : ℕ} (table : List ℤ) (first k : ℕ) → length before ≡ 830 → Laid before at laid n t
+pub laid-codes : {before t after laid : List ℕ} {at n : ℕ} (table : List ℕ) (first k : ℕ) → length before ≡ 830 → Laid before at laid n t
     → T (leb (first + k) (length table)) → T (leb (at + n + k) 830)
     → after ≡ paste t (at + n) (drop first table) k → Laid before at (laid ++ take k (drop first table)) (n + k) after
 laid-codes {t = t} {at = at} {n = n} table first k l f w h r =
     let part = take k (drop first table) in
     let long : length part ≡ k = omega (arith, length-take k (drop first table), length-drop first table, leb→le (first + k) (length table) w) in
     laid-on part k l f long h refl
-    (r ∙ ap (λ (x : List ℤ). take (at + n) t ++ x ++ drop (at + n + k) t) (sym (take-all k part (omega arith))))
+    (r ∙ ap (λ (x : List ℕ). take (at + n) t ++ x ++ drop (at + n + k) t) (sym (take-all k part (omega arith))))
 
 -- the first n of the numbers t are those of `front`
-pub record Front (t : List ℤ) (n : ℕ) (front : List ℤ) : Type 0 where
+pub record Front (t : List ℕ) (n : ℕ) (front : List ℕ) : Type 0 where
   pub long : length t ≡ 830
   pub is : take n t ≡ front
 
-pub front-none : {t : List ℤ} → length t ≡ 830 → Front t 0 []
+pub front-none : {t : List ℕ} → length t ≡ 830 → Front t 0 []
 front-none h = record { long = h; is = refl }
 
 -- one table more, of m entries, which are n
-pub front-on : {t front after : List ℤ} (table : List ℤ) (at n : ℕ) {m : ℕ} → Front t at front → length table ≡ n → T (leb (at + n) 830)
+pub front-on : {t front after : List ℕ} (table : List ℕ) (at n : ℕ) {m : ℕ} → Front t at front → length table ≡ n → T (leb (at + n) 830)
     → m ≡ n
     → after ≡ paste t at table m → Front after (at + n) (front ++ table)
 front-on {t} {front} {after} table at n f k h q r =
@@ -218,11 +242,11 @@ front-on {t} {front} {after} table at n f k h q r =
       is =
           ap (take (at + n)) e
           ∙ take-paste t at table n (omega arith) (omega arith)
-          ∙ ap (λ (x : List ℤ). x ++ take n table) (f .is)
-          ∙ ap (λ (x : List ℤ). front ++ x) (take-all n table (omega arith));
+          ∙ ap (λ (x : List ℕ). x ++ take n table) (f .is)
+          ∙ ap (λ (x : List ℕ). front ++ x) (take-all n table (omega arith));
     }
 
-pub front-all : {t front : List ℤ} → Front t 830 front → t ≡ front
+pub front-all : {t front : List ℕ} → Front t 830 front → t ≡ front
 front-all {t} f = sym (take-all 830 t (omega (arith, f .long))) ∙ f .is
 
 -- ---- what has been made is what is lent
@@ -249,47 +273,37 @@ fixed-length =
     ∙ ap (λ (n : ℕ). 246 + n) block-codes-length
 
 -- bytes, as they stand in the tables
-bytes-in : (l m : List ℕ) → ((k : ℕ) → getD l k 0 < 256) → ((k : ℕ) → getD m k 0 < 256) → (j : ℕ)
-    → T (isByte (getD (map pos l ++ map pos m) j (pos 0)))
-bytes-in [] [] f g j = tt
-bytes-in [] (y ∷ m) f g zero = le→leb y 255 (omega (arith, g 0))
-bytes-in [] (y ∷ m) f g (suc j) = bytes-in [] m f (λ k. g (suc k)) j
-bytes-in (x ∷ l) m f g zero = le→leb x 255 (omega (arith, f 0))
+bytes-in : (l m : List ℕ) → ((k : ℕ) → getD l k 0 < 256) → ((k : ℕ) → getD m k 0 < 256) → (j : ℕ) → getD (l ++ m) j 0 < 256
+bytes-in [] m f g j = g j
+bytes-in (x ∷ l) m f g zero = f 0
 bytes-in (x ∷ l) m f g (suc j) = bytes-in l m (λ k. f (suc k)) g j
 
 module _ (intra other : List ℕ) (i : Bytes64 intra) (o : Bytes64 other) where
-  abbrev matrices : List ℤ
-  matrices = map pos intra ++ map pos other
+  split : tablesWith intra other ≡ fixedTables ++ (intra ++ other)
+  split = append-assoc fixedTables intra other
 
-  split : tablesWith intra other ≡ fixedTables ++ matrices
-  split = append-assoc fixedTables (map pos intra) (map pos other)
-
-  behind : (k : ℕ) → 702 ≤ k → getD (fixedTables ++ matrices) k (pos 0) ≡ getD matrices (k - 702) (pos 0)
+  behind : (k : ℕ) → 702 ≤ k → getD (fixedTables ++ (intra ++ other)) k 0 ≡ getD (intra ++ other) (k - 702) 0
   behind k h =
       let e : k ≡ length fixedTables + (k - 702) = omega (arith, fixed-length) in
-      ap (λ (n : ℕ). getD (fixedTables ++ matrices) n (pos 0)) e ∙ getD-append-add fixedTables matrices (k - 702) (pos 0)
+      ap (λ (n : ℕ). getD (fixedTables ++ (intra ++ other)) n 0) e ∙ getD-append-add fixedTables (intra ++ other) (k - 702) 0
 
   pub lent-with : Lent (tablesWith intra other)
   lent-with =
       rw split
       (record {
-        fixed = take-at fixedTables matrices 702 fixed-length;
+        fixed = take-at fixedTables (intra ++ other) 702 fixed-length;
         bytes = λ k h. rw (behind k h) (bytes-in intra other (i .bytes) (o .bytes) (k - 702));
       })
 
   pub matrix-with : (b : Bool) → matrixOf (tablesWith intra other) b ≡ cond b intra other
   unfolding matrixOf
   matrix-with true =
-      ap (λ (l : List ℤ). map natAbs (take 64 (drop 702 l))) split
-      ∙ ap (λ (l : List ℤ). map natAbs (take 64 l)) (drop-at fixedTables matrices 702 fixed-length)
-      ∙ ap (map natAbs) (take-at (map pos intra) (map pos other) 64 (Parts.length-map pos intra ∙ i .long))
-      ∙ Parts.back intra
+      ap (λ (l : List ℕ). take 64 (drop 702 l)) split
+      ∙ ap (take 64) (drop-at fixedTables (intra ++ other) 702 fixed-length)
+      ∙ take-at intra other 64 (i .long)
   matrix-with false =
-      let front : length (fixedTables ++ map pos intra) ≡ 766 =
-      omega (arith, length-append fixedTables (map pos intra), fixed-length, Parts.length-map pos intra, i .long) in
-      ap (λ (l : List ℤ). map natAbs (take 64 l)) (drop-at (fixedTables ++ map pos intra) (map pos other) 766 front)
-      ∙ ap (map natAbs) (take-all 64 (map pos other) (omega (arith, Parts.length-map pos other, o .long)))
-      ∙ Parts.back other
+      let front : length (fixedTables ++ intra) ≡ 766 = omega (arith, length-append fixedTables intra, fixed-length, i .long) in
+      ap (take 64) (drop-at (fixedTables ++ intra) other 766 front) ∙ take-all 64 other (omega (arith, o .long))
 
 -- RULES 2.7: the default matrices, and the tables with them
 pub intra-bytes : Bytes64 intraQuantMatrix

@@ -37,26 +37,26 @@ ghost use mathlib.Core.Path.{_≡_};
 ghost use mathlib.Core.List.{map};
 ghost use Prim.Native.Nat.{_+_, _-_, _≤_};
 ghost use lib.Dec.{T};
-ghost use lib.IntN.{pos};
+ghost use lib.IntN.{natAbs};
 ghost use lib.ListN.{length, drop};
 ghost use lib.Seq.{paste};
-ghost use Rattle.codes.specs.Lent.{joined, all, near, short, macroblockCodes, blockCodes, tablesWith};
+ghost use Rattle.codes.specs.Lent.{joined, all, near, isByte, short, macroblockCodes, blockCodes, tablesWith};
 
-fn put(tables: &mut [i16], at: usize, table: &[i32])
+fn put(tables: &mut [u16], at: usize, table: &[i32])
     requires { ⌜ at + length (now table) ≤ length (now tables) ⌝ }
-    requires { ⌜ T (all near (now table)) ⌝ }
-    ensures { λ _. ⌜ now (tables .exit) ≡ paste (now (tables .entry)) at (now (table .entry)) (length (now (table .entry))) ⌝ }
+    requires { ⌜ T (all isByte (now table)) ⌝ }
+    ensures { λ _. ⌜ now (tables .exit) ≡ paste (now (tables .entry)) at (map natAbs (now (table .entry))) (length (now (table .entry))) ⌝ }
 {
     let mut k: usize = 0;
     while k < table.len() {
-        let entry = table[k] as i16;
+        let entry = table[k] as u16;
         tables[at + k] = entry;
         k += 1;
     }
 }
 
-// The entries from `first` up to `last` of a code table that stands at `at`: an index where the walk goes on, else 16 bits of a value, below 0.
-fn put_codes(tables: &mut [i16], at: usize, index: &[i32], value: &[i32], first: usize, last: usize)
+// The entries from `first` up to `last` of a code table that stands at `at`: an index where the walk goes on, else 16 bits of a value, above the indices.
+fn put_codes(tables: &mut [u16], at: usize, index: &[i32], value: &[i32], first: usize, last: usize)
     requires { ⌜ (first ≤ last) × (last ≤ length (now index)) × (length (now value) ≡ length (now index)) ⌝ }
     requires { ⌜ at + length (now index) ≤ length (now tables) ⌝ }
     requires { ⌜ T (all near (now index)) × T (all short (now value)) ⌝ }
@@ -66,21 +66,20 @@ fn put_codes(tables: &mut [i16], at: usize, index: &[i32], value: &[i32], first:
     let mut k = first;
     while k < last {
         let next = index[k];
-        let low = (value[k] + 49152) as u32 % 65536;
-        let found = low as i32 - 65536;
-        let entry = if next <= 0 { found } else { next };
-        tables[at + k] = entry as i16;
+        let found = (value[k] + 1024) as u32 % 65536;
+        let entry = if next <= 0 { found } else { next as u32 };
+        tables[at + k] = entry as u16;
         k += 1;
     }
 }
 
-fn put_bytes(tables: &mut [i16], at: usize, table: &[u8])
+fn put_bytes(tables: &mut [u16], at: usize, table: &[u8])
     requires { ⌜ at + length (now table) ≤ length (now tables) ⌝ }
-    ensures { λ _. ⌜ now (tables .exit) ≡ paste (now (tables .entry)) at (map pos (now (table .entry))) (length (now (table .entry))) ⌝ }
+    ensures { λ _. ⌜ now (tables .exit) ≡ paste (now (tables .entry)) at (now (table .entry)) (length (now (table .entry))) ⌝ }
 {
     let mut k: usize = 0;
     while k < table.len() {
-        let entry = table[k] as i16;
+        let entry = table[k] as u16;
         tables[at + k] = entry;
         k += 1;
     }
@@ -91,12 +90,12 @@ fn put_matrices(tables: &mut Tables, intra_matrix: &[u8], other_matrix: &[u8])
     requires { ⌜ length (now tables) ≡ 830 ⌝ }
     requires { ⌜ (length (now «intra_matrix») ≡ 64) × (length (now «other_matrix») ≡ 64) ⌝ }
     ensures { λ _. ⌜ now (tables .exit)
-        ≡ paste (paste (now (tables .entry)) 702 (map pos (now («intra_matrix» .entry))) 64) 766 (map pos (now («other_matrix» .entry))) 64 ⌝ }
+        ≡ paste (paste (now (tables .entry)) 702 (now («intra_matrix» .entry)) 64) 766 (now («other_matrix» .entry)) 64 ⌝ }
 {
     let mut k: usize = 0;
     while k < 64 {
-        let intra = intra_matrix[k] as i16;
-        let other = other_matrix[k] as i16;
+        let intra = intra_matrix[k] as u16;
+        let other = other_matrix[k] as u16;
         tables[INTRA_MATRIX + k] = intra;
         tables[OTHER_MATRIX + k] = other;
         k += 1;
@@ -167,7 +166,7 @@ fn put_block_codes(t: &mut Tables)
 pub fn tables_with(intra_matrix: &[u8; 64], other_matrix: &[u8; 64]) -> Tables
     ensures { λ r. ⌜ r ≡ tablesWith (now («intra_matrix» .entry)) (now («other_matrix» .entry)) ⌝ }
 {
-    let mut tables = [0i16; 830];
+    let mut tables = [0u16; 830];
     put_macroblock_codes(&mut tables);
     put_block_codes(&mut tables);
     put_matrices(&mut tables, intra_matrix, other_matrix);

@@ -1,20 +1,20 @@
 use mathlib.Core.List.{List}
 use native.Mathlib.Omega.{arith}
 use borrow.Author.Needs.{needs}
-use lib.IntN.{ℤ}
+use Prim.Native.Nat.{ℕ}
 use lib.ListN.{take, drop}
 use Rattle.codes.specs.Codes.{motion}
 use Rattle.codes.specs.Lent.{Lent, Joined}
 use Rattle.codes.specs.Tables.{motionIndex, motionValue}
 use Rattle.codes.proofs.Good.{good-motion}
-use Rattle.codes.proofs.Joined.{joined-good}
+use Rattle.codes.proofs.Joined.{joined-leading}
 use Rattle.codes.proofs.Parts.{places, lent-part}
 use Rattle.codes.proofs.codes.read_motion.Statement.{statement}
 use Rattle.codes.proofs.codes.read_motion.Tie as tie
 
-here : {t : List ℤ} → Lent t → Joined motionIndex motionValue (take 68 (drop 246 t))
-unfolding motionValue
-here l = record { is = lent-part l 246 68 (omega arith) (places .vector); values = tt }
+here : {t : List ℕ} → Lent t → Joined motionIndex motionValue (take 68 (drop 246 t))
+unfolding motionIndex motionValue
+here l = record { is = lent-part l 246 68 (omega arith) (places .vector); places = tt; values = tt }
 
 returns : tie.Need-returns
 unfolding motion motionValue
@@ -24,4 +24,4 @@ pub read-motion-spec : {M : Type 1} → statement M
 read-motion-spec =
     tie.close
     (tie.spec (λ c. search needs) (λ c. search needs) (λ c. search needs)
-    (λ c κs. let s = c .before .before .before in (s .pre .0, joined-good (here (s .pre .1)) good-motion)) returns)
+    (λ c κs. let s = c .before .before .before in (s .pre .0, joined-leading (here (s .pre .1)) good-motion)) returns)

@@ -5,7 +5,7 @@ use Prim.Native.Nat.{ℕ}
 use native.Mathlib.Omega.{arith}
 use denote.Ref.{now}
 use borrow.Author.Needs.{needs}
-use lib.IntN.{pos}
+use lib.IntN.{pos, natAbs}
 use lib.ListN.{length}
 use lib.Seq.{paste}
 use Rattle.codes.specs.Matrices.{zigZag, downFrom, diagonals, premultiplierMatrix}
@@ -44,8 +44,8 @@ returns c =
     let l13 = laid-codes coefficients 168 24 long l12 tt tt (x13 .put-codes13 .ensures) in
     let l14 = laid-codes coefficients 192 24 long l13 tt tt (x14 .put-codes14 .ensures) in
     let l15 = laid-codes coefficients 216 8 long l14 tt tt (x15 .put-codes15 .ensures) in
-    let order = laid-on (map pos zigZag) 64 long l15 refl tt refl (z .put-bytes .ensures) in
-    let all = laid-on premultiplierMatrix 64 long order refl tt refl (c .put .ensures) in
+    let order = laid-on zigZag 64 long l15 refl tt refl (z .put-bytes .ensures) in
+    let all = laid-on (map natAbs premultiplierMatrix) 64 long order refl tt refl (c .put .ensures) in
     all .is ∙ ap (paste t 246 blockCodes) (sym block-codes-length) ∙ ap (λ (k : ℕ). paste t k blockCodes (length blockCodes)) (sym macroblock-codes-length)
 
 pub put-block-codes-spec : {M : Type 1} → statement M

@@ -1,21 +1,18 @@
 -- The loop's invariant: the entries from `first` up to k are laid.
-use mathlib.Core.Path.{_≡_, refl, ap, sym, _∙_}
+use mathlib.Core.Path.{_≡_, refl, sym, _∙_}
 use mathlib.Core.Logic.{⊎-elim}
 use Prim.Native.Nat.{_+_, _-_, _≤_}
 use native.Mathlib.Omega.{arith}
 use denote.Ref.{now}
 use borrow.Author.Needs.{needs, sfits-of}
-use lib.IntN.{ℤ, pos}
+use lib.IntN.{ℤ, pos, natAbs}
 use lib.ListN.{drop, getD}
 use mir.Facts.{toZ-ofZ}
-use mir.Syntax.{w16, w32}
-use mir.Val.{SFits, toZ}
-use Rattle.laws.proofs.Ints.{reread}
-use Rattle.laws.proofs.Nums.{rd, fits}
+use mir.Syntax.{w32}
 use Rattle.laws.proofs.Tests.{if-yes, if-no}
 use Rattle.codes.specs.Lent.{lentValue, joinedEntry, joined}
 use Rattle.codes.proofs.Joined.{joined-length, joined-at, near-at, Short, short-at}
-use Rattle.tables.proofs.Made.{raised-fits, raised-cast, lent-value, entry-fits, Copied, copied-none, part-one}
+use Rattle.tables.proofs.Made.{index-is, index-cast, raised-fits, raised-cast, raised-is, entry-most, Copied, copied-none, part-one}
 use Rattle.tables.proofs.tables.put_codes.Statement.{statement}
 use Rattle.tables.proofs.tables.put_codes.Tie as tie
 
@@ -33,40 +30,40 @@ loop-holds c =
     (rw none at (copied-none (now (a .tables)) (drop (a .first) (joined (now (a .index)) (now (a .value)))) (a .at + a .first)), omega arith, omega arith)
 
 -- the index and the value of the entry k
-abbrev index : tie.After-low Inv-loop μ-loop → ℤ
+abbrev index : tie.After-found Inv-loop μ-loop → ℤ
 index c = getD (now (c .before .before .before .before .args .index)) (c .before .before .before .loop .k) (pos 0)
 
-abbrev value : tie.After-low Inv-loop μ-loop → ℤ
+abbrev value : tie.After-found Inv-loop μ-loop → ℤ
 value c = getD (now (c .before .before .before .before .args .value)) (c .before .before .before .loop .k) (pos 0)
 
-short : (c : tie.After-low Inv-loop μ-loop) → Short (value c)
+near : (c : tie.After-found Inv-loop μ-loop) → natAbs (index c) ≤ 255
+near c = let s = c .before .before .before .before in near-at (now (s .args .index)) (s .pre .1 .1 .0) (c .before .before .before .loop .k)
+
+short : (c : tie.After-found Inv-loop μ-loop) → Short (value c)
 short c = let s = c .before .before .before .before in short-at (now (s .args .value)) (s .pre .1 .1 .1) (c .before .before .before .loop .k)
 
-room : (c : tie.After-low Inv-loop μ-loop) → SFits w16 (joinedEntry (index c) (value c))
-room c =
-    let s = c .before .before .before .before in
-    entry-fits (value c) (short c) (index c) (near-at (now (s .args .index)) (s .pre .1 .1 .0) (c .before .before .before .loop .k))
-
-entry : (c : tie.Joined1 Inv-loop μ-loop) → toZ w32 (c .if1 .entry) ≡ joinedEntry (index (c .before)) (value (c .before))
+entry : (c : tie.Joined1 Inv-loop μ-loop) → c .if1 .entry ≡ joinedEntry (index (c .before)) (value (c .before))
 entry c =
     let f = c .before in
-    let i = toZ-ofZ {z = index f} (sfits-of (f .before .next .given)) in
+    let i = toZ-ofZ {w = w32} {z = index f} (sfits-of (f .before .next .given)) in
     ⊎-elim
-    (λ w. ap (toZ w32) (w .1) ∙ rd w32 (lent-value (value f) (short f)) tt .is ∙ sym (if-yes (index f) (rw i at (w .0 .taken)) refl))
-    (λ w. ap (toZ w32) (w .1) ∙ i ∙ sym (if-no (lentValue (value f)) (rw i at (w .0 .left)) refl))
+    (λ w. w .1 ∙ raised-is (value f) (short f) ∙ sym (if-yes (natAbs (index f)) (rw i at (w .0 .taken)) refl))
+    (λ w. w .1 ∙ index-is (index f) (near f) ∙ sym (if-no (lentValue (value f)) (rw i at (w .0 .left)) refl))
     (c .if1 .came)
+
+most : (c : tie.Joined1 Inv-loop μ-loop) → c .if1 .entry ≤ 65535
+most c = let f = c .before in omega (arith, entry c, entry-most (index f) (value f) (near f))
 
 loop-again : tie.Need-loop-again Inv-loop μ-loop
 loop-again c =
-    let x = c .before .before .before .before in
+    let j = c .before in
+    let x = j .before .before .before .before in
     let a = x .before .args in
     let k = x .loop .k in
     let long = joined-length (now (a .index)) (now (a .value)) in
-    let e = joinedEntry (index (c .before)) (value (c .before)) in
-    let laid = ap (reread w16) (entry c) ∙ toZ-ofZ (room (c .before)) in
-    let part = part-one (now (a .tables)) (joined (now (a .index)) (now (a .value))) (a .at) (a .first) k (x .loop .tables) e (omega arith) (omega arith)
-    (omega arith) (sym (joined-at (now (a .index)) (now (a .value)) k (omega arith))) (x .loop .inv .0) in (
-      rw laid part,
+    let laid = entry j ∙ sym (joined-at (now (a .index)) (now (a .value)) k (omega arith)) in (
+      part-one (now (a .tables)) (joined (now (a .index)) (now (a .value))) (a .at) (a .first) k (x .loop .tables) (j .if1 .entry) (omega arith) (omega arith)
+          (omega arith) laid (x .loop .inv .0),
       omega arith,
       omega arith,
     )
@@ -82,7 +79,6 @@ put-codes-spec =
     tie.close
     (tie.spec
     Inv-loop μ-loop loop-holds (λ c. search needs) (λ c. omega arith) (λ c. search needs) (λ c. omega arith) (λ c. raised-fits (value c) (short c))
-    (λ c. raised-cast (value c) (short c)) (λ c. record { sfits = omega arith }) (λ c. fits w32 (lent-value (value c) (short c)) tt)
-    (λ c. rw (entry c) (room (c .before)))
-    (λ c. omega arith) (λ c. search needs) (λ c. omega (arith, c .before .before .before .before .loop .inv .0 .long)) (λ c. omega arith)
+    (λ c. raised-cast (value c) (short c)) (λ c. index-cast (index (c .before)) (near (c .before)) (c .if1 .left)) (λ c. omega (arith, most (c .before)))
+    (λ c. omega arith) (λ c. search needs) (λ c. omega (arith, c .before .before .before .before .before .loop .inv .0 .long)) (λ c. omega arith)
     (λ c. omega arith) loop-again (λ c. c .before .loop .inv .0 .long) returns)

@@ -1,54 +1,38 @@
 -- The loop's invariant: the first k entries of both are copied.
-use mathlib.Core.Path.{_∙_}
-use mathlib.Core.List.{map}
 use Prim.Native.Nat.{_-_}
 use native.Mathlib.Omega.{arith}
 use denote.Ref.{now}
-use lib.IntN.{pos}
-use lib.ListN.{getD}
-use mir.Syntax.{w16}
-use mir.ValLaws.{toZ-pos}
-use Rattle.codes.proofs.Parts.{length-map, map-at}
 use Rattle.tables.proofs.Made.{Beside, beside-none, beside-one, beside-all}
 use Rattle.tables.proofs.tables.put_matrices.Statement.{statement}
 use Rattle.tables.proofs.tables.put_matrices.Tie as tie
 
 abbrev Inv-loop : tie.InvT-loop
-Inv-loop tables₀ intra-matrix other-matrix k₀ tables k = Beside tables₀ (map pos intra-matrix) (map pos other-matrix) tables k
+Inv-loop tables₀ intra-matrix other-matrix k₀ tables k = Beside tables₀ intra-matrix other-matrix tables k
 
 abbrev μ-loop : tie.MeasureT-loop
 μ-loop tables₀ intra-matrix other-matrix k₀ tables k = 64 - k
 
 cast-intra : tie.Need-cast-intra Inv-loop μ-loop
-cast-intra c = record { sfits = omega (arith, c .shared-slice-known .given (c .before .before .loop .k)) }
+cast-intra c = omega (arith, c .shared-slice-known .given (c .before .before .loop .k))
 
 cast-other : tie.Need-cast-other Inv-loop μ-loop
-cast-other c = record { sfits = omega (arith, c .shared-slice-known2 .given (c .before .before .before .loop .k)) }
+cast-other c = omega (arith, c .shared-slice-known2 .given (c .before .before .before .loop .k))
 
 loop-again : tie.Need-loop-again Inv-loop μ-loop
 loop-again c =
     let x = c .before .before .before in
     let s = x .before in
-    let i = now (s .args .intra-matrix) in
-    let o = now (s .args .other-matrix) in
-    let k = x .loop .k in
-    rw (
-      toZ-pos w16 (getD i k 0) (omega (arith, c .before .shared-slice-known .given k)),
-      ← map-at pos i 0 k,
-      toZ-pos w16 (getD o k 0) (omega (arith, c .shared-slice-known2 .given k)),
-      ← map-at pos o 0 k,
-    )
-    (beside-one (now (s .args .tables)) (map pos i) (map pos o) (s .pre .0) (length-map pos i ∙ s .pre .1 .0) (length-map pos o ∙ s .pre .1 .1)
-    (x .loop .tables) k (x .loop .inv) (c .before .before .loop-test .taken))
+    let a = s .args in
+    beside-one (now (a .tables)) (now (a .intra-matrix)) (now (a .other-matrix)) (s .pre .0) (s .pre .1 .0) (s .pre .1 .1) (x .loop .tables) (x .loop .k)
+    (x .loop .inv) (c .before .before .loop-test .taken)
 
 returns : tie.Need-returns Inv-loop μ-loop
 returns c =
     let x = c .before in
     let s = x .before in
-    let i = now (s .args .intra-matrix) in
-    let o = now (s .args .other-matrix) in
-    beside-all (now (s .args .tables)) (map pos i) (map pos o) (s .pre .0) (length-map pos i ∙ s .pre .1 .0) (length-map pos o ∙ s .pre .1 .1)
-    (x .loop .tables) (x .loop .k) (x .loop .inv) (c .loop-test .left)
+    let a = s .args in
+    beside-all (now (a .tables)) (now (a .intra-matrix)) (now (a .other-matrix)) (s .pre .0) (s .pre .1 .0) (s .pre .1 .1) (x .loop .tables) (x .loop .k)
+    (x .loop .inv) (c .loop-test .left)
 
 pub put-matrices-spec : {M : Type 1} → statement M
 put-matrices-spec =

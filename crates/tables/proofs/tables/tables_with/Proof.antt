@@ -1,14 +1,12 @@
 -- The fixed tables are laid in two parts, and the matrices behind them.
 use mathlib.Core.Path.{refl, ap, _∙_}
-use mathlib.Core.List.{List, map, _++_}
+use mathlib.Core.List.{List, _++_}
 use Prim.Native.Nat.{ℕ}
 use denote.Ref.{now}
 use borrow.Author.Needs.{needs}
-use lib.IntN.{ℤ, pos}
 use lib.ListN.{length, replicate}
 use lib.Seq.{paste}
 use Rattle.codes.specs.Lent.{macroblockCodes, blockCodes, fixedTables}
-use Rattle.codes.proofs.Parts.{length-map}
 use Rattle.tables.proofs.Made.{Front, front-none, front-on, front-all, macroblock-codes-length, block-codes-length}
 use Rattle.tables.proofs.tables.tables_with.Statement.{statement}
 use Rattle.tables.proofs.tables.tables_with.Tie as tie
@@ -17,9 +15,9 @@ use Rattle.tables.proofs.tables.tables_with.Tie as tie
 fixed : (c : tie.After-put-block-codes) → Front (c .put-block-codes .last .0) 702 (macroblockCodes ++ blockCodes)
 fixed c =
     let m = c .before .before in
-    let f = front-on macroblockCodes 0 246 (front-none {t = replicate 830 (pos 0)} refl) macroblock-codes-length tt macroblock-codes-length
+    let f = front-on macroblockCodes 0 246 (front-none {t = replicate 830 0} refl) macroblock-codes-length tt macroblock-codes-length
     (m .put-macroblock-codes .ensures) in
-    let behind : ℕ → List ℤ = λ k. paste (m .put-macroblock-codes .last .0) k blockCodes (length blockCodes) in
+    let behind : ℕ → List ℕ = λ k. paste (m .put-macroblock-codes .last .0) k blockCodes (length blockCodes) in
     front-on blockCodes 246 456 f block-codes-length tt block-codes-length (c .put-block-codes .ensures ∙ ap behind macroblock-codes-length)
 
 put-matrices-requires : tie.Need-put-matrices-requires
@@ -35,11 +33,8 @@ returns c =
     let i = o .before in
     let laid = i .before .before in
     let a = laid .before .before .before .before .args in
-    let intra = map pos (now (a .intra-matrix)) in
-    let other = map pos (now (a .other-matrix)) in
-    let first = front-on intra 702 64 (fixed laid) (length-map pos (now (a .intra-matrix)) ∙ i .put-matrices-arg .given .0) tt refl refl in
-    let both = front-on other 766 64 first (length-map pos (now (a .other-matrix)) ∙ o .put-matrices-arg2 .given .0) tt refl (c .put-matrices .ensures) in
-    front-all both
+    let first = front-on (now (a .intra-matrix)) 702 64 (fixed laid) (i .put-matrices-arg .given .0) tt refl refl in
+    front-all (front-on (now (a .other-matrix)) 766 64 first (o .put-matrices-arg2 .given .0) tt refl (c .put-matrices .ensures))
 
 pub tables-with-spec : {M : Type 1} → statement M
 tables-with-spec = tie.close (tie.spec (λ c κs. search needs) (λ c κs. search needs) put-matrices-requires returns)
