@@ -1,7 +1,8 @@
 // Times whole decoding: ours, the archives of crates/mpeg1 and crates/count, and the Rust on the same bytes in one process.
 // usage: whole ROUNDS FILE ..         ratios of the best processor times, the two in turn: opening and all hand-outs, with the record in our memory between
-//                                     the calls as a host has it; the hand-outs alone; and opening and all hand-outs as calls of `decoder`, the
-//                                     record by value, which is the Rust's way; and of conversions of the first picture of the first two files
+//                                     the calls as a host has it; opening and the hand-outs, each alone; and opening and all hand-outs as calls of
+//                                     `decoder`, the record by value, which is the Rust's way; and of conversions of the first picture of the first
+//                                     two files
 //        whole once KIND TIMES FILE   passes over the file, for a count of instructions; KIND is ours, calls, rust, ours-opening,
 //                                     rust-opening, or none, which only reads the file and copies it
 mod clock;
@@ -74,7 +75,7 @@ fn timed(stream: &[u8], times: usize, mut pass: impl FnMut(Vec<u8>)) -> f64 {
 }
 
 fn ratio(what: &str, ours: f64, rust: f64) -> String {
-    format!("{what} ours {:>8.4} ms, rust {:>8.4} ms, ratio {:.3}", ours / 1e6, rust / 1e6, ours / rust)
+    format!("{what} ours {:>10.3} us, rust {:>10.3} us, ratio {:.3}", ours / 1e3, rust / 1e3, ours / rust)
 }
 
 fn measure(name: &str, stream: &[u8], rounds: usize) {
@@ -93,8 +94,11 @@ fn measure(name: &str, stream: &[u8], rounds: usize) {
         best[4] = best[4].min(timed(stream, times, |bytes| calls(&mut decoder, bytes, pictures)));
     }
     let file = name.rsplit('/').next().unwrap_or(name);
-    let (whole, alone) = (ratio("all", best[0], best[1]), ratio("hand-outs alone", best[0] - best[2], best[1] - best[3]));
-    println!("{file:<16} {:>7} bytes {pictures:>3} pictures   {whole}   {alone}   {}", stream.len(), ratio("by value", best[4], best[1]));
+    println!("{file:<16} {:>7} bytes {pictures:>3} pictures", stream.len());
+    println!("    {}", ratio("all            ", best[0], best[1]));
+    println!("    {}", ratio("opening        ", best[2], best[3]));
+    println!("    {}", ratio("hand-outs alone", best[0] - best[2], best[1] - best[3]));
+    println!("    {}", ratio("by value       ", best[4], best[1]));
 }
 
 // The conversion of the first picture to an area of w by h, in nanoseconds a pixel.

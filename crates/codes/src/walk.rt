@@ -25,6 +25,7 @@ pub struct VlcUint {
     pub value: u32,
 }
 
+// A bit chooses an entry of a pair. Below 256 it is the index of the next pair; values stand above the indices, and the walk ends at one.
 pub fn walk(s: &[u8], reader: Reader, table: &[u16]) -> Leaf
     requires { ⌜ Inside (now s) reader ⌝ }
     requires { ⌜ Leading (now table) ⌝ }
