@@ -1,11 +1,11 @@
-use mathlib.Core.Path.{sym, _∙_}
+use mathlib.Core.Path.{refl, sym, _∙_}
 use Prim.Native.Nat.{_+_, _/_, _≤_}
 use borrow.Author.Needs.{needs}
 use borrow.Author.Tests.{leb-true}
 use lib.ListN.{length}
 use native.Mathlib.Omega.{arith}
 use denote.Ref.{now}
-use Rattle.codes.proofs.Looked.{coefficient-looked, coefficient-further, coefficient-ends, below, looked-code, further-code, further-asks}
+use Rattle.codes.proofs.Looked.{coefficient-agrees, coefficient-further, coefficient-ends, below, looked-code, further-code, further-asks}
 use Rattle.codes.proofs.Parts.{places, natural-table, natural-code}
 use Rattle.codes.proofs.codes.read_dct_coeff.Statement.{statement}
 use Rattle.codes.proofs.codes.read_dct_coeff.Tie as tie
@@ -23,27 +23,23 @@ next-requires c κs = leb-true _ _ (sym (c .before .has-eight .ensures) ∙ c .i
 further-requires : tie.Need-read-natural-from-requires
 further-requires c κs =
     let x = c .before .before in
-    further-asks (places .coefficient) (begun x .pre .0) (two x) (x .next-eight .ensures) (begun x .pre .1) _ (c .on .ensures) (omega arith)
+    further-asks (places .coefficient) (begun x .pre .1) (begun x .pre .0) (two x) (c .on .ensures) _ (omega arith)
 
 returns : tie.Need-returns
 returns c =
     let x = c .before .before .before in
-    further-code (places .coefficient) (begun x .pre .0) (two x) (x .next-eight .ensures) (begun x .pre .1)
-    (coefficient-further (x .next-eight .result) (c .before .before .if2 .taken)) (c .before .on .ensures) (c .read-natural-from .ensures)
+    further-code (begun x .pre .0) (coefficient-agrees _ _ (two x) (x .next-eight .ensures) refl) (places .coefficient) (begun x .pre .1)
+    (coefficient-further _ (c .before .before .if2 .taken)) (c .before .on .ensures) (c .read-natural-from .ensures)
 
 look-requires : tie.Need-look-dct-coeff-requires
-look-requires c κs =
-    let x = c .before in
-    below (now (begun x .args .s)) (begun x .args .reader .at .0) (x .next-eight .ensures)
+look-requires c κs = below _ _ (c .before .next-eight .ensures)
 
 returns-2 : tie.Need-returns-2
 returns-2 c =
     let x = c .before .before .before in
-    let small = below (now (begun x .args .s)) (begun x .args .reader .at .0) (x .next-eight .ensures) in
     let e = c .before .look-dct-coeff .ensures in
-    let k = x .next-eight .result in
-    looked-code (places .coefficient) (begun x .pre .0) (two x) (x .next-eight .ensures) (e ∙ coefficient-looked k small)
-    (omega (arith, e ∙ coefficient-looked k small, coefficient-ends k small (c .before .before .if2 .left))) (c .found .ensures .0) (c .found .ensures .1)
+    let some = coefficient-ends _ (below _ _ (x .next-eight .ensures)) (c .before .before .if2 .left) in
+    looked-code (begun x .pre .0) (coefficient-agrees _ _ (two x) (x .next-eight .ensures) e) (rw e some) (c .found .ensures .0) (c .found .ensures .1)
 
 pub read-dct-coeff-spec : {M : Type 1} → statement M
 read-dct-coeff-spec =

@@ -1,4 +1,4 @@
-use mathlib.Core.Path.{_≡_, ap, sym, _∙_}
+use mathlib.Core.Path.{_≡_, refl, ap, sym, _∙_}
 use mathlib.Core.Logic.{⊎-elim}
 use Prim.Native.Nat.{_+_, _/_, _≤_, _<_}
 use borrow.Author.Needs.{needs}
@@ -8,7 +8,7 @@ use native.Mathlib.Omega.{arith}
 use denote.Ref.{now}
 use Rattle.codes.specs.Look.{led}
 use Rattle.codes.specs.Tables.{macroblockAddressIncrementIndex}
-use Rattle.codes.proofs.Looked.{increment-one, increment-looked, increment-further, increment-ends, below, looked-code, further-code, further-asks}
+use Rattle.codes.proofs.Looked.{increment-one, increment-agrees, increment-further, increment-ends, below, looked-code, further-code, further-asks}
 use Rattle.codes.proofs.Parts.{places, natural-table, natural-code}
 use Rattle.codes.proofs.codes.read_macroblock_address_increment.Statement.{statement}
 use Rattle.codes.proofs.codes.read_macroblock_address_increment.Tie as tie
@@ -26,41 +26,38 @@ next-requires c κs = leb-true _ _ (sym (c .before .has-eight .ensures) ∙ c .i
 further-requires : tie.Need-read-natural-from-requires
 further-requires c κs =
     let x = c .before .before .before in
-    further-asks (places .increment) (begun x .pre .0) (two x) (x .next-eight .ensures) (begun x .pre .1) 40 (c .on .ensures) (omega arith)
+    further-asks (places .increment) (begun x .pre .1) (begun x .pre .0) (two x) (c .on .ensures) 40 (omega arith)
 
 returns : tie.Need-returns
 returns c =
     let x = c .before .before .before .before in
-    further-code (places .increment) (begun x .pre .0) (two x) (x .next-eight .ensures) (begun x .pre .1)
+    further-code (begun x .pre .0) (increment-agrees _ _ (two x) (x .next-eight .ensures) refl) (places .increment) (begun x .pre .1)
     (ap (led macroblockAddressIncrementIndex) (c .before .before .if3 .taken) ∙ increment-one) (c .before .on .ensures) (c .read-natural-from .ensures)
 
 further-requires-2 : tie.Need-read-natural-from-requires-2
 further-requires-2 c κs =
     let x = c .before .before .before .before in
-    further-asks (places .increment) (begun x .pre .0) (two x) (x .next-eight .ensures) (begun x .pre .1) _ (c .on2 .ensures) (omega arith)
+    further-asks (places .increment) (begun x .pre .1) (begun x .pre .0) (two x) (c .on2 .ensures) _ (omega arith)
 
 returns-2 : tie.Need-returns-2
 returns-2 c =
     let x = c .before .before .before .before .before in
-    further-code (places .increment) (begun x .pre .0) (two x) (x .next-eight .ensures) (begun x .pre .1)
-    (increment-further (x .next-eight .result) (c .before .before .if4 .taken) (c .before .before .before .before .if2 .taken))
+    further-code (begun x .pre .0) (increment-agrees _ _ (two x) (x .next-eight .ensures) refl) (places .increment) (begun x .pre .1)
+    (increment-further _ (c .before .before .if4 .taken) (c .before .before .before .before .if2 .taken))
     (c .before .on2 .ensures) (c .read-natural-from2 .ensures)
 
 look-requires : tie.Need-look-macroblock-address-increment-requires
-look-requires c κs =
-    let x = c .before in
-    below (now (begun x .args .s)) (begun x .args .reader .at .0) (x .next-eight .ensures)
+look-requires c κs = below _ _ (c .before .next-eight .ensures)
 
 returns-3 : tie.Need-returns-3
 returns-3 c =
     let x = c .before .before .before in
-    let small = below (now (begun x .args .s)) (begun x .args .reader .at .0) (x .next-eight .ensures) in
     let e = c .before .look-macroblock-address-increment .ensures in
     let k = x .next-eight .result in
     let rest : (k ≡ 1 → ⊥) × (2 < k → 6 ≤ k)
     = ⊎-elim (λ w. (w .1 .left, λ h. omega (arith, w .2 .left))) (λ w. (λ q. omega (arith, w .left), λ h. w .left)) (c .before .before .if2 .came) in
-    looked-code (places .increment) (begun x .pre .0) (two x) (x .next-eight .ensures) (e ∙ increment-looked k small)
-    (omega (arith, e ∙ increment-looked k small, increment-ends k small (rest .0) (rest .1))) (c .found .ensures .0) (c .found .ensures .1)
+    let some = increment-ends k (below _ _ (x .next-eight .ensures)) (rest .0) (rest .1) in
+    looked-code (begun x .pre .0) (increment-agrees _ _ (two x) (x .next-eight .ensures) e) (rw e some) (c .found .ensures .0) (c .found .ensures .1)
 
 pub read-macroblock-address-increment-spec : {M : Type 1} → statement M
 read-macroblock-address-increment-spec =
