@@ -139,9 +139,10 @@ module _ {index : List ℤ} {value : List ℕ} {code : Prog ℕ} {s : List ℕ} 
 
   module _ {a n : ℕ} (p : Natural a n index value code) {t : List ℕ} (l : Lent t) where
     -- longer than eight bits: walked on from the pair to which these lead
-    pub further-code : {k v : ℕ} {mid to : Reader} → led index x ≡ further k → mid .at .0 ≡ from .at .0 + 8
-        → ((ix : List ℤ) (vs : List ℕ) → Joined ix (map pos vs) (take n (drop a t)) → Reading (vlcFrom ix vs 0 k) s mid v to) → Reading code s from v to
-    further-code {k} q m r = reading i (record { is = g .longer k q .runs ∙ rw (← m) (r index value (natural-here l p) .runs .is) })
+    pub further-code : {k v : ℕ} {mid to : Reader} → mid .at .0 ≡ from .at .0 + 8
+        → ((ix : List ℤ) (vs : List ℕ) → Joined ix (map pos vs) (take n (drop a t)) → Reading (vlcFrom ix vs 0 k) s mid v to) → led index x ≡ further k
+        → Reading code s from v to
+    further-code {k} m r q = reading i (record { is = g .longer k q .runs ∙ rw (← m) (r index value (natural-here l p) .runs .is) })
 
 module _ {a n : ℕ} {index : List ℤ} {value : List ℕ} {code : Prog ℕ} (p : Natural a n index value code) where
   -- what the walk from there asks

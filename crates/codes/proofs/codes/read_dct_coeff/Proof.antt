@@ -29,7 +29,7 @@ returns : tie.Need-returns
 returns c =
     let x = c .before .before .before in
     further-code (begun x .pre .0) (coefficient-agrees _ _ (two x) (x .next-eight .ensures) refl) (places .coefficient) (begun x .pre .1)
-    (coefficient-further _ (c .before .before .if2 .taken)) (c .before .on .ensures) (c .read-natural-from .ensures)
+    (c .before .on .ensures) (c .read-natural-from .ensures) (coefficient-further _ (omega (arith, c .before .before .if2 .taken)))
 
 look-requires : tie.Need-look-dct-coeff-requires
 look-requires c κs = below _ _ (c .before .next-eight .ensures)

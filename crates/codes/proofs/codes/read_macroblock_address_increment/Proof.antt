@@ -32,7 +32,7 @@ returns : tie.Need-returns
 returns c =
     let x = c .before .before .before .before in
     further-code (begun x .pre .0) (increment-agrees _ _ (two x) (x .next-eight .ensures) refl) (places .increment) (begun x .pre .1)
-    (ap (led macroblockAddressIncrementIndex) (c .before .before .if3 .taken) ∙ increment-one) (c .before .on .ensures) (c .read-natural-from .ensures)
+    (c .before .on .ensures) (c .read-natural-from .ensures) (ap (led macroblockAddressIncrementIndex) (c .before .before .if3 .taken) ∙ increment-one)
 
 further-requires-2 : tie.Need-read-natural-from-requires-2
 further-requires-2 c κs =
@@ -43,8 +43,8 @@ returns-2 : tie.Need-returns-2
 returns-2 c =
     let x = c .before .before .before .before .before in
     further-code (begun x .pre .0) (increment-agrees _ _ (two x) (x .next-eight .ensures) refl) (places .increment) (begun x .pre .1)
-    (increment-further _ (c .before .before .if4 .taken) (c .before .before .before .before .if2 .taken))
     (c .before .on2 .ensures) (c .read-natural-from2 .ensures)
+    (increment-further _ (c .before .before .if4 .taken) (c .before .before .before .before .if2 .taken))
 
 look-requires : tie.Need-look-macroblock-address-increment-requires
 look-requires c κs = below _ _ (c .before .next-eight .ensures)
