@@ -533,7 +533,7 @@ for name, some in (('four', b''), ('five', b'\x01')):
         c.picture(1)
         c.start(0)
 
-# -- 2.2 by look-up: every code at each place in a byte, and every eight bits that begin one
+# -- 2.2 by look-up: every code of the two tables at each place in a byte, and every eight bits that begin one
 def all_of(table, codes):
     return {(table, code, place) for code in codes for place in range(8)} | {(table, format(x, '08b')) for x in range(256)}
 
@@ -558,7 +558,7 @@ def chance_pairs(t, n, left, need):
         parts, need, n = parts + [part], need[len(code + bits):], n + part[0] + 1
     t.code(COEFF, '10')
     return parts, need[2:] if need.startswith('10') else ''
-# of some blocks that with the most that is left, for its length
+# of eight blocks by chance that with the most that is left, for its length
 def chance_codes(c, k, flags, left, need):
     best = 0, head(flags, 128) or [(0, 1)], ''
     for _ in range(8):
@@ -582,7 +582,7 @@ def _(c):
         while c.address < 46 and wanted - c.looked_up():
             c.macroblock(flags, pattern=63, block=lambda k: block(k, flags))
     assert wanted <= c.looked_up()
-# a slice for each increment, at the place that so many bytes of the slice's header make; each of its macroblocks is the last to be written at its address
+# a slice for each increment, at the place that so many bytes of the slice's header make. Each writes a macroblock over which no later slice writes
 @case('2.2-7.7_increments_at_places', 768, 16, key=False)
 def _(c):
     behind = [[bad, 35, 14 - i] for i, bad in enumerate(BAD[INC])] + [[35, 1], [35, 2], [34, 35, 3], [34, 34, 35, 4], [34, 35, 5]]
@@ -639,13 +639,13 @@ def end_cases(name, kind, row, before, bits, cuts):
         case('2.2-2.6_end_%s_cut_%d' % (name, cut), 16, 16, tail=False)(lambda c, cut=cut: last_slice(c, kind, row, before + bits, cut))
 def all_cuts(bits):
     return range(-1, min(len(bits), 8) + 1)
-# increments in slice 3, whose addresses are all past the one macroblock: nothing more is read. Of each length one is cut, those of up to eight bits all end
-# with the stream, where they are not looked up
+# increments in slice 3, whose addresses are all past the one macroblock, so that nothing more is read: codes of 1, 8, 10 and 11 bits and those without a value
+# of 8, 10 and 11, cut; and all of up to eight bits as the last bits of the stream, where they are walked
 for n, code in [*sorted(GOOD[INC].items()), *((code, code) for code in BAD[INC])]:
     cut = n in (1, 10, 16, 33, *BAD[INC][2:])
     if cut or n in (34, 35) or len(code) < 9 or code in BAD[INC]:
         end_cases('increment_%s' % n, 1, 3, '', code, all_cuts(code) if cut else [0])
-# coefficients in the last block: codes of up to eight bits that end with the stream, without their sign; and of 2, 8, 9, 11 and 17 bits with it, cut
+# coefficients in the last block: codes of 2, 8, 9, 11 and 17 bits with their sign, cut; and all of up to eight bits without it as the last bits of the stream
 LAST = '1' + GOOD[TYPE[2]][2] + GOOD[PATTERN][1]
 for value, code in sorted(GOOD[COEFF].items()):
     cut = value in (1, 4, 5, 7, 7937)
