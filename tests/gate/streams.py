@@ -533,6 +533,127 @@ for name, some in (('four', b''), ('five', b'\x01')):
         c.picture(1)
         c.start(0)
 
+# -- 2.2 by look-up: every code of the two tables at each place in a byte, and every eight bits that begin one
+def all_of(table, codes):
+    return {(table, code, place) for code in codes for place in range(8)} | {(table, format(x, '08b')) for x in range(256)}
+
+# a pair: its code, the bits behind the code, and its parts. A code of value 1 is '1' as the first of a block and '11' later; '10' ends a block.
+PAIRS = [(BAD[COEFF][0], '0', (0, None)), *((GOOD[COEFF][0xFFFF], format(run, '06b'), (run, 3, 1)) for run in range(0, 64, 5))]
+for value, code in GOOD[COEFF].items():
+    PAIRS += [(code, bit, (value >> 8, (value & 255) * sign)) for bit, sign in (('0', 1), ('1', -1)) if value != 0xFFFF]
+# pairs whose codes are left at their places, or else such that eight bits which are left begin there, or the bits `need`; then the end of the block. Gives
+# the pairs, and the bits with which the next block is to begin
+def chance_pairs(t, n, left, need):
+    parts = []
+    for _ in range(t.rnd.randint(1, 7)):
+        fit = [('11' if code == '1' and n else code, bits, part) for code, bits, part in PAIRS if n + part[0] < 64]
+        some = [] if need else [x for x in fit if (COEFF, x[0], t.n % 8) in left]
+        if not some:
+            need = need or t.rnd.choice(sorted(key[1] for key in left if len(key) == 2) or [''])
+            some = [x for x in fit if (x[0] + x[1]).startswith(need) or need.startswith(x[0] + x[1])]
+        if not some:
+            break
+        code, bits, part = t.rnd.choice(some)
+        t.pair(*part, first=n == 0)
+        parts, need, n = parts + [part], need[len(code + bits):], n + part[0] + 1
+    t.code(COEFF, '10')
+    return parts, need[2:] if need.startswith('10') else ''
+# of eight blocks by chance that with the most that is left, for its length
+def chance_codes(c, k, flags, left, need):
+    best = 0, head(flags, 128) or [(0, 1)], ''
+    for _ in range(8):
+        t, parts = c.trial(), head(flags, c.rnd.randint(100, 150))
+        for value in parts:
+            t.dc_value(max(k - 3, 0), value)
+        pairs, behind = chance_pairs(t, flags & 1, left, '' if flags & 1 else need)
+        t.raw(behind)
+        best = max(best, (len(t.looked_up() & left) / (t.n - c.n), parts + pairs, behind), key=lambda x: x[0])
+    return best[1:]
+@case('2.2-3.5_codes_at_places', 128, 96, key=False)
+def _(c):
+    wanted, need = all_of(COEFF, {'11', '10', *GOOD[COEFF].values(), *BAD[COEFF]}), ''
+    def block(k, flags):
+        nonlocal need
+        parts, need = chance_codes(c, k, flags, wanted - c.looked_up(), need)
+        return parts
+    for kind, flags in ((1, 1), (2, 2)):
+        c.picture(kind)
+        c.slice(1, 6)
+        while c.address < 46 and wanted - c.looked_up():
+            c.macroblock(flags, pattern=63, block=lambda k: block(k, flags))
+    assert wanted <= c.looked_up()
+# a slice for each increment, at the place that so many bytes of the slice's header make. Each writes a macroblock over which no later slice writes
+@case('2.2-7.7_increments_at_places', 768, 16, key=False)
+def _(c):
+    behind = [[bad, 35, 14 - i] for i, bad in enumerate(BAD[INC])] + [[35, 1], [35, 2], [34, 35, 3], [34, 34, 35, 4], [34, 35, 5]]
+    for extra in range(8):
+        c.picture(1)
+        for i, codes in enumerate(behind + [[n] for n in range(1, 34)]):
+            c.slice(1, extra=[129] * extra)
+            for code in codes[:-1]:
+                c.code(INC, GOOD[INC].get(code, code))
+            c.macroblock(1, codes[-1], block=lambda k: [30 + (29 * i + 53 * extra) % 200 if k == 0 else 128])
+    assert {key for key in all_of(INC, [*GOOD[INC].values(), *BAD[INC]]) if len(key) == 3} <= c.looked_up()
+# a macroblock by chance behind an increment, whose first bits can be any; False where its vector meets question 9
+def chance_macroblock(c, inc):
+    pick, flags = c.rnd.choice, c.rnd.choice([0, *GOOD[TYPE[2]]])
+    before = (0, 0) if c.first or inc > 1 else c.vector[0]
+    to = [(x + pick((0, 0, 1, -1, 2, -2, pick(range(-16, 16)))) + 16) % 32 - 16 for x in before]
+    def block(k):
+        near = [c.dc[max(k - 3, 0)] + step for step in (0, 1, -3, 9, -20)]
+        return head(flags, pick([x for x in near if 30 < x < 220])) + [(pick((0, 1)), pick((3, -2, 1, -1)))]
+    c.macroblock(flags, inc, fwd=to, block=block, code=None if flags else BAD[TYPE[2]][0])
+    return 'past' not in c.ways(c.vector[0])
+# two of them that begin with these eight bits
+def chance_increment(c, inc, eight):
+    for _ in range(2000):
+        t = c.trial()
+        if chance_macroblock(t, inc) and (t.n - c.n > 7 or chance_macroblock(t, c.rnd.choice((1, 2, 4)))) and t.address < 47 \
+                and ''.join(t.text).startswith(eight):
+            return t
+@case('2.2-7.7_increments_of_eight_bits', 128, 96)
+def _(c):
+    left = [(n, eight) for n, code in GOOD[INC].items() for _, eight in sorted(all_of(INC, [])) if eight.startswith(code) and eight != code]
+    wanted = {(INC, eight) for _, eight in left}
+    while left:
+        c.picture(2)
+        c.slice(1, 9)
+        for n, eight in sorted(left, reverse=True):
+            t = c.address + n < 47 and chance_increment(c, n, eight)
+            if t:
+                c.take(t)
+                left.remove((n, eight))
+    assert wanted <= c.looked_up()
+
+# -- 1.5, 2.2, 2.6: codes at the end of the stream, cut by so many bits; -1: one bit is left. The picture, of one macroblock, is decoded, since its header is
+# followed by a picture start code that begins before the place from which the first slice is looked for. It is over with its one slice, so the record keeps
+# the place to the bit. The bytes of the slice's header put the end of the bits at the end of a byte.
+def last_slice(c, kind, row, bits, cut):
+    c.data(b'\xff' * (124 - c.n // 8))
+    c.picture(kind, (0, 2), delay=0x5A40)
+    c.data(b'\x00\x01\x00')
+    c.slice(row, 9, extra=[0xA5] * ((cut - 6 - len(bits)) % 8))
+    c.raw((bits + '1')[:len(bits) - cut])
+def end_cases(name, kind, row, before, bits, cuts):
+    for cut in cuts:
+        case('2.2-2.6_end_%s_cut_%d' % (name, cut), 16, 16, tail=False)(lambda c, cut=cut: last_slice(c, kind, row, before + bits, cut))
+def all_cuts(bits):
+    return range(-1, min(len(bits), 8) + 1)
+# increments in slice 3, whose addresses are all past the one macroblock, so that nothing more is read: codes of 1, 8, 10 and 11 bits and those without a value
+# of 8, 10 and 11, cut; and all of up to eight bits as the last bits of the stream, where they are walked
+for n, code in [*sorted(GOOD[INC].items()), *((code, code) for code in BAD[INC])]:
+    cut = n in (1, 10, 16, 33, *BAD[INC][2:])
+    if cut or n in (34, 35) or len(code) < 9 or code in BAD[INC]:
+        end_cases('increment_%s' % n, 1, 3, '', code, all_cuts(code) if cut else [0])
+# coefficients in the last block: codes of 2, 8, 9, 11 and 17 bits with their sign, cut; and all of up to eight bits without it as the last bits of the stream
+LAST = '1' + GOOD[TYPE[2]][2] + GOOD[PATTERN][1]
+for value, code in sorted(GOOD[COEFF].items()):
+    cut = value in (1, 4, 5, 7, 7937)
+    if cut or len(code) < 9:
+        end_cases('coefficient_%d' % value, 2, 1, LAST, code + '1', all_cuts(code + '1') if cut else [1])
+end_cases('later_1', 2, 1, LAST + '10', '111', all_cuts('111'))
+end_cases('end_of_block', 2, 1, LAST + '10', '10', all_cuts('10'))
+
 # ---- writing
 def make(name, w, h, key, tail, more, function):
     c = Writer(zlib.crc32(name.encode()))

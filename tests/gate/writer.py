@@ -1,5 +1,5 @@
 """The code tables, taken from the reference's video.rs (first argument), and a writer of streams. Used by streams.py."""
-import random, re, sys
+import copy, random, re, sys
 
 # ---- tables
 SOURCE = open(sys.argv[1]).read()
@@ -27,14 +27,19 @@ SIZE = ('DCT_SIZE_LUMINANCE', 'DCT_SIZE_CHROMINANCE')
 for table in (INC, PATTERN, MOTION, COEFF, *TYPE.values(), *SIZE):
     load(table)
 
-# ---- the writer: bits, headers, slices, macroblocks, blocks. It keeps what the decoder keeps: address, vectors, DC predictors.
+# ---- the writer: bits, headers, slices, macroblocks, blocks. It keeps what the decoder keeps: address, vectors, DC predictors. `codes` are the codes of
+# INC and COEFF, which the decoder looks up by eight bits: table, code and place of each.
 class Writer:
     def __init__(self, seed):
-        self.text, self.n, self.rnd = [], 0, random.Random(seed)
+        self.text, self.n, self.rnd, self.codes = [], 0, random.Random(seed), []
 
     def raw(self, bits):
         self.text.append(bits)
         self.n += len(bits)
+
+    def code(self, table, bits):
+        self.codes.append((table, bits, self.n))
+        self.raw(bits)
 
     def put(self, value, width):
         self.raw(format(value, '0%db' % width) if width else '')
@@ -49,6 +54,23 @@ class Writer:
         self.data(b'')
         text = ''.join(self.text)
         return bytes(int(text[i:i + 8], 2) for i in range(0, len(text), 8))
+
+    # a writer that goes on behind this one, and what it has written taken over
+    def trial(self):
+        t = copy.copy(self)
+        t.text, t.codes, t.dc, t.vector = [], [], list(self.dc), [list(v) for v in self.vector]
+        return t
+
+    def take(self, t):
+        t.text, t.codes = self.text + t.text, self.codes + t.codes
+        self.__dict__.update(t.__dict__)
+
+    # what was looked up: table, code and place in a byte, and table and eight bits, of each code
+    def looked_up(self):
+        text = ''.join(self.text)
+        start = self.n - len(text)
+        eights = ((table, text[at - start:at - start + 8]) for table, _, at in self.codes)
+        return {(table, code, at % 8) for table, code, at in self.codes} | {e for e in eights if len(e[1]) == 8}
 
     # O.3
     def sequence(self, w, h, aspect=1, rate=3, intra=None, other=None, code=True):
@@ -82,7 +104,9 @@ class Writer:
     # 7.7; n may be the bits themselves of a code that counts as 0
     def increment(self, n):
         step = 0 if isinstance(n, str) else n
-        self.raw(n if step == 0 else GOOD[INC][35] * ((n - 1) // 33) + GOOD[INC][(n - 1) % 33 + 1])
+        for _ in range((step - 1) // 33 if step else 0):
+            self.code(INC, GOOD[INC][35])
+        self.code(INC, GOOD[INC][(step - 1) % 33 + 1] if step else n)
         if not self.first and step > 1:
             self.dc = [128] * 3
             if self.kind == 2:
@@ -137,7 +161,8 @@ class Writer:
                 self.dc_value(max(k - 3, 0), part)
             else:
                 self.pair(*part, first=n == 0)
-        self.raw('' if parts[-1] == '' else '10')
+        if parts[-1] != '':
+            self.code(COEFF, '10')
 
     # 3.2
     def dc_value(self, plane, value):
@@ -147,13 +172,19 @@ class Writer:
         self.put(step if step >= 0 else step - 1 + (1 << size), size)
         self.dc[plane] += step
 
-    # 3.5, 3.6; escape is 1 for an escape, 16 for one with two bytes of level
+    # 3.5, 3.6; escape is 1 for an escape, 16 for one with two bytes of level; level None is the code without a value
     def pair(self, run, level, escape=0, first=False):
+        if level is None:
+            self.code(COEFF, BAD[COEFF][0])
+            self.raw('0')
+            return
         value = 256 * run + abs(level)
         if level and abs(level) < 256 and value in GOOD[COEFF] and not escape:
-            self.raw(GOOD[COEFF][value] + ('1' if value == 1 and not first else '') + ('1' if level < 0 else '0'))
+            self.code(COEFF, GOOD[COEFF][value] + ('1' if value == 1 and not first else ''))
+            self.raw('1' if level < 0 else '0')
             return
-        self.raw(GOOD[COEFF][0xFFFF] + format(run, '06b'))
+        self.code(COEFF, GOOD[COEFF][0xFFFF])
+        self.put(run, 6)
         if escape == 16 or not 0 < abs(level) < 128:
             self.put(0 if level >= 0 else 128, 8)
         self.put(level & 255, 8)

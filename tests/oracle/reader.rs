@@ -363,6 +363,17 @@ fn sequences(r: &mut Recorder, random: &mut Random) {
     }
 }
 
+// Reads of 8 bits, and peeks of the two bytes that they lie in, at each place of a stream and past its end: beside them the replay asks for the next eight.
+fn eights(r: &mut Recorder, random: &mut Random) {
+    let bytes: Vec<u8> = (0..10).map(|_| random.next() as u8).collect();
+    r.stream(&bytes);
+    for place in (0..=80).chain([88, 96]) {
+        r.go(place);
+        r.run(PeekBytes, 2);
+        r.run(Read, 8);
+    }
+}
+
 pub fn list() -> Vec<u8> {
     let mut recorder = Recorder { list: List::new(), buffer: Buffer::new(Vec::new()), bits: 0 };
     let mut random = Random::new(0x9E37_79B9_7F4A_7C15);
@@ -375,5 +386,6 @@ pub fn list() -> Vec<u8> {
     forty_bits(r, &mut random);
     past_the_end(r);
     sequences(r, &mut random);
+    eights(r, &mut random);
     recorder.list.finish()
 }

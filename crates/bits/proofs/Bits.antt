@@ -98,6 +98,20 @@ module _ (w at n : ℕ) (s : List ℕ) (e : w ≡ bitsAt s (at / 8 * 8) 40) (le 
   pub window-below : w / 2 ^ (40 - at % 8 - n) - (w / 2 ^ (40 - at % 8 - n) / 2 ^ n * 2 ^ n) % 2 ^ 64 < 2 ^ 32
   window-below = rw window-bits (lt-of-lt-of-le (bits-lt s at n) (pow-mono le))
 
+-- two bytes, as the code reads and joins them
+pub two-bytes : (s : List ℕ) (b : ℕ) {v w : ℕ} → (v ≡ getD s b 0) × (v < 256) → (w ≡ getD s (b + 1) 0) × (w < 256) → v * 256 + w ≡ bitsAt s (b * 8) 16
+two-bytes s b p q = omega (arith, byte-bits s b (omega arith), byte-more s b 1 8 refl (omega arith))
+
+-- the eight bits at `at` of the two bytes from its byte on
+pub eight-bits : (s : List ℕ) (at w : ℕ) → w ≡ bitsAt s (at / 8 * 8) 16 → w / 2 ^ (8 - at % 8) % 256 ≡ bitsAt s at 8
+eight-bits s at w e =
+    let r = 8 - at % 8 in
+    let e16 : 16 ≡ at % 8 + 8 + r = omega arith in
+    let e-at : at / 8 * 8 + at % 8 ≡ at = omega arith in
+    ap (λ (k : ℕ). k / 2 ^ r % 256) (e ∙ ap (bitsAt s (at / 8 * 8)) e16)
+    ∙ bits-mid s (at / 8 * 8) (at % 8) 8 r
+    ∙ ap (λ (k : ℕ). bitsAt s k 8) e-at
+
 pub one-bit : (s : List ℕ) (at : ℕ) → getD s (at / 8) 0 / 2 ^ (7 - at % 8) % 2 ≡ bitsAt s at 1
 unfolding bitsAt bitAt
 one-bit s at = rw add-zero (omega arith)

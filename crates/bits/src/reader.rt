@@ -7,7 +7,7 @@ ghost use mathlib.Core.Path.{_≡_};
 ghost use Prim.Native.Nat.{_+_, _-_, _*_, _/_, _^_, _≤_, _<_};
 ghost use lib.ListN.{length, getD};
 ghost use lib.Dec.{leb};
-ghost use Rattle.bits.specs.Bits.{bitsAt, has, boundary};
+ghost use Rattle.bits.specs.Bits.{bitsAt, has, hasBytes, boundary};
 ghost use Rattle.bits.specs.Programs.{bits, reads, skips, nonZero};
 ghost use Rattle.bits.specs.Runs.{Inside, Reading};
 
@@ -165,6 +165,36 @@ impl Reader {
         ReadBits {
             reader: self,
             value: 0,
+        }
+    }
+
+    // Whether the byte of the place and the one behind it are there, so that eight bits are.
+    pub fn has_eight(self, s: &[u8]) -> bool
+        ensures { λ r. ⌜ r ≡ hasBytes (now (s .entry)) (self .at .0) 2 ⌝ }
+    {
+        let b = self.at.0 / 8;
+        b + 2 <= s.len()
+    }
+
+    // The next eight bits, out of these two bytes, with no advance.
+    pub fn next_eight(self, s: &[u8]) -> u32
+        requires { ⌜ self .at .0 / 8 + 2 ≤ length (now s) ⌝ }
+        ensures { λ r. ⌜ r ≡ bitsAt (now (s .entry)) (self .at .0) 8 ⌝ }
+    {
+        let at = self.at.0;
+        let b = at / 8;
+        let two = byte(s, b) * 256 + byte(s, b + 1);
+        ((two >> (8 - at % 8)) % 256) as u32
+    }
+
+    // count bits on, which are known to be there.
+    pub fn on(self, count: usize) -> Reader
+        requires { ⌜ (self .at .0 ≤ 134217728) × (count ≤ 32) ⌝ }
+        ensures { λ r. ⌜ r .at .0 ≡ self .at .0 + count ⌝ }
+    {
+        let at = self.at.0;
+        Reader {
+            at: BitPosition(at + count),
         }
     }
 

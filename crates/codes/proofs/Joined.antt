@@ -19,7 +19,7 @@ use Rattle.bits.specs.Runs.{Runs}
 use Rattle.bits.proofs.Rules.{r-call, r-done}
 use Rattle.codes.specs.Lent.{lentValue, joinedEntry, joined, indexOf, indices, all, near, short, Joined, Leading}
 use Rattle.codes.specs.Rule.{Good}
-use Rattle.codes.specs.Walk.{walkTurn, walk, vlc}
+use Rattle.codes.specs.Walk.{walkTurn, walkFrom, walk, vlc}
 use Rattle.codes.proofs.Entries.{above}
 use Rattle.codes.proofs.Lists.{map-at, length-map}
 
@@ -116,11 +116,11 @@ module _ {ix vs : List ℤ} {t : List ℕ} (j : Joined ix vs t) where
           ∙ ap (turn k) (sym (List·getD-eq-default ix (pos 0) {n = k} (omega arith)))
 
   -- the walk looks only at indices above 0
-  pub walk-joined : walk (indices t) ≡ walk ix
-  unfolding walk walkTurn
-  walk-joined =
-      ap (λ (n : ℕ). loop n (walkTurn (indices t)) 0 0) (length-map indexOf t ∙ joined-long)
-      ∙ ap (λ (f : ℕ → Prog (Turn ℕ ℕ)). loop (length ix) f 0 0)
+  pub walk-joined : (i : ℕ) → walkFrom (indices t) i ≡ walkFrom ix i
+  unfolding walkTurn
+  walk-joined i =
+      ap (λ (n : ℕ). loop n (walkTurn (indices t)) 0 i) (length-map indexOf t ∙ joined-long)
+      ∙ ap (λ (f : ℕ → Prog (Turn ℕ ℕ)). loop (length ix) f 0 i)
       (fun-ext (λ at. ap (λ (f : ℕ → Prog (Turn ℕ ℕ)). bits 1 >>= f) (fun-ext (λ b. turns (at + b)))))
 
   -- the entry where it ends is the value, as it is lent
@@ -140,9 +140,9 @@ module _ {ix vs : List ℤ} {t : List ℕ} (j : Joined ix vs t) where
   -- so the value at the end of the walk is read, with its sign
   pub joined-runs : T (all near vs) → {s : List ℕ} {a k e : ℕ} → Runs (walk (indices t)) s a k e → k < length t → 256 ≤ getD t k 0
       → Runs (vlc ix vs (pos 0)) s a (pos (getD t k 0) -ℤ pos 1024) e
-  unfolding vlc
+  unfolding vlc walk
   joined-runs n {k = k} r h l =
-      rw (ap (λ (m : ℕ). pos m -ℤ pos 1024) (ends-joined k h l) ∙ signed-back (getD vs k (pos 0)) (near-at vs n k)) (r-call _ (rw walk-joined at r) r-done)
+      rw (ap (λ (m : ℕ). pos m -ℤ pos 1024) (ends-joined k h l) ∙ signed-back (getD vs k (pos 0)) (near-at vs n k)) (r-call _ (rw (walk-joined 0) at r) r-done)
 
   -- the rule of the indices is that of the table
   pub joined-leading : Good ix → Leading t

@@ -6,7 +6,9 @@ pub mod Figures
 pub mod Follow
 pub mod Good
 pub mod Joined
+pub mod Led
 pub mod Lists
+pub mod Looked
 pub mod Parts
 pub mod Standard
 pub mod Tested

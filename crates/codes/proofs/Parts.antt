@@ -26,7 +26,7 @@ use Rattle.codes.proofs.Good.{good-macroblock-address-increment, good-m
 use Rattle.codes.proofs.Good.{good-code-block-pattern, good-dct-size-luminance, good-dct-size-chrominance, good-dct-coeff}
 use Rattle.codes.proofs.Joined.{short-at, natural-back, walk-joined, ends-joined, joined-leading}
 use Rattle.codes.proofs.Lists.{map-at}
-use Rattle.codes.specs.Walk.{walk, vlc}
+use Rattle.codes.specs.Walk.{walkFrom, vlcFrom, vlc}
 
 -- ---- lists
 
@@ -42,16 +42,16 @@ part-at a n i l d h = getD-take n (drop a l) i d h ∙ getD-drop a l i d
 
 -- ---- natural numbers
 
--- at the end of the walk a natural value is read
-pub natural-runs : {ix : List ℤ} (vs : List ℕ) {t : List ℕ} → Joined ix (map pos vs) t → {s : List ℕ} {a k e : ℕ} → Runs (walk (indices t)) s a k e
-    → k < length t → 256 ≤ getD t k 0 → Runs (vlc ix vs 0) s a ((getD t k 0 + 64512) % 65536) e
-unfolding vlc
-natural-runs vs j {k = k} r h l =
+-- at the end of the walk from the pair i on a natural value is read
+pub natural-runs : {ix : List ℤ} (vs : List ℕ) {t : List ℕ} → Joined ix (map pos vs) t → (i : ℕ) {s : List ℕ} {a k e : ℕ}
+    → Runs (walkFrom (indices t) i) s a k e
+    → k < length t → 256 ≤ getD t k 0 → Runs (vlcFrom ix vs 0 i) s a ((getD t k 0 + 64512) % 65536) e
+natural-runs vs j i {k = k} r h l =
     let n = getD vs k 0 in
     let is : getD (map pos vs) k (pos 0) ≡ pos n = map-at pos vs 0 k in
     let most = rw is at (short-at (map pos vs) (j .values) k .most) in
     rw (ap (λ (m : ℕ). (m + 64512) % 65536) (ends-joined j k h l ∙ ap lentValue is) ∙ natural-back n (omega arith))
-    (r-call _ (rw (walk-joined j) at r) r-done)
+    (r-call _ (rw (walk-joined j i) at r) r-done)
 
 -- ---- parts of the tables
 
@@ -109,19 +109,19 @@ module _ {t : List ℕ} (l : Lent t) where
   lent-at a n i h k e = sym (part-at a n i t 0 k) ∙ ap (λ (x : List ℕ). getD x i 0) (lent-part a n h e)
 
   module _ {a n : ℕ} {index : List ℤ} {value : List ℕ} {code : Prog ℕ} (p : Natural a n index value code) where
-    here : Joined index (map pos value) (take n (drop a t))
-    here = record { is = lent-part a n (leb→le (a + n) 702 (p .inside)) (p .part); places = p .places; values = p .values }
+    pub natural-here : Joined index (map pos value) (take n (drop a t))
+    natural-here = record { is = lent-part a n (leb→le (a + n) 702 (p .inside)) (p .part); places = p .places; values = p .values }
 
     -- its code, by the part and by the definition
     pub natural-code : {s : List ℕ} {from to : Reader} {v : ℕ}
         → ((ix : List ℤ) (vs : List ℕ) → Joined ix (map pos vs) (take n (drop a t)) → Reading (vlc ix vs 0) s from v to) → Reading code s from v to
-    natural-code r = rw (p .walks) at (r index value here)
+    natural-code r = rw (p .walks) at (r index value natural-here)
 
     -- what `read_natural` asks of its places and of the part there
     pub natural-table : ((a ≤ a + n) × (a + n ≤ 830)) × Leading (take n (drop a t))
     natural-table =
         let most = leb→le (a + n) 702 (p .inside) in
-        ((omega arith, omega arith), joined-leading here (p .good))
+        ((omega arith, omega arith), joined-leading natural-here (p .good))
 
 -- an entry of the matrices
 pub matrix-at : (t : List ℕ) (intra : Bool) (i : ℕ) → i < 64 → getD (matrixOf t intra) i 0 ≡ getD t (cond intra 702 766 + i) 0

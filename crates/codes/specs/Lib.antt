@@ -1,5 +1,6 @@
 pub mod Codes
 pub mod Lent
+pub mod Look
 pub mod Matrices
 pub mod Rates
 pub mod Rule

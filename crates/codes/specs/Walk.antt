@@ -13,11 +13,21 @@ walkTurn ix at = do
   b ← bits 1
   if leZ (getD ix (at + b) (pos 0)) (pos 0) then done (stop (at + b)) else done (again (natAbs (getD ix (at + b) (pos 0))))
 
--- the entry at which the walk ends
-unfoldable pub walk : List ℤ → Prog ℕ
-walk ix = loop (length ix) (walkTurn ix) 0 0
+-- the entry at which the walk from the pair of entries `at` on ends
+abbrev pub walkFrom : List ℤ → ℕ → Prog ℕ
+walkFrom ix at = loop (length ix) (walkTurn ix) 0 at
 
--- and its value: the Rust's read_vlc with the table as argument
+-- the whole walk
+unfoldable pub walk : List ℤ → Prog ℕ
+walk ix = walkFrom ix 0
+
+-- the value at the end of the walk from the pair `at` on
+abbrev pub vlcFrom : {A : Type 0} → List ℤ → List A → A → ℕ → Prog A
+vlcFrom ix vs d at = do
+  k ← walkFrom ix at
+  done (getD vs k d)
+
+-- and of the whole walk: the Rust's read_vlc with the table as argument
 unfoldable pub vlc : {A : Type 0} → List ℤ → List A → A → Prog A
 vlc ix vs d = do
   k ← walk ix

@@ -15,17 +15,40 @@ use crate::walk::VlcUint;
 use crate::walk::read_vlc;
 use crate::walk::read_vlc_uint;
 use bits::reader::Reader;
+use look::look_dct_coeff;
+use look::look_macroblock_address_increment;
 ghost use mathlib.Core.List.{List, map};
-ghost use Prim.Native.Nat.{ℕ, _-_, _≤_};
+ghost use mathlib.Core.Path.{_≡_};
+ghost use Prim.Native.Nat.{ℕ, _+_, _-_, _/_, _%_, _≤_, _<_};
 ghost use lib.IntN.{ℤ, pos};
 ghost use lib.ListN.{take, drop};
 ghost use Rattle.bits.specs.Runs.{Inside, Reading};
 ghost use Rattle.codes.specs.Lent.{Lent, Joined, Leading};
-ghost use Rattle.codes.specs.Walk.{vlc};
+ghost use Rattle.codes.specs.Walk.{vlcFrom, vlc};
 ghost use Rattle.codes.specs.Codes.{macroblockAddressIncrement, macroblockTypeIntra, macroblockTypePredictive, macroblockTypeB};
 ghost use Rattle.codes.specs.Codes.{codeBlockPattern, motion, dctSizeLuminance, dctSizeChrominance, dctCoeff};
 
-// A code of a table whose values are natural numbers: the table begins at `at`, and `end` is behind it.
+// A code of a table whose values are natural numbers, from a pair of entries on: the table begins at `at`, and `end` is behind it.
+fn read_natural_from(
+    s: &[u8],
+    reader: Reader,
+    tables: &Tables,
+    at: usize,
+    end: usize,
+    pair: usize,
+) -> VlcUint
+    requires { ⌜ Inside (now s) reader ⌝ }
+    requires { ⌜ (at ≤ end) × (end ≤ 830) ⌝ }
+    requires { ⌜ Leading (take (end - at) (drop at (now tables))) ⌝ }
+    requires { ⌜ pair + 1 < end - at ⌝ }
+    ensures { λ r. ⌜ ((ix : List ℤ) (vs : List ℕ) → Joined ix (map pos vs) (take (end - at) (drop at (now (tables .entry))))
+        → Reading (vlcFrom ix vs 0 pair) (now (s .entry)) reader (r .value) (r .reader)) ⌝ }
+{
+    let t = &tables[..];
+    read_vlc_uint(s, reader, &t[at..end], pair)
+}
+
+// The whole code.
 fn read_natural(s: &[u8], reader: Reader, tables: &Tables, at: usize, end: usize) -> VlcUint
     requires { ⌜ Inside (now s) reader ⌝ }
     requires { ⌜ (at ≤ end) × (end ≤ 830) ⌝ }
@@ -33,8 +56,18 @@ fn read_natural(s: &[u8], reader: Reader, tables: &Tables, at: usize, end: usize
     ensures { λ r. ⌜ ((ix : List ℤ) (vs : List ℕ) → Joined ix (map pos vs) (take (end - at) (drop at (now (tables .entry))))
         → Reading (vlc ix vs 0) (now (s .entry)) reader (r .value) (r .reader)) ⌝ }
 {
-    let t = &tables[..];
-    read_vlc_uint(s, reader, &t[at..end])
+    read_natural_from(s, reader, tables, at, end, 0)
+}
+
+// A code as it was looked up: 16 × value + length.
+fn found(reader: Reader, entry: u32) -> VlcUint
+    requires { ⌜ reader .at .0 ≤ 134217728 ⌝ }
+    ensures { λ r. ⌜ (r .value ≡ entry / 16) × (r .reader .at .0 ≡ reader .at .0 + entry % 16) ⌝ }
+{
+    VlcUint {
+        reader: reader.on((entry % 16) as usize),
+        value: entry / 16,
+    }
 }
 
 // An increment of the macroblock address: 1 to 33, 34 for stuffing, 35 for the escape.
@@ -43,6 +76,19 @@ pub fn read_macroblock_address_increment(s: &[u8], reader: Reader, tables: &Tabl
     requires { ⌜ Lent (now tables) ⌝ }
     ensures { λ r. ⌜ Reading macroblockAddressIncrement (now (s .entry)) reader (r .value) (r .reader) ⌝ }
 {
+    if reader.has_eight(s) {
+        let x = reader.next_eight(s);
+        if x < 6 {
+            if x == 1 {
+                return read_natural_from(s, reader.on(8), tables, INCREMENT, TYPE_I, 40);
+            }
+            if 2 < x {
+                let pair = 36 + 2 * x as usize;
+                return read_natural_from(s, reader.on(8), tables, INCREMENT, TYPE_I, pair);
+            }
+        }
+        return found(reader, look_macroblock_address_increment(x));
+    }
     read_natural(s, reader, tables, INCREMENT, TYPE_I)
 }
 
@@ -116,5 +162,13 @@ pub fn read_dct_coeff(s: &[u8], reader: Reader, tables: &Tables) -> VlcUint
     requires { ⌜ Lent (now tables) ⌝ }
     ensures { λ r. ⌜ Reading dctCoeff (now (s .entry)) reader (r .value) (r .reader) ⌝ }
 {
+    if reader.has_eight(s) {
+        let x = reader.next_eight(s);
+        if x < 4 {
+            let pair = 54 + 2 * x as usize;
+            return read_natural_from(s, reader.on(8), tables, COEFFICIENT, ORDER, pair);
+        }
+        return found(reader, look_dct_coeff(x));
+    }
     read_natural(s, reader, tables, COEFFICIENT, ORDER)
 }

@@ -1,13 +1,13 @@
 // The walk through a code table.
 use bits::reader::Reader;
 ghost use mathlib.Core.List.{List, map};
-ghost use Prim.Native.Nat.{ℕ, _≤_, _<_};
+ghost use Prim.Native.Nat.{ℕ, _+_, _≤_, _<_};
 ghost use lib.Dec.{T};
 ghost use lib.ListN.{length, getD};
 ghost use lib.IntN.{ℤ, pos};
 ghost use Rattle.bits.specs.Runs.{Inside, Reading};
 ghost use Rattle.codes.specs.Lent.{Joined, Leading, all, near, indices};
-ghost use Rattle.codes.specs.Walk.{walk, vlc};
+ghost use Rattle.codes.specs.Walk.{walkFrom, walk, vlcFrom, vlc};
 
 // The entry at which a walk ends.
 pub struct Leaf {
@@ -25,16 +25,18 @@ pub struct VlcUint {
     pub value: u32,
 }
 
-// A bit chooses an entry of a pair. Below 256 it is the index of the next pair; values stand above the indices, and the walk ends at one.
-pub fn walk(s: &[u8], reader: Reader, table: &[u16]) -> Leaf
+// From a pair of entries on. A bit chooses an entry of the pair. Below 256 it is the index of the next pair; values stand above the indices, and the
+// walk ends at one.
+pub fn walk_from(s: &[u8], reader: Reader, table: &[u16], pair: usize) -> Leaf
     requires { ⌜ Inside (now s) reader ⌝ }
     requires { ⌜ Leading (now table) ⌝ }
-    ensures { λ r. ⌜ Reading (walk (indices (now (table .entry)))) (now (s .entry)) reader (r .place) (r .reader) ⌝ }
+    requires { ⌜ pair + 1 < length (now table) ⌝ }
+    ensures { λ r. ⌜ Reading (walkFrom (indices (now (table .entry))) pair) (now (s .entry)) reader (r .place) (r .reader) ⌝ }
     ensures { λ r. ⌜ r .place < length (now (table .entry)) ⌝ }
     ensures { λ r. ⌜ 256 ≤ getD (now (table .entry)) (r .place) 0 ⌝ }
 {
     let mut from = reader;
-    let mut at: usize = 0;
+    let mut at = pair;
     loop {
         let bit = from.read_bit(s);
         let place = at + bit.value as usize;
@@ -48,6 +50,17 @@ pub fn walk(s: &[u8], reader: Reader, table: &[u16]) -> Leaf
         }
         at = next as usize;
     }
+}
+
+// The whole walk.
+pub fn walk(s: &[u8], reader: Reader, table: &[u16]) -> Leaf
+    requires { ⌜ Inside (now s) reader ⌝ }
+    requires { ⌜ Leading (now table) ⌝ }
+    ensures { λ r. ⌜ Reading (walk (indices (now (table .entry)))) (now (s .entry)) reader (r .place) (r .reader) ⌝ }
+    ensures { λ r. ⌜ r .place < length (now (table .entry)) ⌝ }
+    ensures { λ r. ⌜ 256 ≤ getD (now (table .entry)) (r .place) 0 ⌝ }
+{
+    walk_from(s, reader, table, 0)
 }
 
 // The value at the end of the walk through a code table as it is lent, with its sign: whatever indices ix and values vs it is made of.
@@ -68,14 +81,15 @@ pub fn read_vlc(s: &[u8], reader: Reader, table: &[u16]) -> Vlc
     }
 }
 
-// The same for a table whose values are natural numbers.
-pub fn read_vlc_uint(s: &[u8], reader: Reader, table: &[u16]) -> VlcUint
+// The same for a table whose values are natural numbers, from a pair of entries on.
+pub fn read_vlc_uint(s: &[u8], reader: Reader, table: &[u16], pair: usize) -> VlcUint
     requires { ⌜ Inside (now s) reader ⌝ }
     requires { ⌜ Leading (now table) ⌝ }
+    requires { ⌜ pair + 1 < length (now table) ⌝ }
     ensures { λ r. ⌜ ((ix : List ℤ) (vs : List ℕ) → Joined ix (map pos vs) (now (table .entry))
-        → Reading (vlc ix vs 0) (now (s .entry)) reader (r .value) (r .reader)) ⌝ }
+        → Reading (vlcFrom ix vs 0 pair) (now (s .entry)) reader (r .value) (r .reader)) ⌝ }
 {
-    let leaf = walk(s, reader, table);
+    let leaf = walk_from(s, reader, table, pair);
     let after = leaf.reader;
     let place = leaf.place;
     let entry = table[place] as u32;

@@ -12,7 +12,7 @@ use Rattle.replay.specs.declared.reader_operations.Outcome.{Outcome}
 use Rattle.replay.specs.declared.reader_list.Along.{Along}
 use Rattle.replay.specs.declared.reader_list.Step.{Step}
 use Rattle.replay.specs.Operations.{operationOf, outcome}
-use Rattle.replay.specs.ReaderList.{behindOf, agree, bytesAgree, onward, cutOff, stepped}
+use Rattle.replay.specs.ReaderList.{behindOf, agree, bytesAgree, eightAgree, onward, cutOff, stepped}
 
 pub no-case : (l : List ℕ) (p : Along) → length l - p .at < 13 → cutOff l p ≡ stepped l p
 unfolding stepped
@@ -24,11 +24,12 @@ module _ (l : List ℕ) (p : Along) (x v m : ℕ) (case : 13 ≤ length l - p .a
   unfolding stepped
   cut-case h = rw (le-ltb _ _ case, ← ax, ← av, ← am, lt-ltb _ _ h)
 
-  pub whole-case : (e : ℕ) (op : Operation) (o : Outcome) (q : Along) (t u : Bool) → e ≡ numberAt l (p .at + 9) → m ≤ length l - (p .at + 13)
+  pub whole-case : (e : ℕ) (op : Operation) (o : Outcome) (q : Along) (t u w : Bool) → e ≡ numberAt l (p .at + 9) → m ≤ length l - (p .at + 13)
       → op ≡ operationOf (getD l (p .at) 0) → o ≡ outcome op x (take (p .to - p .from) (drop (p .from) l)) (p .reader .at .0)
       → u ≡ bytesAgree (getD l (p .at) 0) (take (p .at + 13 + m - (p .at + 13)) (drop (p .at + 13) l))
       (take (p .to - p .from) (drop (p .from) l)) (p .reader .at .0) x
+      → w ≡ eightAgree (getD l (p .at) 0) x v (take (p .to - p .from) (drop (p .from) l)) (p .reader .at .0)
       → t ≡ agree o v e → q ≡ onward p (getD l (p .at) 0) (p .at + 13) (p .at + 13 + m) (o .reader)
-      → _≡_ {A = Step} (record { along = q; agrees = t && u }) (stepped l p)
+      → _≡_ {A = Step} (record { along = q; agrees = t && u && w }) (stepped l p)
   unfolding stepped part
-  whole-case e op o q t u ae h aop ao au at aq = rw (le-ltb _ _ case, ← ax, ← av, ← am, ← ae, le-ltb _ _ h, ← aop, ← ao, au, at, aq)
+  whole-case e op o q t u w ae h aop ao au aw at aq = rw (le-ltb _ _ case, ← ax, ← av, ← am, ← ae, le-ltb _ _ h, ← aop, ← ao, au, aw, at, aq)

@@ -4,7 +4,7 @@ use mathlib.Core.Bool.{Bool, true, false, cond, _&&_}
 use mathlib.Core.List.{List}
 use lib.Dec.{eqb, ltb}
 use lib.ListN.{length, getD}
-use Rattle.bits.specs.Bits.{partAt, bytesOf}
+use Rattle.bits.specs.Bits.{bitsAt, hasBytes, partAt, bytesOf}
 use Rattle.bits.specs.declared.reader.Reader.{Reader}
 use Rattle.replay.specs.declared.reader_operations.Outcome.{Outcome}
 use Rattle.replay.specs.declared.reader_list.Along.{Along}
@@ -22,6 +22,10 @@ new = 0
 abbrev pub peekBytes : ℕ
 peekBytes = 14
 
+-- the operation beside which the next eight bits are asked for
+abbrev pub read : ℕ
+read = 1
+
 -- how many bytes stand behind a case of the operation n with the argument x and the answer v
 abbrev pub behindOf : ℕ → ℕ → ℕ → ℕ
 behindOf n x v = cond (eqb n new) x (cond (eqb n peekBytes) (v - 1) 0)
@@ -33,6 +37,12 @@ agree o v e = o .known && eqb (o .answer) v && eqb (o .reader .at .0) e
 -- a peek gave the bytes that stand behind its case
 abbrev pub bytesAgree : ℕ → List ℕ → List ℕ → ℕ → ℕ → Bool
 bytesAgree n t s a x = cond (eqb n peekBytes) (sameBytes t (bytesOf s (partAt s a x))) true
+
+-- the two bytes in which the next eight bits lie are there if a peek of 2 gave them, and where they are, the bits are those that a read of 8 gave
+abbrev pub eightAgree : ℕ → ℕ → ℕ → List ℕ → ℕ → Bool
+eightAgree n x v s a =
+    cond (eqb n peekBytes && eqb x 2) (cond (hasBytes s a 2) (eqb v 3) (eqb v 0))
+    (cond (hasBytes s a 2 && eqb n read && eqb x 8) (eqb (bitsAt s a 8) v) true)
 
 -- on to the next case, which stands at j: a new stream stands from i up to j
 abbrev pub onward : Along → ℕ → ℕ → ℕ → Reader → Along
@@ -54,7 +64,10 @@ abbrev pub compared : List ℕ → Along → ℕ → ℕ → ℕ → ℕ → ℕ
 compared l p n x v e i j =
     let s = part l (p .from) (p .to - p .from) in
     let o = outcome (operationOf n) x s (p .reader .at .0) in
-    record { along = onward p n i j (o .reader); agrees = agree o v e && bytesAgree n (part l i (j - i)) s (p .reader .at .0) x }
+    record {
+      along = onward p n i j (o .reader);
+      agrees = agree o v e && bytesAgree n (part l i (j - i)) s (p .reader .at .0) x && eightAgree n x v s (p .reader .at .0);
+    }
 
 -- the same, where its bytes may be cut off
 abbrev pub taken : List ℕ → Along → ℕ → ℕ → ℕ → ℕ → ℕ → Step

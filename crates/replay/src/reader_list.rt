@@ -15,7 +15,7 @@ use lists::tally::Tally;
 ghost use mathlib.Core.Path.{_≡_};
 ghost use Prim.Native.Nat.{_+_, _≤_};
 ghost use lib.ListN.{length};
-ghost use Rattle.replay.specs.ReaderList.{behindOf, agree, bytesAgree, onward, cutOff, Inside, stepped, scored};
+ghost use Rattle.replay.specs.ReaderList.{behindOf, agree, bytesAgree, eightAgree, onward, cutOff, Inside, stepped, scored};
 ghost use Rattle.replay.specs.Replayed.{Replayed};
 
 // How far a list is taken: the next case stands at `at`, the present stream from `from` up to `to`, and our reader is in it.
@@ -35,6 +35,9 @@ pub struct Step {
 const NEW: u8 = 0;
 
 const PEEK_BYTES: u8 = 14;
+
+// The operation beside which the next eight bits are asked for.
+const READ: u8 = 1;
 
 // How many bytes stand behind a case.
 fn behind(number: u8, argument: u32, answer: u32) -> usize
@@ -72,6 +75,21 @@ fn bytes_agree(number: u8, bytes: &[u8], s: &[u8], reader: Reader, argument: u32
         let from = first.0;
         let to = end.0;
         return same(bytes, &s[from..to]);
+    }
+    true
+}
+
+// Whether has_eight and next_eight give what the Rust gave at the same place: that the two bytes are there beside its peek of 2, and the bits beside its
+// read of 8.
+fn eight_agrees(number: u8, argument: u32, answer: u32, s: &[u8], reader: Reader) -> bool
+    ensures { λ r. ⌜ r ≡ eightAgree number argument answer (now (s .entry)) (reader .at .0) ⌝ }
+{
+    let there = reader.has_eight(s);
+    if (number == PEEK_BYTES) & (argument == 2) {
+        return if there { answer == 3 } else { answer == 0 };
+    }
+    if there & (number == READ) & (argument == 8) {
+        return reader.next_eight(s) == answer;
     }
     true
 }
@@ -143,7 +161,8 @@ fn take_case(list: &[u8], along: Along) -> Step
     let stream = &list[from..to];
     let ours = operate(stream, reader, operation_of(number), argument);
     let same = bytes_agree(number, &list[start..end], stream, reader, argument);
-    let agree = agrees(ours, answer, place) & same;
+    let eight = eight_agrees(number, argument, answer, stream, reader);
+    let agree = agrees(ours, answer, place) & same & eight;
     let after = next(along, number, start, end, ours.reader);
     Step {
         along: after,

@@ -38,7 +38,7 @@ operate-requires c κs =
 
 returns-3 : tie.Need-returns-3
 returns-3 c =
-    let o = c .before .before .before .before in
+    let o = c .before .before .before .before .before in
     let b = behind o in
     let n = b .before .before .before in
     let x = begun n in
@@ -46,8 +46,8 @@ returns-3 c =
     let at = x .args .along .at in
     let room = o .before .before .before .before .if2 .left in (
       whole-case _ _ _ _ _ (n .before .before .if1 .left) (n .number-at .ensures) (b .before .before .number-at2 .ensures) (b .behind .ensures)
-          _ _ _ _ _ _ (b .before .number-at3 .ensures) room (o .before .operation-of .ensures) (o .operate .ensures .0)
-          (c .before .before .bytes-agree .ensures) (c .before .agrees .ensures) (c .next .ensures),
+          _ _ _ _ _ _ _ (b .before .number-at3 .ensures) room (o .before .operation-of .ensures) (o .operate .ensures .0)
+          (c .before .before .before .bytes-agree .ensures) (c .before .before .eight-agrees .ensures) (c .before .agrees .ensures) (c .next .ensures),
       rw (c .next .ensures)
           (onward-inside l _ (getD l at 0) (at + 13) (at + 13 + b .behind .result) _ (x .pre .1) (omega arith)
           (omega (arith, room, n .before .before .if1 .left)) (o .operate .ensures .1 .place)),
@@ -59,4 +59,4 @@ take-case-spec =
     (tie.spec (λ c. omega arith) (λ c κs. tt) returns (λ c. omega arith) (λ c. omega arith) (λ c κs. tt) (λ c. omega arith) (λ c κs. tt)
     (λ c. omega arith) (λ c κs. tt) (λ c. omega arith) (λ c κs. tt) (λ c. omega arith) (λ c κs. tt) returns-2 (λ c. omega arith)
     (λ c. omega arith) (λ c. omega arith) (λ c. omega arith) (λ c κs. tt) operate-requires (λ c. omega arith) (λ c. omega arith)
-    (λ c. omega arith) (λ c κs. tt) (λ c κs. tt) (λ c κs. tt) returns-3)
+    (λ c. omega arith) (λ c κs. tt) (λ c κs. tt) (λ c κs. tt) (λ c κs. tt) returns-3)
