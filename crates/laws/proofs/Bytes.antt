@@ -13,7 +13,7 @@ use lib.Signed.{ltZ, nonNeg, quotZ}
 use mir.Syntax.{Width, w8}
 use mir.Val.{SFits, Fits, bits, hbits, toZ, ofZ}
 use Rattle.laws.specs.Signed.{clamp255, half0, odd}
-use Rattle.laws.proofs.Ints.{Dif, up, dn, v, lit, neg, as-dif, at-dif, lt-yes, lt-no, natAbs-is, one-side, fits-by, fits-of, cast-by, parity}
+use Rattle.laws.proofs.Ints.{Dif, up, dn, v, lit, neg, as-dif, at-dif, eq-by, lt-yes, lt-no, one-side, fits-by, fits-of, cast-by, parity}
 use Rattle.laws.proofs.Nums.{Num, num, read, write}
 
 -- ---- casts. That a cast fits is `fits` of Nums at the new width, and `search needs` for an unsigned number that is cast to a wider signed one.
@@ -33,18 +33,22 @@ unfolding clamp255
 clamp-is (pos n) = refl
 clamp-is (negsuc n) = omega arith
 
--- its three branches
-pub clamp-low : (z : ℤ) → ltZ z (pos 0) ≡ true → 0 ≡ clamp255 z
-clamp-low z e = omega (arith, clamp-is z, one-side z, lt-yes (v z) (lit 0) e)
+-- its two choices: 0 or z, then 255 or that
+pub floor-yes : (z : ℤ) → ltZ z (pos 0) ≡ true → pos 0 ≡ pos (up z)
+floor-yes z e = ap pos (omega (arith, one-side z, lt-yes (v z) (lit 0) e))
 
-pub clamp-high : (z : ℤ) → ltZ (pos 255) z ≡ true → 255 ≡ clamp255 z
-clamp-high z e = omega (arith, clamp-is z, one-side z, lt-yes (lit 255) (v z) e)
+pub floor-no : (z : ℤ) → ltZ z (pos 0) ≡ false → z ≡ pos (up z)
+floor-no z e = eq-by (v z) (lit (up z)) (omega (arith, one-side z, lt-no (v z) (lit 0) e))
 
-pub clamp-mid : (z : ℤ) → ltZ z (pos 0) ≡ false → ltZ (pos 255) z ≡ false → natAbs z ≡ clamp255 z
-clamp-mid z e g = omega (arith, clamp-is z, natAbs-is z, one-side z, lt-no (v z) (lit 0) e, lt-no (lit 255) (v z) g)
+module _ (z : ℤ) {low : ℤ} (l : low ≡ pos (up z)) where
+  pub clamp-yes : ltZ (pos 255) low ≡ true → pos 255 ≡ pos (clamp255 z)
+  clamp-yes e = ap pos (omega (arith, clamp-is z, lt-yes (lit 255) (at-dif l (lit (up z))) e))
 
-pub clamp-cast : (z : ℤ) → ltZ z (pos 0) ≡ false → ltZ (pos 255) z ≡ false → T (nonNeg z) × Fits w8 (natAbs z)
-clamp-cast z e g = let a = lt-no (v z) (lit 0) e in let b = lt-no (lit 255) (v z) g in cast-by (v z) (omega arith) (omega arith)
+  pub clamp-no : ltZ (pos 255) low ≡ false → low ≡ pos (clamp255 z)
+  clamp-no e = l ∙ ap pos (omega (arith, clamp-is z, lt-no (lit 255) (at-dif l (lit (up z))) e))
+
+pub clamp-cast : (z : ℤ) {y : ℤ} → y ≡ pos (clamp255 z) → T (nonNeg y) × Fits w8 (natAbs y)
+clamp-cast z e = cast-unsigned e (omega (arith, clamp-is z))
 
 -- ---- quotient and remainder of a signed number by m, rounded toward zero
 

@@ -2,17 +2,13 @@
 ghost use mathlib.Core.Path.{_≡_};
 ghost use Rattle.laws.specs.Signed.{clamp255, half0};
 
-// Brings n into 0..=255.
+// Brings n into 0..=255. Two choices and no early return: loops that clamp then become vectors.
 pub fn clamp_u8(n: i32) -> u8
     ensures { λ r. ⌜ r ≡ clamp255 n ⌝ }
 {
-    if n < 0 {
-        return 0;
-    }
-    if n > 255 {
-        return 255;
-    }
-    n as u8
+    let low = if n < 0 { 0 } else { n };
+    let within = if low > 255 { 255 } else { low };
+    within as u8
 }
 
 // Half of n, rounded toward zero.

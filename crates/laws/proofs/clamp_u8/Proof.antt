@@ -1,29 +1,36 @@
--- `laws::clamp_u8` meets its contract.
+-- `laws::clamp_u8` meets its contract: the two choices, each by the way that was taken.
 use mathlib.Core.Path.{_≡_, ap, _∙_}
+use mathlib.Core.Logic.{⊎-elim}
+use lib.IntN.{ℤ, pos, natAbs}
 use mir.Facts.{toZ-ofZ}
 use mir.Syntax.{w32}
+use mir.Val.{toZ}
 use Rattle.laws.specs.Signed.{clamp255}
-use Rattle.laws.proofs.Bytes.{clamp-low, clamp-mid, clamp-high, clamp-cast}
-use Rattle.laws.proofs.Ints.{reread}
+use Rattle.laws.proofs.Bytes.{floor-yes, floor-no, clamp-yes, clamp-no, clamp-cast}
+use Rattle.laws.proofs.Ints.{up, reread}
 use Rattle.laws.proofs.clamp_u8.Statement.{statement}
 use Rattle.laws.proofs.clamp_u8.Tie as tie
 
-module _ (s : tie.Start) where
-  -- the clamp of what is read is that of the argument
-  same : clamp255 (reread w32 (s .args .n)) ≡ clamp255 (s .args .n)
-  same = ap clamp255 (toZ-ofZ (s .fits .n))
+-- the number that is read
+abbrev z : tie.Start → ℤ
+z s = reread w32 (s .args .n)
 
-returns : tie.Need-returns
-returns c = clamp-low (reread w32 (c .before .args .n)) (c .if1 .taken) ∙ same (c .before)
+low-is : (c : tie.Joined1) → toZ w32 (c .if1 .low) ≡ pos (up (z (c .before)))
+low-is c =
+    ⊎-elim (λ w. ap (toZ w32) (w .1) ∙ floor-yes (z (c .before)) (w .0 .taken)) (λ w. ap (toZ w32) (w .1) ∙ floor-no (z (c .before)) (w .0 .left))
+    (c .if1 .came)
 
-returns-2 : tie.Need-returns-2
-returns-2 c = clamp-high (reread w32 (c .before .before .args .n)) (c .if2 .taken) ∙ same (c .before .before)
+within-is : (c : tie.Joined2) → toZ w32 (c .if2 .within) ≡ pos (clamp255 (z (c .before .before)))
+within-is c =
+    let s = c .before .before in
+    ⊎-elim (λ w. ap (toZ w32) (w .1) ∙ clamp-yes (z s) (low-is (c .before)) (w .0 .taken))
+    (λ w. ap (toZ w32) (w .1) ∙ clamp-no (z s) (low-is (c .before)) (w .0 .left)) (c .if2 .came)
 
 cast-result : tie.Need-cast-result
-cast-result c = clamp-cast (reread w32 (c .before .before .args .n)) (c .before .if1 .left) (c .if2 .left)
+cast-result c = clamp-cast (z (c .before .before)) (within-is c)
 
-returns-3 : tie.Need-returns-3
-returns-3 c = clamp-mid (reread w32 (c .before .before .args .n)) (c .before .if1 .left) (c .if2 .left) ∙ same (c .before .before)
+returns : tie.Need-returns
+returns c = ap natAbs (within-is c) ∙ ap clamp255 (toZ-ofZ (c .before .before .fits .n))
 
 pub clamp-u8-spec : {M : Type 1} → statement M
-clamp-u8-spec = tie.close (tie.spec returns returns-2 cast-result returns-3)
+clamp-u8-spec = tie.close (tie.spec cast-result returns)
