@@ -1,4 +1,6 @@
 pub mod Cases
+pub mod Columns
+pub mod Pairs
 pub mod Places
 pub mod Pointwise
 pub mod Rows

@@ -25,13 +25,9 @@ pub record Inside (p : Picture) (sx sy : ℕ) : Type 0 where
   pub cr-place : sy / 2 * (p .lumaWidth / 2) + sx / 2 < length (p .cr)
   pub cb-place : sy / 2 * (p .lumaWidth / 2) + sx / 2 < length (p .cb)
 
--- that of the pixel at row y and column x is there
-pub inside : {p : Picture} → Whole p → (w h y x : ℕ) → y < h → x < w → Inside p (x * p .width / w) (y * p .height / h)
-inside {p} whole w h y x below-h below-w =
-    let sx : ℕ = x * p .width / w in
-    let sy : ℕ = y * p .height / h in
-    let column : sx < p .width = nearest-below x w (p .width) below-w (whole .wide .0) in
-    let row : sy < p .height = nearest-below y h (p .height) below-h (whole .high .0) in
-    let luma = place-below sy sx (p .height) (p .lumaWidth) row (omega arith) in
+-- one of a row that is shown is there
+pub sample-inside : {p : Picture} → Whole p → (sx sy : ℕ) → sx < p .lumaWidth → sy < p .height → Inside p sx sy
+sample-inside {p} whole sx sy column row =
+    let luma = place-below sy sx (p .height) (p .lumaWidth) row column in
     let chroma = place-below (sy / 2) (sx / 2) ((p .height + 1) / 2) (p .lumaWidth / 2) (omega arith) (omega arith) in
     record { y-place = omega arith; cr-place = omega arith; cb-place = omega arith }

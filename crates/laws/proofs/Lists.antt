@@ -1,11 +1,11 @@
 -- Parts of a list that are taken and put back (`midOf a k xs`, `putMid a k xs ys`), and the stores of specs/Stores.antt: one more, their length, what
--- stands inside and outside of them.
-use mathlib.Core.Path.{_≡_, refl, sym, ap, ap₂, _∙_}
+-- stands inside and outside of them, and a row so far as the invariant of a loop.
+use mathlib.Core.Path.{_≡_, refl, sym, ap, ap₂, _∙_, subst}
 use mathlib.Core.List.{List, _++_, append-assoc}
 use mathlib.Core.Logic.{_⊎_, inl, inr, ⊎-elim}
 use Prim.Native.Nat.{ℕ, zero, suc, _+_, _*_, _-_, _≤_, _<_}
 use native.Mathlib.Decide.{decLt}
-use native.Mathlib.Nat.{mul-le-mul-right, add-zero, add-suc}
+use native.Mathlib.Nat.{mul-le-mul-right, add-zero, add-suc, zero-add}
 use native.Mathlib.Numerals.{add-one}
 use native.Mathlib.Omega.{arith}
 use borrow.Rule.Slice.PartMut.{putMid, midOf, postOf}
@@ -162,3 +162,28 @@ module _ {A : Type 0} where
       → x < b
       → k ≡ at + y * dw + x → getD (storeRows l at dw b f n) k d ≡ f y x
   rows-in l at dw b f n y x k d h fit = rows-at l at dw b f n y x k d h (last-row at dw b n (length l) fit)
+
+-- ---- a row so far
+
+-- x of the n values f 0, f 1 .. are stored from the place at on
+pub record Stored {A : Type 0} (l : List A) (at : ℕ) (f : ℕ → A) (n : ℕ) (now : List A) (x : ℕ) : Type 0 where
+  pub most : x ≤ n
+  pub long : length now ≡ length l
+  pub is : now ≡ storeRow l at f x
+
+module _ {A : Type 0} {l : List A} {at : ℕ} {f : ℕ → A} {n : ℕ} where
+  pub none-stored : Stored l at f n l 0
+  unfolding storeRow
+  none-stored = record { most = omega arith; long = refl; is = refl }
+
+  -- the loop's turn
+  pub stored-on : {now : List A} {x : ℕ} {v : A} → Stored l at f n now x → x < n → v ≡ f x → Stored l at f n (set now (at + x) v) (x + 1)
+  stored-on {now} {x} {v} r h e = record { most = omega arith; long = length-set now (at + x) v ∙ r .long; is = row-on l at f x (r .is) e }
+
+  pub all-stored : {now : List A} {x : ℕ} → Stored l at f n now x → n ≤ x → now ≡ storeRow l at f n
+  all-stored {now} {x} r h = let e : x ≡ n = omega arith in r .is ∙ ap (storeRow l at f) e
+
+-- the same from the first place on
+pub stored-first : {A : Type 0} {l : List A} {f : ℕ → A} {n : ℕ} {now : List A} {x : ℕ} {v : A} → Stored l 0 f n now x → x < n → v ≡ f x
+    → Stored l 0 f n (set now x v) (x + 1)
+stored-first {A} {l} {f} {n} {now} {x} {v} r h e = subst (λ (i : ℕ). Stored l 0 f n (set now i v) (x + 1)) (zero-add x) (stored-on r h e)
