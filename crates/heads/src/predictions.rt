@@ -35,7 +35,7 @@ fn predict_from(
     interpolate: bool,
 ) -> Predicted
     requires { ⌜ Held g (now store) ⌝ }
-    requires { ⌜ (address < g .sizes .«mb_width» * g .sizes .«mb_height») × (k < 3) ⌝ }
+    requires { ⌜ (address < g .sizes .«mb_width» * g .sizes .«mb_height») × (k < 3) × (g .stores .cur ≡ k → ⊥) ⌝ }
     requires { ⌜ PossibleMotion m ⌝ }
     ensures { λ r. ⌜ Foretold (predictFrom (setting g) address k m interpolate (now (store .entry))) r (now (store .exit)) ⌝ }
 {

@@ -1,16 +1,16 @@
 -- Parts of a list that are taken and put back (`midOf a k xs`, `putMid a k xs ys`), and the stores of specs/Stores.antt: one more, their length, what
 -- stands inside and outside of them, and a row so far as the invariant of a loop.
 use mathlib.Core.Path.{_≡_, refl, sym, ap, ap₂, _∙_, subst}
-use mathlib.Core.List.{List, _++_, append-assoc}
+use mathlib.Core.List.{List, [], _∷_, _++_, append-assoc}
 use mathlib.Core.Logic.{_⊎_, inl, inr, ⊎-elim}
 use Prim.Native.Nat.{ℕ, zero, suc, _+_, _*_, _-_, _≤_, _<_}
 use native.Mathlib.Decide.{decLt}
-use native.Mathlib.Nat.{mul-le-mul-right, add-zero, add-suc, zero-add}
+use native.Mathlib.Nat.{mul-le-mul-right, add-zero, add-suc, zero-add, suc-add}
 use native.Mathlib.Numerals.{add-one}
 use native.Mathlib.Omega.{arith}
 use borrow.Rule.Slice.PartMut.{putMid, midOf, postOf}
 use lib.ListN.{length, getD, set, take, drop, length-set, length-append, length-drop, List·getD-append}
-use lib.Seq.{length-take-le, getD-take, getD-drop, getD-append-add, getD-set-same, getD-set-other}
+use lib.Seq.{length-take-le, getD-take, getD-drop, getD-append-add, getD-set-same, getD-set-other, set-append-left}
 use Rattle.laws.specs.Stores.{storeRow, storeRows}
 
 -- ---- the places of rows
@@ -51,6 +51,21 @@ module _ {A : Type 0} where
         ∙ getD-drop k (drop a xs) (j - (a + k)) d
         ∙ getD-drop a xs (k + (j - (a + k))) d
         ∙ ap (λ (m : ℕ). getD xs m d) (omega arith)
+
+  -- what stands in a part
+  pub mid-at : (a k : ℕ) (xs : List A) (j : ℕ) (d : A) → j < k → getD (midOf a k xs) j d ≡ getD xs (a + j) d
+  mid-at a k xs j d h = getD-take k (drop a xs) j d h ∙ getD-drop a xs j d
+
+  set-right : (p r : List A) (j : ℕ) (v : A) → set (p ++ r) (length p + j) v ≡ p ++ set r j v
+  set-right [] r j v = ap (λ (n : ℕ). set r n v) (zero-add j)
+  set-right (x ∷ p) r j v = ap (λ (n : ℕ). set (x ∷ (p ++ r)) n v) (suc-add (length p) j) ∙ ap (λ (z : List A). x ∷ z) (set-right p r j v)
+
+  -- a store into a part is one into the whole
+  set-put : (a k : ℕ) (xs ys : List A) (j : ℕ) (v : A) → a ≤ length xs → j < length ys → set (putMid a k xs ys) (a + j) v ≡ putMid a k xs (set ys j v)
+  set-put a k xs ys j v h l =
+      ap (λ (n : ℕ). set (putMid a k xs ys) (n + j) v) (sym (length-take-le a xs h))
+      ∙ set-right (take a xs) (ys ++ postOf a k xs) j v
+      ∙ ap (λ (z : List A). take a xs ++ z) (set-append-left ys (postOf a k xs) j v l)
 
   -- ---- a row of stores
 
@@ -157,6 +172,28 @@ module _ {A : Type 0} where
           let s : y ≡ n = omega arith in
           row-in m (at + n * dw) (f n) b x k d (omega (arith, length-rows l at dw b f n, fit n (omega arith))) r (e ∙ ap (λ (z : ℕ). at + z * dw + x) s)
           ∙ ap (λ (z : ℕ). f z x) (sym s)
+
+  -- rows stored into a part are rows stored into the whole
+  row-put : (a k : ℕ) (xs ys : List A) (at : ℕ) (f : ℕ → A) (n : ℕ) → a ≤ length xs → at + n ≤ length ys
+      → storeRow (putMid a k xs ys) (a + at) f n ≡ putMid a k xs (storeRow ys at f n)
+  unfolding storeRow
+  row-put a k xs ys at f zero h l = refl
+  row-put a k xs ys at f (suc n) h l =
+      let e : a + at + n ≡ a + (at + n) = omega arith in
+      ap (λ (z : List A). set z (a + at + n) (f n)) (row-put a k xs ys at f n h (omega arith))
+      ∙ ap (λ (m : ℕ). set (putMid a k xs (storeRow ys at f n)) m (f n)) e
+      ∙ set-put a k xs (storeRow ys at f n) (at + n) (f n) h (omega (arith, length-row ys at f n))
+
+  pub rows-put : (a k : ℕ) (xs ys : List A) (at dw b : ℕ) (f : ℕ → ℕ → A) (n : ℕ) → a ≤ length xs
+      → ((y : ℕ) → y < n → at + y * dw + b ≤ length ys)
+      → storeRows (putMid a k xs ys) (a + at) dw b f n ≡ putMid a k xs (storeRows ys at dw b f n)
+  unfolding storeRows
+  rows-put a k xs ys at dw b f zero h l = refl
+  rows-put a k xs ys at dw b f (suc n) h l =
+      let e : a + at + n * dw ≡ a + (at + n * dw) = omega arith in
+      ap (λ (z : List A). storeRow z (a + at + n * dw) (f n) b) (rows-put a k xs ys at dw b f n h (λ y q. l y (omega arith)))
+      ∙ ap (λ (m : ℕ). storeRow (putMid a k xs (storeRows ys at dw b f n)) m (f n) b) e
+      ∙ row-put a k xs (storeRows ys at dw b f n) (at + n * dw) (f n) b h (omega (arith, l n (omega arith), length-rows ys at dw b f n))
 
   pub rows-in : (l : List A) (at dw b : ℕ) (f : ℕ → ℕ → A) (n y x k : ℕ) (d : A) → b ≤ dw → at + (n - 1) * dw + b ≤ length l → y < n
       → x < b

@@ -254,11 +254,13 @@ pub record Adds (address : ℤ) (n : ℕ) : Type 0 where
   pub from : leZ (negℤ (pos 1)) address ≡ true
   pub to : leZ (address +ℤ pos n) (pos 402800000) ≡ true
 
--- the numbers of the stores: RULES 7.2 lets fwd and bwd be the same while an I or P picture is read
+-- the numbers of the stores. None is predicted from itself; RULES 7.2 lets fwd and bwd be the same while an I or P picture is read
 pub record Three (t : Stores) : Type 0 where
   pub cur : t .cur ≤ 2
   pub fwd : t .fwd ≤ 2
   pub bwd : t .bwd ≤ 2
+  pub cur-fwd : t .cur ≡ t .fwd → ⊥
+  pub cur-bwd : t .cur ≡ t .bwd → ⊥
 
 -- sizes and stores, and memory for the three
 pub record Held (g : Setting) (store : List ℕ) : Type 0 where

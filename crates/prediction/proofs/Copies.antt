@@ -1,55 +1,94 @@
--- A block that is gathered and then laid is the predicted block.
-use mathlib.Core.Path.{_≡_, ap}
-use mathlib.Core.Bool.{Bool, cond}
+-- A block that is made row by row, from one part of the store into another, is the predicted block of the plane.
+use mathlib.Core.Path.{_≡_, ap, ap₂, sym, _∙_}
+use mathlib.Core.Bool.{Bool, true, false, cond}
 use mathlib.Core.List.{List}
-use Prim.Native.Nat.{ℕ, _+_, _*_, _-_, _≤_, _<_}
+use mathlib.Core.Logic.{_⊎_, inl, inr, ⊎-elim}
+use Prim.Native.Nat.{ℕ, _+_, _*_, _≤_, _<_}
 use native.Mathlib.Omega.{arith}
-use borrow.Rule.Slice.PartMut.{midOf, putMid}
+use borrow.Rule.Slice.PartMut.{midOf, putMid, put-same}
+use lib.Dec.{eqb}
 use lib.IntN.{ℤ}
-use lib.ListN.{length, getD, replicate, length-replicate}
+use lib.ListN.{length, getD}
 use Rattle.laws.specs.Signed.{odd}
-use Rattle.laws.proofs.Lists.{length-mid, rows-in, rows-alike}
+use Rattle.laws.specs.Stores.{storeRows}
+use Rattle.laws.proofs.Lists.{last-row, length-mid, mid-at, rows-alike, rows-put}
 use Rattle.prediction.specs.declared.place.Place.{Place}
-use Rattle.prediction.specs.Predict.{Placed, width, bytes, address, maxAddress, reach, gathered, lay, predicted}
-use Rattle.prediction.specs.Samples.{sample, laid}
-use Rattle.prediction.proofs.Lines.{in-block}
-use Rattle.prediction.proofs.Places.{size-to, block-in, source-in}
+use Rattle.prediction.specs.Apart.{Apart, sampled, laidRows}
+use Rattle.prediction.specs.Predict.{Placed, width, bytes, address, maxAddress, reach, predicted}
+use Rattle.prediction.specs.Samples.{average2, average4, sample, laid}
+use Rattle.prediction.proofs.Places.{column-in, block-in, source-in, halves-reach}
 
--- where a sample of a gathered block stands
-gathered-at : (s : List ℕ) (from dw size : ℕ) (across down : Bool) (y x : ℕ) → size ≤ 16 → y < size → x < size
-    → getD (gathered s from dw size across down) (y * size + x) 0 ≡ sample s dw across down (from + y * dw + x)
-unfolding gathered
-gathered-at s from dw size across down y x h r q =
-    rows-in (replicate 256 0) 0 size size (λ y x. sample s dw across down (from + y * dw + x)) size y x (y * size + x) 0 (omega arith)
-    (omega (arith, in-block size (size - 1) h (omega arith), length-replicate {A = ℕ} 256 0)) r q (omega arith)
+-- a sample of a part is that of the whole
+module _ (s : List ℕ) (from n dw j : ℕ) where
+  -- the number k further
+  further : (k m : ℕ) → m ≡ j + k → m < n → getD s (from + j + k) 0 ≡ getD (midOf from n s) m 0
+  further k m e h =
+      let r : from + j + k ≡ from + m = omega arith in
+      ap (λ (i : ℕ). getD s i 0) r ∙ sym (mid-at from n s m 0 h)
 
-module _ {p : Place} (k : Placed p) where
-  -- the source lies in its plane, and the target in its own, with the numbers that the code has for those of the place
-  pub source-fits : (store : List ℕ) (from a : ℕ) (h v : ℤ) {w n : ℕ} {across down : Bool} → w ≡ width p → n ≡ bytes p → across ≡ odd h → down ≡ odd v
-      → from + bytes p ≤ length store → a + reach p h v ≤ maxAddress p
-      → a + (p .size - 1) * w + p .size + cond down w 0 + cond across 1 0 ≤ length (midOf from n store)
-  source-fits store from a h v ew en ea ed fit q =
-      rw (ew, en, ea, ed) (omega (arith, source-in k (a + reach p h v) q, length-mid from (bytes p) store fit))
+  here : j < n → getD s (from + j) 0 ≡ getD (midOf from n s) j 0
+  here h = sym (mid-at from n s j 0 h)
 
-  pub target-fits : (store : List ℕ) (to : ℕ) {w d n : ℕ} → w ≡ width p → d ≡ address p → n ≡ bytes p → to + bytes p ≤ length store
-      → d + (p .size - 1) * w + p .size ≤ length (midOf to n store)
-  target-fits store to ew ed en fit = rw (ew, ed, en) (omega (arith, block-in k, length-mid to (bytes p) store fit))
+  last : j + dw + 1 < n → getD s (from + j + dw + 1) 0 ≡ getD (midOf from n s) (j + dw + 1) 0
+  last h =
+      let r : from + j + dw + 1 ≡ from + (j + dw + 1) = omega arith in
+      ap (λ (i : ℕ). getD s i 0) r ∙ sym (mid-at from n s (j + dw + 1) 0 h)
 
-  lay-is : (s d : List ℕ) (h v : ℤ) (interpolate : Bool) (a : ℕ)
-      → lay d (address p) (width p) (p .size) (gathered s a (width p) (p .size) (odd h) (odd v)) interpolate ≡ predicted p s d h v interpolate a
-  unfolding lay predicted
-  lay-is s d h v interpolate a =
-      rows-alike d (address p) (width p) (p .size)
-      (λ y x. laid interpolate (getD d (address p + y * width p + x) 0) (getD (gathered s a (width p) (p .size) (odd h) (odd v)) (y * p .size + x) 0))
-      (λ y x. laid interpolate (getD d (address p + y * width p + x) 0) (sample s (width p) (odd h) (odd v) (a + y * width p + x)))
-      (p .size)
-      (λ y x r q. ap (laid interpolate (getD d (address p + y * width p + x) 0)) (gathered-at s a (width p) (p .size) (odd h) (odd v) y x (size-to k) r q))
+  sample-mid : (across down : Bool) → j + cond down dw 0 + cond across 1 0 < n
+      → sample s dw across down (from + j) ≡ sample (midOf from n s) dw across down j
+  unfolding sample
+  sample-mid true true h =
+      λ i. average4 (here (omega arith) i) (further 1 (j + 1) (omega arith) (omega arith) i) (further dw (j + dw) (omega arith) (omega arith) i)
+      (last h i)
+  sample-mid true false h = ap₂ average2 (here (omega arith)) (further 1 (j + 1) (omega arith) (omega arith))
+  sample-mid false true h = ap₂ average2 (here (omega arith)) (further dw (j + dw) (omega arith) (omega arith))
+  sample-mid false false h = here (omega arith)
 
-  -- the store, with such numbers
-  pub copied : (store : List ℕ) (from to a : ℕ) (h v : ℤ) (interpolate : Bool) {w d n m : ℕ} {across down : Bool} {block last : List ℕ}
-      → w ≡ width p → d ≡ address p → n ≡ bytes p → m ≡ bytes p → across ≡ odd h → down ≡ odd v
-      → block ≡ gathered (midOf from n store) a w (p .size) across down → last ≡ lay (midOf to m store) d w (p .size) block interpolate
-      → putMid to m store last ≡ putMid to (bytes p) store (predicted p (midOf from (bytes p) store) (midOf to (bytes p) store) h v interpolate a)
-  copied store from to a h v interpolate ew ed en em ea eo eb el =
-      rw (el, eb, ew, ed, en, em, ea, eo)
-      (ap (putMid to (bytes p) store) (lay-is (midOf from (bytes p) store) (midOf to (bytes p) store) h v interpolate a))
+-- the rows in the whole store are those of the plane
+row-by-row : {p : Place} → Placed p → (s : List ℕ) (from to a : ℕ) (h v : ℤ) (interpolate : Bool) → from + bytes p ≤ length s → to + bytes p ≤ length s
+    → a + reach p h v ≤ maxAddress p
+    → laidRows interpolate s (to + address p) (width p) (p .size) (sampled s (from + a) (width p) (odd h) (odd v))
+    ≡ putMid to (bytes p) s (predicted p (midOf from (bytes p) s) (midOf to (bytes p) s) h v interpolate a)
+unfolding predicted
+row-by-row {p} k s from to a h v interpolate fit room q =
+    let n = bytes p in
+    let w = width p in
+    let g : ℕ → ℕ → ℕ = λ y x.
+    laid interpolate (getD (midOf to (bytes p) s) (address p + y * width p + x) 0)
+    (sample (midOf from (bytes p) s) (width p) (odd h) (odd v) (a + y * width p + x)) in
+    rows-alike s (to + address p) w (p .size) _ g (p .size)
+    (λ y x r l.
+    let i : address p + y * w + p .size ≤ n = last-row (address p) w (p .size) (p .size) n (block-in k) y r in
+    let j : a + reach p h v + y * w + p .size ≤ n = last-row (a + reach p h v) w (p .size) (p .size) n (source-in k (a + reach p h v) q) y r in
+    let e : to + address p + y * w + x ≡ to + (address p + y * w + x) = omega arith in
+    let f : from + a + y * w + x ≡ from + (a + y * w + x) = omega arith in
+    ap₂ (laid interpolate) (ap (λ (m : ℕ). getD s m 0) e ∙ sym (mid-at to n s (address p + y * w + x) 0 (omega arith)))
+    (ap (sample s w (odd h) (odd v)) f ∙ sample-mid s from n w (a + y * w + x) (odd h) (odd v) (omega arith)))
+    ∙ ap (λ (z : List ℕ). storeRows z (to + address p) w (p .size) g (p .size)) (sym (put-same to n s))
+    ∙ rows-put to n s (midOf to n s) (address p) w (p .size) g (p .size) (omega arith)
+    (λ y r. omega (arith, last-row (address p) w (p .size) (p .size) n (block-in k) y r, length-mid to n s room))
+
+-- ---- the same with the numbers that the code has for those of the place
+
+module _ {p : Place} (k : Placed p) (s : List ℕ) (from to a : ℕ) (h v : ℤ) {w d right below : ℕ} (ew : w ≡ width p) (ed : d ≡ address p)
+    (er : (right ≤ 1) × (eqb right 1 ≡ odd h)) (eb : (below ≤ 1) × (eqb below 1 ≡ odd v)) (fit : from + bytes p ≤ length s) (room : to + bytes p ≤ length s)
+    (q : a + reach p h v ≤ maxAddress p) where
+  -- what the rows ask
+  pub apart-fits : (from + bytes p ≤ to) ⊎ (to + bytes p ≤ from) → Apart (length s) (from + a) (to + d) w (p .size) (below * w + right)
+  apart-fits apart =
+      rw (ew, ed)
+      (let i = source-in k (a + reach p h v) q in
+      let j = block-in k in
+      let far = halves-reach p h v er eb in
+      record {
+        wide = omega (arith, column-in k);
+        source = omega (arith, far, i);
+        target = omega (arith, j);
+        beside = ⊎-elim (λ x. inl (omega (arith, far, i))) (λ x. inr (omega (arith, j))) apart;
+      })
+
+  -- and what they make
+  pub apart-copied : (interpolate : Bool) {last : List ℕ}
+      → last ≡ laidRows interpolate s (to + d) w (p .size) (sampled s (from + a) w (eqb right 1) (eqb below 1))
+      → last ≡ putMid to (bytes p) s (predicted p (midOf from (bytes p) s) (midOf to (bytes p) s) h v interpolate a)
+  apart-copied interpolate e = e ∙ rw (ew, ed, er .1, eb .1) (row-by-row k s from to a h v interpolate fit room q)

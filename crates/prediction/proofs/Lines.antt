@@ -1,13 +1,11 @@
--- Stores as the code makes them: eight numbers at once, a row one by one, a block by rows. What is stored at a place is made of what stood there before.
+-- Stores as the code makes them: eight numbers at once, a block by rows. What is stored at a place is made of what stood there before.
 use mathlib.Core.Path.{_≡_, refl, ap, _∙_}
 use mathlib.Core.List.{List, [], _∷_}
-use mathlib.Core.Logic.{inr}
 use Prim.Native.Nat.{ℕ, _+_, _*_, _-_, _≤_, _<_}
-use native.Mathlib.Nat.{mul-le-mul}
 use native.Mathlib.Omega.{arith}
-use lib.ListN.{length, getD, set, length-set}
+use lib.ListN.{length, getD}
 use Rattle.laws.specs.Stores.{storeRow, storeRows}
-use Rattle.laws.proofs.Lists.{row-on, row-alike, row-out, length-rows, rows-on, rows-fresh, last-row}
+use Rattle.laws.proofs.Lists.{row-alike, length-rows, rows-on, rows-fresh, last-row}
 
 -- ---- eight numbers, of which f makes each
 
@@ -17,33 +15,6 @@ pub eight-row : (l : List ℕ) (at : ℕ) (f : ℕ → ℕ) {now : List ℕ} {v0
     → now ≡ storeRow l at f 8
 unfolding storeRow
 eight-row l at f e e0 e1 e2 e3 e4 e5 e6 e7 = e ∙ rw (e0, e1, e2, e3, e4, e5, e6, e7)
-
--- ---- a row of any width, one number at a time
-
--- x numbers of a row of `size` are written; g makes each of what stood at its place, and of its number
-pub record Run (d : List ℕ) (at : ℕ) (g : ℕ → ℕ → ℕ) (size : ℕ) (now : List ℕ) (x : ℕ) : Type 0 where
-  pub most : x ≤ size
-  pub long : length now ≡ length d
-  pub is : now ≡ storeRow d at (λ i. g (getD d (at + i) 0) i) x
-
-module _ {d : List ℕ} {at : ℕ} {g : ℕ → ℕ → ℕ} {size : ℕ} where
-  pub no-run : Run d at g size d 0
-  unfolding storeRow
-  no-run = record { most = omega arith; long = refl; is = refl }
-
-  -- the loop's turn: what stood at the place is still there
-  pub run-on : {before : List ℕ} {x v : ℕ} → Run d at g size before x → x < size
-      → v ≡ g (getD before (at + x) 0) x → Run d at g size (set before (at + x) v) (x + 1)
-  run-on {before} {x} {v} r h e =
-      let old = ap (λ (z : List ℕ). getD z (at + x) 0) (r .is) ∙ row-out d at (λ i. g (getD d (at + i) 0) i) x (at + x) 0 (inr (omega arith)) in
-      record {
-        most = omega arith;
-        long = length-set before (at + x) v ∙ r .long;
-        is = row-on d at (λ i. g (getD d (at + i) 0) i) x (r .is) (e ∙ ap (λ (n : ℕ). g n x) old);
-      }
-
-  pub run-all : {now : List ℕ} {x : ℕ} → Run d at g size now x → size ≤ x → now ≡ storeRow d at (λ i. g (getD d (at + i) 0) i) size
-  run-all {now} {x} r h = let e : x ≡ size = omega arith in r .is ∙ ap (storeRow d at (λ i. g (getD d (at + i) 0) i)) e
 
 -- ---- a block by rows
 
@@ -86,7 +57,3 @@ module _ {d : List ℕ} {di dw b n : ℕ} {g : ℕ → ℕ → ℕ → ℕ} wher
 
   pub lines-all : {now : List ℕ} {y : ℕ} → Lines d di dw b n g now y → n ≤ y → now ≡ storeRows d di dw b (λ y x. g (getD d (di + y * dw + x) 0) y x) n
   lines-all {now} {y} l h = let e : y ≡ n = omega arith in l .is ∙ ap (storeRows d di dw b (λ y x. g (getD d (di + y * dw + x) 0) y x)) e
-
--- the rows of a predicted block lie in 256 bytes
-pub in-block : (size y : ℕ) → size ≤ 16 → y < 16 → y * size + size ≤ 256
-in-block size y h q = let r : y + 1 ≤ 16 = omega arith in omega (arith, mul-le-mul r h)

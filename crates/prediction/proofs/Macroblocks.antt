@@ -2,8 +2,9 @@
 use mathlib.Core.Path.{_≡_, refl, ap, _∙_}
 use mathlib.Core.Bool.{Bool, true, false, cond}
 use mathlib.Core.List.{List}
-use mathlib.Core.Logic.{inl, inr}
+use mathlib.Core.Logic.{_⊎_, inl, inr}
 use Prim.Native.Nat.{ℕ, zero, suc, _+_, _*_, _/_, _%_, _≤_, _<_}
+use native.Mathlib.Decide.{decLt}
 use native.Mathlib.Nat.{div-lt-iff-lt-mul, mod-lt, mul-le-mul, mul-le-mul-right}
 use native.Mathlib.Omega.{arith}
 use borrow.Author.Tests.{le-ltb}
@@ -106,6 +107,30 @@ pub plane-in : (m : Macroblock) (q : Plane) (k : ℕ) → k < 3 → planeStart k
 plane-in m Y k h = omega (arith, store-most k (macroblocks m) h)
 plane-in m Cr k h = omega (arith, store-most k (macroblocks m) h)
 plane-in m Cb k h = omega (arith, store-most k (macroblocks m) h)
+
+-- the same plane of two stores: they are apart
+plane-small : (m : Macroblock) (q : Plane) → bytes (blockOf m (blockSize q)) ≤ 384 * macroblocks m
+plane-small m Y = omega arith
+plane-small m Cr = omega arith
+plane-small m Cb = omega arith
+
+pub planes-apart : (m : Macroblock) (q : Plane) (from to : ℕ) → (to ≡ from → ⊥) → let b = bytes (blockOf m (blockSize q)) in
+    let a = planeStart from q (macroblocks m) in
+    let c = planeStart to q (macroblocks m) in
+    (a + b ≤ c) ⊎ (c + b ≤ a)
+planes-apart m q from to n = go (decLt from to)
+  where
+    b : ℕ
+    b = bytes (blockOf m (blockSize q))
+
+    above : Dec (to < from) → (from < to → ⊥) → to < from
+    above (yes r) h = r
+    above (no r) h = absurd (n (omega arith))
+
+    go : Dec (from < to) → (planeStart from q (macroblocks m) + b ≤ planeStart to q (macroblocks m))
+        ⊎ (planeStart to q (macroblocks m) + b ≤ planeStart from q (macroblocks m))
+    go (yes h) = inl (omega (arith, plane-small m q, mul-le-mul-right (384 * macroblocks m) h))
+    go (no h) = let r : to < from = above (decLt to from) h in inr (omega (arith, plane-small m q, mul-le-mul-right (384 * macroblocks m) r))
 
 -- the same place, planes and vector
 pub alike : {p r : Place} {from from′ to to′ : ℕ} {h h′ v v′ : ℤ} (interpolate : Bool) (store : List ℕ) → p ≡ r → from ≡ from′ → to ≡ to′ → h ≡ h′ → v ≡ v′

@@ -1,10 +1,11 @@
 -- Bounds of a place, and which addresses lie in its plane.
-use mathlib.Core.Path.{_≡_, ap}
+use mathlib.Core.Path.{_≡_, ap, _∙_}
 use mathlib.Core.Bool.{Bool, true, false, cond}
 use mathlib.Core.Logic.{⊎-elim}
-use Prim.Native.Nat.{ℕ, _+_, _*_, _-_, _%_, _≤_, _<_}
+use Prim.Native.Nat.{ℕ, zero, suc, _+_, _*_, _-_, _≤_, _<_}
 use native.Mathlib.Nat.{mul-le-mul, mul-le-mul-left, mul-le-mul-right}
 use native.Mathlib.Omega.{arith}
+use lib.Dec.{eqb}
 use lib.IntN.{ℤ}
 use Rattle.laws.specs.Signed.{odd}
 use Rattle.prediction.specs.declared.place.Place.{Place}
@@ -23,15 +24,26 @@ at-most a s W H h r q l =
     let u : H - s + s ≡ H = omega arith in
     omega (arith, ap (λ (n : ℕ). n * W) t, ap (λ (n : ℕ). n * W) u)
 
+-- how far half samples reach, by the numbers 0 and 1 that the code has for them
+reach-is : (right below w : ℕ) → right ≤ 1 → below ≤ 1 → below * w + right ≡ cond (eqb below 1) w 0 + cond (eqb right 1) 1 0
+reach-is zero zero w r b = omega arith
+reach-is zero (suc zero) w r b = omega arith
+reach-is (suc zero) zero w r b = omega arith
+reach-is (suc zero) (suc zero) w r b = omega arith
+reach-is (suc (suc n)) below w r b = absurd (omega arith)
+reach-is zero (suc (suc n)) w r b = absurd (omega arith)
+reach-is (suc zero) (suc (suc n)) w r b = absurd (omega arith)
+
+pub halves-reach : (p : Place) (h v : ℤ) {right below : ℕ} → (right ≤ 1) × (eqb right 1 ≡ odd h) → (below ≤ 1) × (eqb below 1 ≡ odd v)
+    → below * width p + right ≡ reach p h v
+halves-reach p h v {right} {below} r b = reach-is right below (width p) (r .0) (b .0) ∙ rw (r .1, b .1)
+
 module _ {p : Place} (k : Placed p) where
   pub size-from : 8 ≤ p .size
   size-from = ⊎-elim (λ e. omega arith) (λ e. omega arith) (k .size)
 
   pub size-to : p .size ≤ 16
   size-to = ⊎-elim (λ e. omega arith) (λ e. omega arith) (k .size)
-
-  pub size-eights : p .size % 8 ≡ 0
-  size-eights = ⊎-elim (λ e. omega arith) (λ e. omega arith) (k .size)
 
   pub width-most : width p ≤ 4096
   width-most = mul-le-mul (k .inside .across) size-to

@@ -6,7 +6,7 @@ use mathlib.Core.Logic.{_⊎_}
 use Prim.Native.Nat.{ℕ, _+_, _-_, _*_, _/_, _%_, _≤_, _<_}
 use lib.Dec.{ltb}
 use lib.IntN.{ℤ, pos, natAbs, _+ℤ_, _*ℤ_}
-use lib.ListN.{getD, replicate}
+use lib.ListN.{getD}
 use lib.Signed.{ltZ, shrZ}
 use Rattle.laws.specs.Signed.{odd, half0}
 use Rattle.laws.specs.Stores.{storeRows}
@@ -72,14 +72,6 @@ unfoldable pub fetch : Place → ℤ → ℤ → Fetch
 fetch p h v =
     cond (ltZ (start p h v) (pos 0) || ltZ (pos (maxAddress p)) (start p h v)) Alone
     (cond (ltb (maxAddress p) (natAbs (start p h v) + reach p h v)) Past (Copied (natAbs (start p h v))))
-
--- the samples of a block of the plane s that begins at `from`, its rows one after the other
-unfoldable pub gathered : List ℕ → ℕ → ℕ → ℕ → Bool → Bool → List ℕ
-gathered s from dw size across down = storeRows (replicate 256 0) 0 size size (λ y x. sample s dw across down (from + y * dw + x)) size
-
--- such samples laid in the plane d at di
-unfoldable pub lay : List ℕ → ℕ → ℕ → ℕ → List ℕ → Bool → List ℕ
-lay d di dw size block interpolate = storeRows d di dw size (λ y x. laid interpolate (getD d (di + y * dw + x) 0) (getD block (y * size + x) 0)) size
 
 -- RULES 6.7, 6.8: the plane d with the block written from the plane s, whose block begins at `from`
 unfoldable pub predicted : Place → List ℕ → List ℕ → ℤ → ℤ → Bool → ℕ → List ℕ

@@ -1,5 +1,5 @@
 // Prediction, and the writers of blocks.
-pub mod gathering;
+pub mod apart;
 pub mod place;
 pub mod planes;
 pub mod predict;

@@ -1,9 +1,10 @@
 // Places in a plane: of a block, and of the block that a vector leads to (RULES 6.3 to 6.6, 6.9).
 ghost use mathlib.Core.Path.{_≡_};
 ghost use Prim.Native.Nat.{_+_, _*_, _≤_, _<_};
+ghost use lib.Dec.{eqb};
 ghost use lib.IntN.{natAbs};
 ghost use Rattle.laws.specs.Signed.{odd};
-ghost use Rattle.prediction.specs.Predict.{Inside, Placed, macroblockAt, blockOf, width, bytes, address, start, maxAddress, reach, fetch};
+ghost use Rattle.prediction.specs.Predict.{Inside, Placed, macroblockAt, blockOf, width, address, start, maxAddress, reach, fetch};
 
 // A block of a plane: the block's size in samples, how many blocks the plane has across and down, and the block's row and column among them.
 pub struct Place {
@@ -30,11 +31,11 @@ pub enum Fetch {
     Copied(usize),
 }
 
-// An odd component asks for a half sample (RULES 6.3).
-pub fn is_odd(n: i32) -> bool
-    ensures { λ r. ⌜ r ≡ odd n ⌝ }
+// An odd component asks for a half sample (RULES 6.3): 1 for one, else 0.
+pub fn half_sample(n: i32) -> usize
+    ensures { λ r. ⌜ (r ≤ 1) × (eqb r 1 ≡ odd n) ⌝ }
 {
-    (n & 1) == 1
+    (n & 1) as usize
 }
 
 // The macroblock with this address; addresses go by rows.
@@ -77,14 +78,6 @@ impl Place {
         self.across * self.size
     }
 
-    // Bytes of the plane.
-    pub fn bytes(self) -> usize
-        requires { ⌜ Placed self ⌝ }
-        ensures { λ r. ⌜ r ≡ bytes self ⌝ }
-    {
-        self.width() * (self.down * self.size)
-    }
-
     // The address of the block itself.
     pub fn address(self) -> usize
         requires { ⌜ Placed self ⌝ }
@@ -118,17 +111,7 @@ impl Place {
         requires { ⌜ Placed self ⌝ }
         ensures { λ r. ⌜ r ≡ reach self h v ⌝ }
     {
-        let right = is_odd(h);
-        if is_odd(v) {
-            if right {
-                return self.width() + 1;
-            }
-            return self.width();
-        }
-        if right {
-            return 1;
-        }
-        0
+        half_sample(v) * self.width() + half_sample(h)
     }
 
     // RULES 6.6, 6.9.

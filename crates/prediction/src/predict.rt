@@ -1,15 +1,15 @@
 // Blocks of one plane predicted from another, and a macroblock's three planes from another store.
-use crate::gathering::gather;
-use crate::gathering::lay;
+use crate::apart::predict_apart;
 use crate::place::Fetch;
 use crate::place::Macroblock;
 use crate::place::Place;
-use crate::place::is_odd;
+use crate::place::half_sample;
 use crate::planes::Plane;
 use crate::planes::block_size;
 use crate::planes::plane_start;
 use laws::half;
 ghost use mathlib.Core.Path.{_≡_};
+ghost use mathlib.Core.Logic.{_⊎_};
 ghost use Prim.Native.Nat.{_+_, _*_, _≤_, _<_};
 ghost use borrow.Rule.Slice.PartMut.{midOf, putMid};
 ghost use lib.IntN.{natAbs};
@@ -23,7 +23,7 @@ pub enum Predicted {
     Refused,
 }
 
-// The block that begins at `at` in its plane is gathered before the first byte is written. The planes begin at `from` and `to`.
+// The block that begins at `at` in its plane, row by row. The planes begin at `from` and `to`, and are apart.
 fn copy_block(
     store: &mut [u8],
     from: usize,
@@ -36,6 +36,7 @@ fn copy_block(
 )
     requires { ⌜ Placed p ⌝ }
     requires { ⌜ (from + bytes p ≤ length (now store)) × (to + bytes p ≤ length (now store)) ⌝ }
+    requires { ⌜ (from + bytes p ≤ to) ⊎ (to + bytes p ≤ from) ⌝ }
     requires { ⌜ at + reach p h v ≤ maxAddress p ⌝ }
     ensures { λ _. ⌜ now (store .exit) ≡ putMid to (bytes p) (now (store .entry))
         (predicted p (midOf from (bytes p) (now (store .entry))) (midOf to (bytes p) (now (store .entry))) h v interpolate at) ⌝ }
@@ -43,13 +44,18 @@ fn copy_block(
     let size = p.size;
     let dw = p.width();
     let di = p.address();
-    let bytes = p.bytes();
-    let across = is_odd(h);
-    let down = is_odd(v);
-    let from_end = from + bytes;
-    let to_end = to + bytes;
-    let block = gather(&store[from..from_end], at, dw, size, across, down);
-    lay(&mut store[to..to_end], di, dw, size, &block, interpolate);
+    let right = half_sample(h);
+    let below = half_sample(v);
+    predict_apart(
+        store,
+        from + at,
+        to + di,
+        dw,
+        size,
+        right,
+        below,
+        interpolate,
+    );
 }
 
 // One block of the plane that begins at `to`, from the plane that begins at `from` (the Rust's process_macroblock).
@@ -64,7 +70,7 @@ pub fn predict_plane(
 ) -> Predicted
     requires { ⌜ Placed p ⌝ }
     requires { ⌜ (natAbs h ≤ 2048) × (natAbs v ≤ 2048) ⌝ }
-    requires { ⌜ (from + bytes p ≤ length (now store)) × (to + bytes p ≤ length (now store)) ⌝ }
+    requires { ⌜ (from + bytes p ≤ length (now store)) × (to + bytes p ≤ length (now store)) × ((from + bytes p ≤ to) ⊎ (to + bytes p ≤ from)) ⌝ }
     ensures answer { λ r. ⌜ r ≡ inPlane p from to h v interpolate (now (store .entry)) .answer ⌝ }
     ensures store { λ _. ⌜ now (store .exit) ≡ inPlane p from to h v interpolate (now (store .entry)) .store ⌝ }
 {
@@ -90,7 +96,7 @@ fn predict_of_stores(
     interpolate: bool,
 ) -> Predicted
     requires { ⌜ Inside m ⌝ }
-    requires { ⌜ (from < 3) × (to < 3) ⌝ }
+    requires { ⌜ (from < 3) × (to < 3) × (to ≡ from → ⊥) ⌝ }
     requires { ⌜ (natAbs h ≤ 2048) × (natAbs v ≤ 2048) ⌝ }
     requires { ⌜ 1152 * macroblocks m ≤ length (now store) ⌝ }
     ensures answer { λ r. ⌜ r ≡ ofStores m from to interpolate q h v (now (store .entry)) .answer ⌝ }
@@ -115,7 +121,7 @@ pub fn predict_macroblock_planes(
     interpolate: bool,
 ) -> Predicted
     requires { ⌜ Inside m ⌝ }
-    requires { ⌜ (from < 3) × (to < 3) ⌝ }
+    requires { ⌜ (from < 3) × (to < 3) × (to ≡ from → ⊥) ⌝ }
     requires { ⌜ (natAbs h ≤ 2048) × (natAbs v ≤ 2048) ⌝ }
     requires { ⌜ 1152 * macroblocks m ≤ length (now store) ⌝ }
     ensures answer { λ r. ⌜ r ≡ predictedPlanes m from to h v interpolate (now (store .entry)) .answer ⌝ }

@@ -44,7 +44,13 @@ held-during p z {store} {t} e k = go (eqb (p .«picture_type») 3) e
           across = k .across;
           down = k .down;
           size = k .size;
-          stores = record { cur = k .stores .cur; fwd = k .stores .bwd; bwd = k .stores .bwd };
+          stores = record {
+            cur = k .stores .cur;
+            fwd = k .stores .bwd;
+            bwd = k .stores .bwd;
+            cur-fwd = k .stores .cur-bwd;
+            cur-bwd = k .stores .cur-bwd;
+          };
           whole = k .whole;
         })
 

@@ -27,7 +27,7 @@ read-picture-requires c κs =
           across = f .across;
           down = f .down;
           size = f .size;
-          stores = record { cur = t .cur; fwd = t .fwd; bwd = t .bwd };
+          stores = record { cur = t .cur; fwd = t .fwd; bwd = t .bwd; cur-fwd = t .cur-fwd; cur-bwd = t .cur-bwd };
           whole = s .pre .1 .1;
         },
       ),

@@ -8,7 +8,7 @@ use Rattle.heads.proofs.predictions.predict.Tie as tie
 predict-from-requires : tie.Need-predict-from-requires
 predict-from-requires c κs =
     let p = c .before .before .before .before .pre in
-    (p .0, ((p .1 .0, omega (arith, p .0 .stores .fwd, p .0 .stores .bwd)), p .1 .1 .forward))
+    (p .0, ((p .1 .0, omega (arith, p .0 .stores .fwd, p .0 .stores .bwd), p .0 .stores .cur-fwd), p .1 .1 .forward))
 
 returns : tie.Need-returns
 returns c =
@@ -26,7 +26,7 @@ predict-from-requires-2 : tie.Need-predict-from-requires-2
 predict-from-requires-2 c κs =
     let i = c .before .before in
     let p = i .before .before .before .pre in
-    (p .0, ((p .1 .0, omega (arith, p .0 .stores .bwd)), p .1 .1 .backward))
+    (p .0, ((p .1 .0, omega (arith, p .0 .stores .bwd), p .0 .stores .cur-bwd), p .1 .1 .backward))
 
 returns-3 : tie.Need-returns-3
 returns-3 c =

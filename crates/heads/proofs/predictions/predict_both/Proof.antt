@@ -14,7 +14,7 @@ abbrev made : tie.After-enum-told → tie.After-predict-from
 made c = c .before .before .before .before
 
 predict-from-requires : tie.Need-predict-from-requires
-predict-from-requires c κs = let p = c .before .before .pre in (p .0, ((p .1 .0, omega (arith, p .0 .stores .fwd)), p .1 .1 .forward))
+predict-from-requires c κs = let p = c .before .before .pre in (p .0, ((p .1 .0, omega (arith, p .0 .stores .fwd), p .0 .stores .cur-fwd), p .1 .1 .forward))
 
 returns : tie.Need-returns
 returns c =
@@ -26,7 +26,7 @@ predict-from-requires-2 : tie.Need-predict-from-requires-2
 predict-from-requires-2 c κs =
     let f = made (c .before .before) in
     let p = start f .pre in
-    (held-on (p .0) (f .predict-from .kept .0), ((p .1 .0, omega (arith, p .0 .stores .bwd)), p .1 .1 .backward))
+    (held-on (p .0) (f .predict-from .kept .0), ((p .1 .0, omega (arith, p .0 .stores .bwd), p .0 .stores .cur-bwd), p .1 .1 .backward))
 
 returns-2 : tie.Need-returns-2
 returns-2 c =

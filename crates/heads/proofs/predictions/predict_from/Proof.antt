@@ -38,7 +38,7 @@ predict-macroblock-planes-requires c κs =
     let p = start h .pre in
     let across-small = still-small (h .in-halves .result) (h .in-halves .ensures .1) in
     let down-small = still-small (v .in-halves2 .result) (v .in-halves2 .ensures .1) in
-    (m .1, ((p .1 .0 .1, omega (arith, p .0 .stores .cur)), ((across-small, down-small), rw (m .0) (omega (arith, p .0 .whole, p .0 .size)))))
+    (m .1, ((p .1 .0 .1, omega (arith, p .0 .stores .cur), p .1 .0 .2), ((across-small, down-small), rw (m .0) (omega (arith, p .0 .whole, p .0 .size)))))
 
 returns : tie.Need-returns
 returns c =

@@ -1,83 +1,66 @@
 -- `predict::copy_block` meets its contract.
 use mathlib.Core.Path.{_≡_, ap, _∙_}
-use Prim.Native.Nat.{ℕ, _+_, _-_, _≤_}
+use Prim.Native.Nat.{_+_, _≤_}
 use native.Mathlib.Omega.{arith}
 use borrow.Author.Needs.{needs}
 use denote.Ref.{now}
+use lib.Dec.{eqb}
+use lib.ListN.{length}
 use mir.Facts.{toZ-ofZ}
 use Rattle.laws.specs.Signed.{odd}
-use Rattle.prediction.specs.Predict.{width, bytes, address}
-use Rattle.prediction.proofs.Copies.{source-fits, target-fits, copied}
-use Rattle.prediction.proofs.Places.{size-to, size-eights, column-in}
+use Rattle.prediction.specs.Predict.{width, address, reach}
+use Rattle.prediction.proofs.Copies.{apart-fits, apart-copied}
+use Rattle.prediction.proofs.Places.{block-in, source-in}
 use Rattle.prediction.proofs.predict.copy_block.Statement.{statement}
 use Rattle.prediction.proofs.predict.copy_block.Tie as tie
 
--- ---- once the five numbers of the block are known
+-- ---- once the four numbers of the block are known
 
-module _ (o : tie.After-is-odd2) where
-  -- where the width is known, and the entry
-  abbrev wide : tie.After-width
-  wide = o .before .before .before .before
-
+module _ (o : tie.After-half-sample2) where
   abbrev entry : tie.Start
-  entry = wide .before .before
+  entry = o .before .before .before .before .before
 
-  -- the numbers that the calls gave
-  width-is : wide .width .result ≡ width (entry .args .p)
-  width-is = wide .width .ensures
+  width-is : o .before .before .before .width .result ≡ width (entry .args .p)
+  width-is = o .before .before .before .width .ensures
 
-  address-is : o .before .before .before .address .result ≡ address (entry .args .p)
-  address-is = o .before .before .before .address .ensures
+  address-is : o .before .before .address .result ≡ address (entry .args .p)
+  address-is = o .before .before .address .ensures
 
-  bytes-is : o .before .before .bytes .result ≡ bytes (entry .args .p)
-  bytes-is = o .before .before .bytes .ensures
+  right-is : (o .before .half-sample .result ≤ 1) × (eqb (o .before .half-sample .result) 1 ≡ odd (entry .args .h))
+  right-is = let e = o .before .half-sample .ensures in (e .0, e .1 ∙ ap odd (toZ-ofZ (entry .fits .h)))
 
-  across-is : o .before .is-odd .result ≡ odd (entry .args .h)
-  across-is = o .before .is-odd .ensures ∙ ap odd (toZ-ofZ (entry .fits .h))
+  below-is : (o .half-sample2 .result ≤ 1) × (eqb (o .half-sample2 .result) 1 ≡ odd (entry .args .v))
+  below-is = let e = o .half-sample2 .ensures in (e .0, e .1 ∙ ap odd (toZ-ofZ (entry .fits .v)))
 
-  down-is : o .is-odd2 .result ≡ odd (entry .args .v)
-  down-is = o .is-odd2 .ensures ∙ ap odd (toZ-ofZ (entry .fits .v))
+  -- the block's ends
+  source : entry .args .from + entry .args .at ≤ length (now (entry .args .store))
+  source = let s = entry in omega (arith, source-in (s .pre .0) (s .args .at + reach (s .args .p) (s .args .h) (s .args .v)) (s .pre .1 .1 .1), s .pre .1 .0)
 
-  -- the length of a part that begins at a
-  part-is : (a : ℕ) → a + o .before .before .bytes .result - a ≡ bytes (entry .args .p)
-  part-is a = omega (arith, bytes-is)
+  target : entry .args .to + address (entry .args .p) ≤ length (now (entry .args .store))
+  target = let s = entry in omega (arith, block-in (s .pre .0), s .pre .1 .0)
 
-  narrow : entry .args .p .size ≤ wide .width .result
-  narrow = omega (arith, width-is, column-in (entry .pre .0))
-
-gather-requires : tie.Need-gather-requires
-gather-requires c κs =
-    let o = c .before .before in
-    let a = entry o .args in
-    let p = entry o .pre in
-    let k = p .0 in (
-      (size-eights k, size-to k),
-      source-fits k (now (a .store)) (a .from) (a .at) (a .h) (a .v) (width-is o) (part-is o (a .from)) (across-is o) (down-is o) (p .1 .0 .0) (p .1 .1),
-    )
-
--- where the five numbers are known, once the block is gathered
-abbrev known : tie.After-lay-arg → tie.After-is-odd2
-known l = l .before .before .before .before
-
-lay-requires : tie.Need-lay-requires
-lay-requires c κs =
-    let o = known (c .before) in
-    let a = entry o .args in
-    let p = entry o .pre in
-    let k = p .0 in
-    ((size-eights k, size-to k, narrow o), target-fits k (now (a .store)) (a .to) (width-is o) (address-is o) (part-is o (a .to)) (p .1 .0 .1))
+predict-apart-requires : tie.Need-predict-apart-requires
+predict-apart-requires c κs =
+    let o = c .before in
+    let s = entry o in
+    let a = s .args in
+    let k = s .pre .0 in
+    let fits = apart-fits k (now (a .store)) (a .from) (a .to) (a .at) (a .h) (a .v) (width-is o) (address-is o) (right-is o) (below-is o)
+    (s .pre .1 .0 .0) (s .pre .1 .0 .1) (s .pre .1 .1 .1) (s .pre .1 .1 .0) in
+    (k .size, ((right-is o .0, below-is o .0), fits))
 
 returns : tie.Need-returns
 returns c =
-    let l = c .before .before .before .before in
-    let o = known l in
-    let a = entry o .args in
-    copied (entry o .pre .0) (now (a .store)) (a .from) (a .to) (a .at) (a .h) (a .v) (a .interpolate) (width-is o) (address-is o) (part-is o (a .from))
-    (part-is o (a .to)) (across-is o) (down-is o) (l .before .gather .ensures) (c .before .before .lay .ensures)
+    let r = c .before .before in
+    let o = r .before .before in
+    let s = entry o in
+    let a = s .args in
+    apart-copied (s .pre .0) (now (a .store)) (a .from) (a .to) (a .at) (a .h) (a .v) (width-is o) (address-is o) (right-is o) (below-is o)
+    (s .pre .1 .0 .0) (s .pre .1 .0 .1) (s .pre .1 .1 .1) (a .interpolate) (r .predict-apart .ensures)
 
 pub copy-block-spec : {M : Type 1} → statement M
 copy-block-spec =
     tie.close
-    (tie.spec (λ c κs. search needs) (λ c κs. search needs) (λ c κs. search needs) (λ c κs. omega arith) (λ c κs. omega arith)
-    (λ c. omega arith) (λ c. omega arith) (λ c. omega arith) (λ c. omega arith) (λ c. omega arith) gather-requires (λ c. omega arith)
-    (λ c. omega arith) (λ c. omega arith) lay-requires (λ c. omega arith) returns)
+    (tie.spec (λ c κs. search needs) (λ c κs. search needs) (λ c κs. search needs) (λ c κs. search needs)
+    (λ c. omega (arith, source (c .before))) (λ c. omega (arith, target (c .before), address-is (c .before))) predict-apart-requires
+    (λ c. search needs) returns)

@@ -1,5 +1,6 @@
 -- `predict::predict_of_stores` meets its contract.
 use mathlib.Core.Path.{_≡_, ap, _∙_}
+use mathlib.Core.Logic.{_⊎_}
 use Prim.Native.Nat.{ℕ, _+_, _≤_}
 use native.Mathlib.Omega.{arith}
 use denote.Ref.{now}
@@ -7,7 +8,7 @@ use mir.Facts.{toZ-ofZ}
 use Rattle.prediction.specs.declared.place.Place.{Place}
 use Rattle.prediction.specs.Planes.{blockSize, After}
 use Rattle.prediction.specs.Predict.{blockOf, bytes}
-use Rattle.prediction.proofs.Macroblocks.{count-most, placed, plane-in, alike}
+use Rattle.prediction.proofs.Macroblocks.{count-most, placed, plane-in, planes-apart, alike}
 use Rattle.prediction.proofs.predict.predict_of_stores.Statement.{statement}
 use Rattle.prediction.proofs.predict.predict_of_stores.Tie as tie
 
@@ -25,6 +26,10 @@ place-is k = k .block .ensures ∙ ap (blockOf (entry k .args .m)) (k .before .b
 room : {p r : Place} {a b n : ℕ} → p ≡ r → a ≡ b → b + bytes r ≤ n → a + bytes p ≤ n
 room ep ea h = rw (ep, ea) h
 
+-- and two are apart
+beside : {p r : Place} {a b c d : ℕ} → p ≡ r → a ≡ b → c ≡ d → (b + bytes r ≤ d) ⊎ (d + bytes r ≤ b) → (a + bytes p ≤ c) ⊎ (c + bytes p ≤ a)
+beside ep ea ec h = rw (ep, ea, ec) h
+
 plane-start-requires : tie.Need-plane-start-requires
 plane-start-requires c κs = let s = c .before .before in (s .pre .1 .0 .0, count-most (s .pre .0))
 
@@ -40,7 +45,12 @@ predict-plane-requires c κs =
       rw (place-is k) (placed (s .pre .0) (s .args .q)),
       (
         rw (toZ-ofZ (s .fits .h), toZ-ofZ (s .fits .v)) (s .pre .1 .1 .0),
-        (room (place-is k) (started k .before .plane-start .ensures) (omega arith), room (place-is k) (started k .plane-start2 .ensures) (omega arith)),
+        (
+          room (place-is k) (started k .before .plane-start .ensures) (omega arith),
+          room (place-is k) (started k .plane-start2 .ensures) (omega arith),
+          beside (place-is k) (started k .before .plane-start .ensures) (started k .plane-start2 .ensures)
+              (planes-apart (s .args .m) (s .args .q) (s .args .from) (s .args .to) (s .pre .1 .0 .2)),
+        ),
       ),
     )
 

@@ -39,7 +39,7 @@ copy-block-requires c κs =
     let s = entry (fetched g) in
     let at = g .at .given in
     let far = copied-in (s .args .p) (s .args .h) (s .args .v) (at .0 .0) (sym (at .1) ∙ fetch-is (fetched g)) in
-    (s .pre .0, (s .pre .1 .1, rw (toZ-ofZ (s .fits .h), toZ-ofZ (s .fits .v)) far))
+    (s .pre .0, ((s .pre .1 .1 .0, s .pre .1 .1 .1), (s .pre .1 .1 .2, rw (toZ-ofZ (s .fits .h), toZ-ofZ (s .fits .v)) far)))
 
 returns : tie.Need-returns
 unfolding follow

@@ -21,7 +21,13 @@ held-as p z k q =
       across = k .across;
       down = k .down;
       size = k .size;
-      stores = record { cur = q .stores .cur; fwd = q .stores .fwd; bwd = q .stores .bwd };
+      stores = record {
+        cur = q .stores .cur;
+        fwd = q .stores .fwd;
+        bwd = q .stores .bwd;
+        cur-fwd = q .stores .cur-fwd;
+        cur-bwd = q .stores .cur-bwd;
+      };
       whole = k .whole;
     }
 

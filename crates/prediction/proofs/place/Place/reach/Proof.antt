@@ -1,50 +1,33 @@
 -- `Place::reach` meets its contract.
-use mathlib.Core.Path.{_≡_, sym, ap, _∙_}
-use Prim.Native.Nat.{ℕ, _+_}
-use native.Mathlib.Nat.{add-zero}
+use mathlib.Core.Path.{ap, _∙_}
+use Prim.Native.Nat.{_≤_, _*_}
+use native.Mathlib.Nat.{mul-le-mul}
 use native.Mathlib.Omega.{arith}
 use borrow.Author.Needs.{needs}
 use mir.Facts.{toZ-ofZ}
 use Rattle.laws.specs.Signed.{odd}
-use Rattle.prediction.proofs.Places.{width-most}
+use Rattle.prediction.proofs.Places.{width-most, halves-reach}
 use Rattle.prediction.proofs.place.Place.reach.Statement.{statement}
 use Rattle.prediction.proofs.place.Place.reach.Tie as tie
 
-abbrev entry : tie.After-is-odd2 → tie.Start
-entry c = c .before .before
-
-v-is : (c : tie.After-is-odd2) → c .is-odd2 .result ≡ odd (entry c .args .v)
-v-is c = c .is-odd2 .ensures ∙ ap odd (toZ-ofZ (entry c .fits .v))
-
-h-is : (c : tie.After-is-odd) → c .is-odd .result ≡ odd (c .before .args .h)
-h-is c = c .is-odd .ensures ∙ ap odd (toZ-ofZ (c .before .fits .h))
+-- at most a row
+down-most : (c : tie.After-width) → c .before .half-sample .result * c .width .result ≤ 4096
+down-most c =
+    let w : c .width .result ≤ 4096 = omega (arith, c .width .ensures, width-most (c .before .before .pre)) in
+    omega (arith, mul-le-mul (c .before .half-sample .ensures .0) w)
 
 returns : tie.Need-returns
 returns c =
-    let l = c .before .before .before in
-    ap (λ (n : ℕ). n + 1) (c .width .ensures) ∙ rw (sym (v-is l) ∙ c .before .before .if1 .taken, sym (h-is (l .before)) ∙ c .before .if2 .taken)
-
-returns-2 : tie.Need-returns-2
-returns-2 c =
-    let l = c .before .before .before in
-    c .width2 .ensures ∙ rw (sym (v-is l) ∙ c .before .before .if1 .taken, sym (h-is (l .before)) ∙ c .before .if2 .left, add-zero)
-
-returns-3 : tie.Need-returns-3
-returns-3 c = let l = c .before .before in rw (sym (v-is l) ∙ c .before .if1 .left, sym (h-is (l .before)) ∙ c .if3 .taken)
-
-returns-4 : tie.Need-returns-4
-returns-4 c = let l = c .before .before in rw (sym (v-is l) ∙ c .before .if1 .left, sym (h-is (l .before)) ∙ c .if3 .left)
+    let w = c .before in
+    let s = w .before .before in
+    let right = c .half-sample2 .ensures in
+    let below = w .before .half-sample .ensures in
+    rw (w .width .ensures)
+    (halves-reach (s .args .self) (s .args .h) (s .args .v) (right .0, right .1 ∙ ap odd (toZ-ofZ (s .fits .h)))
+    (below .0, below .1 ∙ ap odd (toZ-ofZ (s .fits .v))))
 
 pub reach-spec : {M : Type 1} → statement M
 reach-spec =
     tie.close
-    (tie.spec
-    (λ c κs. omega arith)
-    (λ c κs. omega arith)
-    (λ c κs. search needs)
-    (λ c. omega (arith, c .width .ensures, width-most (entry (c .before .before .before) .pre)))
-    returns
-    (λ c κs. search needs)
-    returns-2
-    returns-3
-    returns-4)
+    (tie.spec (λ c κs. omega arith) (λ c κs. search needs) (λ c. omega (arith, down-most c)) (λ c κs. omega arith)
+    (λ c. omega (arith, down-most (c .before), c .half-sample2 .ensures .0)) returns)
