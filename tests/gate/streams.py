@@ -650,7 +650,9 @@ LAST = '1' + GOOD[TYPE[2]][2] + GOOD[PATTERN][1]
 for value, code in sorted(GOOD[COEFF].items()):
     cut = value in (1, 4, 5, 7, 7937)
     if cut or len(code) < 9:
-        end_cases('coefficient_%d' % value, 2, 1, LAST, code + '1', all_cuts(code + '1') if cut else [1])
+        end_cases('coefficient_%d' % value, 2, 1, LAST, code + '1', all_cuts(code + '1') if cut else [0, 1] if value == 0xFFFF else [1])
+for x in range(4):
+    end_cases('eight_bits_%d' % x, 2, 1, LAST, format(x, '08b'), [0])
 end_cases('later_1', 2, 1, LAST + '10', '111', all_cuts('111'))
 end_cases('end_of_block', 2, 1, LAST + '10', '10', all_cuts('10'))
 
