@@ -1,4 +1,5 @@
 pub mod Bits
+pub mod Bounds
 pub mod Codes
 pub mod Fuel
 pub mod Gives

@@ -11,6 +11,7 @@ use lib.ListN.{length}
 use lib.IntN.{ℤ, negsuc}
 use lib.Dec.{leb, eqb}
 use Rattle.laws.specs.Turns.{Turn, again, stop}
+use Rattle.bits.specs.Bounds.{longestStream, lastPosition}
 use Rattle.bits.specs.Bits.{Found, bitsAt, has, got, next, found, boundary}
 use Rattle.bits.specs.Programs.{Prog, done, look, Out, run, bind, bits, skips, reads, nonZero, nextStartCode, turn, loop}
 use Rattle.bits.specs.Runs.{Runs, Inside, Reading}
@@ -85,9 +86,9 @@ r-start-past {s} {a} {e} {k} r g = go (found s a) (found-is-first s a) (ap (λ (
     go f (none w q) x y = absurd (g (sym x ∙ ap (λ (h : Found). h .code) q))
 
 -- a run stays within the bounds of the position
-pub r-most : {A : Type 0} {p : Prog A} {s : List ℕ} {a : ℕ} {v : A} {e : ℕ} → Runs p s a v e → a ≤ 134217728 → length s ≤ 16777216
-    → e ≤ 134217728
-r-most {p = p} {s} {a} r h l = rw (r .is) at (run-most p s a 16777216 h l)
+pub r-most : {A : Type 0} {p : Prog A} {s : List ℕ} {a : ℕ} {v : A} {e : ℕ} → Runs p s a v e → a ≤ lastPosition → length s ≤ longestStream
+    → e ≤ lastPosition
+r-most {p = p} {s} {a} r h l = rw (r .is) at (run-most p s a longestStream h l)
 
 -- so what began inside ends inside
 pub reading : {A : Type 0} {p : Prog A} {s : List ℕ} {from to : Reader} {v : A} → Inside s from → Runs p s (from .at .0) v (to .at .0)

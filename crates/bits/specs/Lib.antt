@@ -1,3 +1,4 @@
 pub mod Bits
+pub mod Bounds
 pub mod Programs
 pub mod Runs

@@ -87,7 +87,7 @@ unfoldable pub loop : {S A : Type 0} → ℕ → (S → Prog (Turn S A)) → A �
 loop zero f d x = done d
 loop (suc n) f d x = bind (f x) (turn (loop n f d))
 
--- more turns than the longest stream has bits: 8 × 16,777,216 + 1
+-- more turns than the longest stream has bits
 abbrev pub many : ℕ
 many = 134217729
 

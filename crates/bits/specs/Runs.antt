@@ -3,6 +3,7 @@ use mathlib.Core.Path.{_≡_}
 use mathlib.Core.List.{List}
 use Prim.Native.Nat.{ℕ, _≤_}
 use lib.ListN.{length}
+use Rattle.bits.specs.Bounds.{longestStream, lastPosition}
 use Rattle.bits.specs.declared.reader.Reader.{Reader}
 use Rattle.bits.specs.Programs.{Prog, run}
 
@@ -12,8 +13,8 @@ pub record Runs {A : Type 0} (p : Prog A) (s : List ℕ) (a : ℕ) (v : A) (e : 
 
 -- RULES Q1, Q2: the length of the stream and the place of the reader are within their bounds
 pub record Inside (s : List ℕ) (reader : Reader) : Type 0 where
-  pub place : reader .at .0 ≤ 134217728
-  pub stream : length s ≤ 16777216
+  pub place : reader .at .0 ≤ lastPosition
+  pub stream : length s ≤ longestStream
 
 -- p, run on s from the reader `from` on, gives the value v, and `to` is the reader behind it
 pub record Reading {A : Type 0} (p : Prog A) (s : List ℕ) (from : Reader) (v : A) (to : Reader) : Type 0 where

@@ -7,6 +7,7 @@ ghost use mathlib.Core.Path.{_≡_};
 ghost use Prim.Native.Nat.{_+_, _-_, _*_, _/_, _^_, _≤_, _<_};
 ghost use lib.ListN.{length, getD};
 ghost use lib.Dec.{leb};
+ghost use Rattle.bits.specs.Bounds.{longestStream, lastPosition};
 ghost use Rattle.bits.specs.Bits.{bitsAt, has, hasBytes, boundary};
 ghost use Rattle.bits.specs.Programs.{bits, reads, skips, nonZero};
 ghost use Rattle.bits.specs.Runs.{Inside, Reading};
@@ -56,7 +57,7 @@ fn five_bytes(a: u64, b: u64, c: u64, d: u64, e: u64) -> u64
 
 // The five bytes from b on as one number: 32 bits lie within them, wherever in the first byte they begin.
 fn window(s: &[u8], b: usize) -> u64
-    requires { ⌜ b ≤ 16777216 ⌝ }
+    requires { ⌜ b ≤ longestStream ⌝ }
     ensures { λ r. ⌜ r ≡ bitsAt (now (s .entry)) (b * 8) 40 ⌝ }
 {
     if b + 5 <= s.len() {
@@ -86,7 +87,7 @@ impl Reader {
 
     // Whether count more bits are there.
     pub fn has(self, s: &[u8], count: usize) -> Peeked
-        requires { ⌜ length (now s) ≤ 16777216 ⌝ }
+        requires { ⌜ length (now s) ≤ longestStream ⌝ }
         ensures { λ r. ⌜ (r .value ≡ has (now (s .entry)) (self .at .0) count) × (r .reader ≡ self) ⌝ }
     {
         let at = self.at.0;
@@ -106,7 +107,7 @@ impl Reader {
 
     // Whether no bit is left.
     pub fn has_ended(self, s: &[u8]) -> Peeked
-        requires { ⌜ length (now s) ≤ 16777216 ⌝ }
+        requires { ⌜ length (now s) ≤ longestStream ⌝ }
         ensures { λ r. ⌜ (r .value ≡ leb (length (now (s .entry)) * 8) (self .at .0)) × (r .reader ≡ self) ⌝ }
     {
         let at = self.at.0;
@@ -189,7 +190,7 @@ impl Reader {
 
     // count bits on, which are known to be there.
     pub fn on(self, count: usize) -> Reader
-        requires { ⌜ (self .at .0 ≤ 134217728) × (count ≤ 32) ⌝ }
+        requires { ⌜ (self .at .0 ≤ lastPosition) × (count ≤ 32) ⌝ }
         ensures { λ r. ⌜ r .at .0 ≡ self .at .0 + count ⌝ }
     {
         let at = self.at.0;
@@ -227,9 +228,9 @@ impl Reader {
 
     // To the next byte boundary.
     pub fn align(self) -> Reader
-        requires { ⌜ self .at .0 ≤ 134217728 ⌝ }
+        requires { ⌜ self .at .0 ≤ lastPosition ⌝ }
         ensures { λ r. ⌜ r .at .0 ≡ boundary (self .at .0) * 8 ⌝ }
-        ensures { λ r. ⌜ r .at .0 ≤ 134217728 ⌝ }
+        ensures { λ r. ⌜ r .at .0 ≤ lastPosition ⌝ }
     {
         Reader {
             at: bit_of(byte_of(BitPosition(self.at.0 + 7))),
@@ -249,9 +250,9 @@ impl Reader {
 
     // To the beginning of a byte.
     pub fn seek(self, to: BytePosition) -> Reader
-        requires { ⌜ to .0 ≤ 16777216 ⌝ }
+        requires { ⌜ to .0 ≤ longestStream ⌝ }
         ensures { λ r. ⌜ r .at .0 ≡ to .0 * 8 ⌝ }
-        ensures { λ r. ⌜ r .at .0 ≤ 134217728 ⌝ }
+        ensures { λ r. ⌜ r .at .0 ≤ lastPosition ⌝ }
     {
         Reader { at: bit_of(to) }
     }

@@ -13,14 +13,14 @@ use Rattle.prediction.specs.declared.place.Macroblock.{Macroblock}
 use Rattle.prediction.specs.declared.planes.Plane.{Plane}
 use Rattle.prediction.specs.declared.planes.Plane.the-variants.{Y, Cr, Cb}
 use Rattle.prediction.specs.Predict.{macroblockAt}
-use Rattle.prediction.specs.Planes.{macroblocks, planeOf, planeLength, planeStart}
+use Rattle.prediction.specs.Planes.{macroblocks, planeOf, planeLength, planeStart, storesBytes}
 use Rattle.prediction.specs.Writers.{blockWidth, blockPlace}
 use Rattle.prediction.proofs.Macroblocks.{store-most}
 use Rattle.picture.specs.Blocks.{results}
 use Rattle.picture.specs.declared.state.Setting.{Setting}
 use Rattle.picture.specs.Views.{Held, inStore}
 
-plane-end : (k n : ℕ) (p : Plane) → k < 3 → planeStart k p n + planeLength p n ≤ 1152 * n
+plane-end : (k n : ℕ) (p : Plane) → k < 3 → planeStart k p n + planeLength p n ≤ storesBytes n
 plane-end k n Y h = omega (arith, store-most k n h)
 plane-end k n Cr h = omega (arith, store-most k n h)
 plane-end k n Cb h = omega (arith, store-most k n h)

@@ -114,7 +114,8 @@ module _ (ix : List ℤ) where
         let o = bit-runs at s c h in
         record {
           runs = loop-runs ∙ ap (λ (w : Out (Turn ℕ ℕ)). run (turn (loop n (walkTurn ix) 0) (w .value)) s (w .at)) o;
-          shorts = loop-shorts ∙ ap (λ (b : Bool). b || short (turn (loop n (walkTurn ix) 0) (run (walkTurn ix at) s c .value)) s (run (walkTurn ix at) s c .at))
+          shorts = loop-shorts
+              ∙ ap (λ (b : Bool). b || short (turn (loop n (walkTurn ix) 0) (run (walkTurn ix at) s c .value)) s (run (walkTurn ix at) s c .at))
               (bit-shorts at s c h)
               ∙ ap (λ (w : Out (Turn ℕ ℕ)). short (turn (loop n (walkTurn ix) 0) (w .value)) s (w .at)) o;
         }
@@ -137,7 +138,8 @@ module _ (ix : List ℤ) where
     enough s zero m at c h k l = let no : ⊥ = omega arith in absurd no
     enough s (suc n) zero at c h k l = let no : ⊥ = omega arith in absurd no
     enough s (suc n) (suc m) at c h k l =
-        let both : Out (Turn ℕ ℕ) → Type 0 = λ w. Same s (turn (loop n (walkTurn ix) 0) (w .value)) (w .at) (turn (loop m (walkTurn ix) 0) (w .value)) (w .at) in
+        let both : Out (Turn ℕ ℕ) → Type 0 = λ w.
+        Same s (turn (loop n (walkTurn ix) 0) (w .value)) (w .at) (turn (loop m (walkTurn ix) 0) (w .value)) (w .at) in
         let rest = subst both (sym (turn-runs at s c)) (go (leZ z (pos 0)) refl (λ i p q. enough s n m i (next s c 1) p (omega arith) (omega arith))) in
         record {
           runs = loop-runs n at s c ∙ rest .runs ∙ sym (loop-runs m at s c);
@@ -188,8 +190,11 @@ module _ (ix : List ℤ) where
         unfolding ledFrom
         says n at j zero e h k = let no : ⊥ = omega arith in absurd no
         says zero at j (suc fuel) e h k =
-            let eight : a + j ≡ a + 8 = omega arith in
-            (h, subst (λ (c : ℕ). Same s (loop (suc fuel) (walkTurn ix) 0 at) (a + j) (walkFrom ix at) c) eight (enough s (suc fuel) (length ix) at (a + j) h k (omega arith)))
+            let eight : a + j ≡ a + 8 = omega arith in (
+              h,
+              subst (λ (c : ℕ). Same s (loop (suc fuel) (walkTurn ix) 0 at) (a + j) (walkFrom ix at) c) eight
+                  (enough s (suc fuel) (length ix) at (a + j) h k (omega arith)),
+            )
         says (suc n) at j (suc fuel) e h k =
             subst (Says (suc fuel) at j) (sym (led-turn n at j (omega arith)))
             (go (leZ z (pos 0)) refl (λ i p q. says n i (j + 1) fuel (omega arith) p (omega arith)))
@@ -226,11 +231,13 @@ module _ (ix : List ℤ) where
 
         module _ (vs : List ℕ) where
           -- value, place and mark are those that the entry says
-          pub look-agrees : 0 < looked ix vs (bitsAt s a 8) → Same s (vlc ix vs 0) a (done (looked ix vs (bitsAt s a 8) / 16)) (a + looked ix vs (bitsAt s a 8) % 16)
+          pub look-agrees : 0 < looked ix vs (bitsAt s a 8)
+              → Same s (vlc ix vs 0) a (done (looked ix vs (bitsAt s a 8) / 16)) (a + looked ix vs (bitsAt s a 8) % 16)
           unfolding looked vlc
           look-agrees h = go (led ix (bitsAt s a 8)) refl h
             where
-              go : (e : Eight) → led ix (bitsAt s a 8) ≡ e → 0 < packed vs e → Same s (bind (walk ix) (λ k. done (getD vs k 0))) a (done (packed vs e / 16)) (a + packed vs e % 16)
+              go : (e : Eight) → led ix (bitsAt s a 8) ≡ e → 0 < packed vs e
+                  → Same s (bind (walk ix) (λ k. done (getD vs k 0))) a (done (packed vs e / 16)) (a + packed vs e % 16)
               go (ends k n) q p =
                   let w = led-ends k n q in
                   let value : (16 * getD vs k 0 + n) / 16 ≡ getD vs k 0 = omega (arith, w .2) in

@@ -14,7 +14,7 @@ use Rattle.bits.proofs.Rules.{reading}
 use Rattle.bits.specs.Runs.{Inside, Reading}
 use Rattle.bits.specs.declared.reader.Reader.{Reader}
 use Rattle.codes.specs.Codes.{macroblockAddressIncrement, dctCoeff}
-use Rattle.codes.specs.Lent.{Lent, Joined, Leading}
+use Rattle.codes.specs.Lent.{Lent, Joined, Leading, tablesLength}
 use Rattle.codes.proofs.Led.{Same, led-ends, look-agrees, look-further}
 use Rattle.codes.proofs.Parts.{Natural, places, natural-here, natural-table}
 use Rattle.look.specs.Eight.{dctCoeffEight, macroblockAddressIncrementEight}
@@ -39,7 +39,8 @@ unfolding dctCoeffEight dctCoeffIndex dctCoeffValue looked led ledFrom walkTurn 
 coefficient-looked x h = of-test dctCoeffIndex dctCoeffValue dctCoeffEight tt x h
 
 pub increment-looked : (x : ℕ) → x < 256 → getD macroblockAddressIncrementEight x 0 ≡ looked macroblockAddressIncrementIndex macroblockAddressIncrementValue x
-unfolding macroblockAddressIncrementEight macroblockAddressIncrementIndex macroblockAddressIncrementValue looked led ledFrom walkTurn run bind got next bitsAt bitAt
+unfolding macroblockAddressIncrementEight macroblockAddressIncrementIndex macroblockAddressIncrementValue looked led ledFrom walkTurn run bind got
+    next bitsAt bitAt
 increment-looked x h = of-test macroblockAddressIncrementIndex macroblockAddressIncrementValue macroblockAddressIncrementEight tt x h
 
 -- ---- what an entry says
@@ -147,7 +148,7 @@ module _ {index : List ℤ} {value : List ℕ} {code : Prog ℕ} {s : List ℕ} 
 module _ {a n : ℕ} {index : List ℤ} {value : List ℕ} {code : Prog ℕ} (p : Natural a n index value code) where
   -- what the walk from there asks
   pub further-asks : {s t : List ℕ} {from mid : Reader} → Lent t → Inside s from → from .at .0 / 8 + 2 ≤ length s → mid .at .0 ≡ from .at .0 + 8
-      → (k : ℕ) → k + 1 < n → Inside s mid × (((a ≤ a + n) × (a + n ≤ 830)) × (Leading (take n (drop a t)) × (k + 1 < n)))
+      → (k : ℕ) → k + 1 < n → Inside s mid × (((a ≤ a + n) × (a + n ≤ tablesLength)) × (Leading (take n (drop a t)) × (k + 1 < n)))
   further-asks l i two e k h =
       let w = natural-table l p in
       (record { place = omega (arith, i .stream); stream = i .stream }, (w .0, (w .1, h)))

@@ -27,6 +27,7 @@ use Rattle.codes.proofs.Good.{good-code-block-pattern, good-dct-size-lu
 use Rattle.codes.proofs.Joined.{short-at, natural-back, walk-joined, ends-joined, joined-leading}
 use Rattle.codes.proofs.Lists.{map-at}
 use Rattle.codes.specs.Walk.{walkFrom, vlcFrom, vlc}
+use Rattle.codes.specs.Lent.{intraMatrixAt, otherMatrixAt, tablesLength}
 
 -- ---- lists
 
@@ -57,7 +58,7 @@ natural-runs vs j i {k = k} r h l =
 
 -- a code whose table, of n entries at the place a, has natural values
 pub record Natural (a n : ℕ) (index : List ℤ) (value : List ℕ) (code : Prog ℕ) : Type 0 where
-  pub inside : T (leb (a + n) 702)
+  pub inside : T (leb (a + n) intraMatrixAt)
   pub part : take n (drop a fixedTables) ≡ joined index (map pos value)
   pub places : T (all near index)
   pub values : T (all short (map pos value))
@@ -102,15 +103,15 @@ places =
 
 module _ {t : List ℕ} (l : Lent t) where
   -- a part of the fixed tables, xs
-  pub lent-part : (a n : ℕ) {xs : List ℕ} → a + n ≤ 702 → take n (drop a fixedTables) ≡ xs → take n (drop a t) ≡ xs
-  lent-part a n h e = sym (part-front a n 702 t h) ∙ ap (λ (x : List ℕ). take n (drop a x)) (l .fixed) ∙ e
+  pub lent-part : (a n : ℕ) {xs : List ℕ} → a + n ≤ intraMatrixAt → take n (drop a fixedTables) ≡ xs → take n (drop a t) ≡ xs
+  lent-part a n h e = sym (part-front a n intraMatrixAt t h) ∙ ap (λ (x : List ℕ). take n (drop a x)) (l .fixed) ∙ e
 
-  pub lent-at : (a n i : ℕ) {xs : List ℕ} → a + n ≤ 702 → i < n → take n (drop a fixedTables) ≡ xs → getD t (a + i) 0 ≡ getD xs i 0
+  pub lent-at : (a n i : ℕ) {xs : List ℕ} → a + n ≤ intraMatrixAt → i < n → take n (drop a fixedTables) ≡ xs → getD t (a + i) 0 ≡ getD xs i 0
   lent-at a n i h k e = sym (part-at a n i t 0 k) ∙ ap (λ (x : List ℕ). getD x i 0) (lent-part a n h e)
 
   module _ {a n : ℕ} {index : List ℤ} {value : List ℕ} {code : Prog ℕ} (p : Natural a n index value code) where
     pub natural-here : Joined index (map pos value) (take n (drop a t))
-    natural-here = record { is = lent-part a n (leb→le (a + n) 702 (p .inside)) (p .part); places = p .places; values = p .values }
+    natural-here = record { is = lent-part a n (leb→le (a + n) intraMatrixAt (p .inside)) (p .part); places = p .places; values = p .values }
 
     -- its code, by the part and by the definition
     pub natural-code : {s : List ℕ} {from to : Reader} {v : ℕ}
@@ -118,15 +119,15 @@ module _ {t : List ℕ} (l : Lent t) where
     natural-code r = rw (p .walks) at (r index value natural-here)
 
     -- what `read_natural` asks of its places and of the part there
-    pub natural-table : ((a ≤ a + n) × (a + n ≤ 830)) × Leading (take n (drop a t))
+    pub natural-table : ((a ≤ a + n) × (a + n ≤ tablesLength)) × Leading (take n (drop a t))
     natural-table =
-        let most = leb→le (a + n) 702 (p .inside) in
+        let most = leb→le (a + n) intraMatrixAt (p .inside) in
         ((omega arith, omega arith), joined-leading natural-here (p .good))
 
 -- an entry of the matrices
-pub matrix-at : (t : List ℕ) (intra : Bool) (i : ℕ) → i < 64 → getD (matrixOf t intra) i 0 ≡ getD t (cond intra 702 766 + i) 0
+pub matrix-at : (t : List ℕ) (intra : Bool) (i : ℕ) → i < 64 → getD (matrixOf t intra) i 0 ≡ getD t (cond intra intraMatrixAt otherMatrixAt + i) 0
 unfolding matrixOf
-matrix-at t intra i h = part-at (cond intra 702 766) 64 i t 0 h
+matrix-at t intra i h = part-at (cond intra intraMatrixAt otherMatrixAt) 64 i t 0 h
 
 -- the zig-zag order and the premultipliers
 pub place-at : {t : List ℕ} → Lent t → (n : ℕ) → n < 64 → getD t (574 + n) 0 ≡ getD zigZag n 0

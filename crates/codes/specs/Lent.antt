@@ -85,15 +85,25 @@ blockCodes =
 unfoldable pub fixedTables : List ℕ
 fixedTables = macroblockCodes ++ blockCodes
 
+-- where the two matrices begin behind them, and how long all of it is
+abbrev pub intraMatrixAt : ℕ
+intraMatrixAt = 702
+
+abbrev pub otherMatrixAt : ℕ
+otherMatrixAt = 766
+
+abbrev pub tablesLength : ℕ
+tablesLength = 830
+
 -- RULES 3.8: behind them the matrix of intra blocks and that of the others
 abbrev pub tablesWith : List ℕ → List ℕ → List ℕ
 tablesWith intra other = fixedTables ++ intra ++ other
 
 -- RULES 3.8: the matrix among the tables t for blocks that are intra or not
 unfoldable pub matrixOf : List ℕ → Bool → List ℕ
-matrixOf t intra = take 64 (drop (cond intra 702 766) t)
+matrixOf t intra = take 64 (drop (cond intra intraMatrixAt otherMatrixAt) t)
 
 -- t are the tables with some matrices
 pub record Lent (t : List ℕ) : Type 0 where
-  pub fixed : take 702 t ≡ fixedTables
-  pub bytes : (k : ℕ) → 702 ≤ k → getD t k 0 < 256
+  pub fixed : take intraMatrixAt t ≡ fixedTables
+  pub bytes : (k : ℕ) → intraMatrixAt ≤ k → getD t k 0 < 256

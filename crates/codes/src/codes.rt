@@ -22,8 +22,9 @@ ghost use mathlib.Core.Path.{_≡_};
 ghost use Prim.Native.Nat.{ℕ, _+_, _-_, _/_, _%_, _≤_, _<_};
 ghost use lib.IntN.{ℤ, pos};
 ghost use lib.ListN.{take, drop};
+ghost use Rattle.bits.specs.Bounds.{lastPosition};
 ghost use Rattle.bits.specs.Runs.{Inside, Reading};
-ghost use Rattle.codes.specs.Lent.{Lent, Joined, Leading};
+ghost use Rattle.codes.specs.Lent.{Lent, Joined, Leading, tablesLength};
 ghost use Rattle.codes.specs.Walk.{vlcFrom, vlc};
 ghost use Rattle.codes.specs.Codes.{macroblockAddressIncrement, macroblockTypeIntra, macroblockTypePredictive, macroblockTypeB};
 ghost use Rattle.codes.specs.Codes.{codeBlockPattern, motion, dctSizeLuminance, dctSizeChrominance, dctCoeff};
@@ -38,7 +39,7 @@ fn read_natural_from(
     pair: usize,
 ) -> VlcUint
     requires { ⌜ Inside (now s) reader ⌝ }
-    requires { ⌜ (at ≤ end) × (end ≤ 830) ⌝ }
+    requires { ⌜ (at ≤ end) × (end ≤ tablesLength) ⌝ }
     requires { ⌜ Leading (take (end - at) (drop at (now tables))) ⌝ }
     requires { ⌜ pair + 1 < end - at ⌝ }
     ensures { λ r. ⌜ ((ix : List ℤ) (vs : List ℕ) → Joined ix (map pos vs) (take (end - at) (drop at (now (tables .entry))))
@@ -51,7 +52,7 @@ fn read_natural_from(
 // The whole code.
 fn read_natural(s: &[u8], reader: Reader, tables: &Tables, at: usize, end: usize) -> VlcUint
     requires { ⌜ Inside (now s) reader ⌝ }
-    requires { ⌜ (at ≤ end) × (end ≤ 830) ⌝ }
+    requires { ⌜ (at ≤ end) × (end ≤ tablesLength) ⌝ }
     requires { ⌜ Leading (take (end - at) (drop at (now tables))) ⌝ }
     ensures { λ r. ⌜ ((ix : List ℤ) (vs : List ℕ) → Joined ix (map pos vs) (take (end - at) (drop at (now (tables .entry))))
         → Reading (vlc ix vs 0) (now (s .entry)) reader (r .value) (r .reader)) ⌝ }
@@ -61,7 +62,7 @@ fn read_natural(s: &[u8], reader: Reader, tables: &Tables, at: usize, end: usize
 
 // A code as it was looked up: 16 × value + length.
 fn found(reader: Reader, entry: u32) -> VlcUint
-    requires { ⌜ reader .at .0 ≤ 134217728 ⌝ }
+    requires { ⌜ reader .at .0 ≤ lastPosition ⌝ }
     ensures { λ r. ⌜ (r .value ≡ entry / 16) × (r .reader .at .0 ≡ reader .at .0 + entry % 16) ⌝ }
 {
     VlcUint {

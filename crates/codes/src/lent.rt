@@ -7,7 +7,10 @@ ghost use lib.ListN.{getD};
 ghost use Rattle.codes.specs.Lent.{Lent, matrixOf};
 ghost use Rattle.codes.specs.Matrices.{zigZag, premultiplierMatrix};
 
-pub type Tables = [u16; 830];
+// The length of the array.
+pub const LENGTH: usize = 830;
+
+pub type Tables = [u16; LENGTH];
 
 pub const INCREMENT: usize = 0;
 

@@ -11,7 +11,7 @@ use Rattle.laws.proofs.Lists.{length-mid}
 use Rattle.laws.proofs.Tests.{each}
 use Rattle.prediction.specs.declared.planes.Plane.{Plane}
 use Rattle.prediction.specs.declared.planes.Plane.the-variants.{Y, Cr, Cb}
-use Rattle.prediction.specs.Planes.{planeLength, planeStart}
+use Rattle.prediction.specs.Planes.{planeLength, planeStart, storesBytes}
 use Rattle.prediction.proofs.Macroblocks.{store-most}
 use Rattle.argb.specs.Scaled.{Whole}
 use Rattle.argb.proofs.Store.{store-whole}
@@ -40,13 +40,13 @@ pub size-few : {q : Sequence} → Headed q → q .sizes .«mb_size» ≤ 65536
 size-few {q} h = rw (h .size, h .columns, h .rows) (size-most (q .width) (q .height) (h .wide .1) (h .high .1))
 
 -- RULES 6.11: a plane is within the three stores
-pub plane-end : (q : Plane) (k n : ℕ) → k ≤ 2 → planeStart k q n + planeLength q n ≤ 1152 * n
+pub plane-end : (q : Plane) (k n : ℕ) → k ≤ 2 → planeStart k q n + planeLength q n ≤ storesBytes n
 plane-end Y k n h = omega (arith, store-most k n (omega arith))
 plane-end Cr k n h = omega (arith, store-most k n (omega arith))
 plane-end Cb k n h = omega (arith, store-most k n (omega arith))
 
 -- the picture in a store is whole
-pub picture-whole : (q : Sequence) (l : List ℕ) (k : ℕ) → Headed q → 1152 * q .sizes .«mb_size» ≤ length l → k ≤ 2 → Whole (pictureIn q l k)
+pub picture-whole : (q : Sequence) (l : List ℕ) (k : ℕ) → Headed q → storesBytes (q .sizes .«mb_size») ≤ length l → k ≤ 2 → Whole (pictureIn q l k)
 picture-whole q l k h m i =
     let z = q .sizes in
     let n = z .«mb_size» in

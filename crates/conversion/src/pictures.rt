@@ -11,7 +11,7 @@ ghost use Prim.Native.Nat.{_*_, _≤_};
 ghost use borrow.Rule.Slice.PartMut.{midOf};
 ghost use lib.Dec.{leb};
 ghost use lib.ListN.{length};
-ghost use Rattle.prediction.specs.Planes.{planeStart, planeLength};
+ghost use Rattle.prediction.specs.Planes.{planeStart, planeLength, storesBytes};
 ghost use Rattle.argb.specs.Scaled.{scaled};
 ghost use Rattle.conversion.specs.Pictures.{pictureIn};
 ghost use Rattle.conversion.specs.Headed.{Headed};
@@ -32,7 +32,7 @@ pub fn fits(w: usize, h: usize, room: usize) -> bool
 // RULES 6.11: a plane of the store number k, for n macroblocks.
 fn plane(store: &[u8], k: usize, q: Plane, n: usize) -> &[u8]
     requires { ⌜ (k ≤ 2) × (n ≤ 65536) ⌝ }
-    requires { ⌜ 1152 * n ≤ length (now store) ⌝ }
+    requires { ⌜ storesBytes n ≤ length (now store) ⌝ }
     ensures { λ r. ⌜ now r ≡ midOf (planeStart k q n) (planeLength q n) (now (store .entry)) ⌝ }
 {
     let start = plane_start(k, q, n);
@@ -43,7 +43,7 @@ fn plane(store: &[u8], k: usize, q: Plane, n: usize) -> &[u8]
 // RULES 9.1, 9.2: the picture in the store number `index`.
 pub fn write_picture(q: Sequence, store: &[u8], index: usize, area: &mut [u32], w: usize, h: usize)
     requires { ⌜ Headed q ⌝ }
-    requires { ⌜ 1152 * q .sizes .«mb_size» ≤ length (now store) ⌝ }
+    requires { ⌜ storesBytes (q .sizes .«mb_size») ≤ length (now store) ⌝ }
     requires { ⌜ (index ≤ 2) × (w ≤ 4096) × (h ≤ 4096) × (w * h ≤ length (now area)) ⌝ }
     ensures { λ r. ⌜ now (area .exit) ≡ scaled (pictureIn q (now (store .entry)) index) w h (now (area .entry)) ⌝ }
 {

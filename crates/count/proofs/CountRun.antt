@@ -7,6 +7,7 @@ use Prim.Native.Nat.{ℕ, zero, suc, _+_, _*_, _/_, _≤_, _<_}
 use native.Mathlib.Nat.{eq-or-lt-of-le}
 use native.Mathlib.Omega.{arith}
 use lib.ListN.{length, getD}
+use Rattle.bits.specs.Bounds.{longestStream}
 use Rattle.bits.specs.Programs.{many}
 use Rattle.decoder.specs.declared.record.Decoder.{Decoder}
 use Rattle.decoder.specs.declared.answers.Opening.the-variants as O
@@ -56,7 +57,7 @@ ended-ending s d n (gave (H.Picture i) x m) r = tt
 ended-ending s d n (gave (H.Refused i) x m) (seven j e u) = refl
 ended-ending s d n (stopped i m) (stops e) = mark-ending e
 
-module _ (s : List ℕ) (short : length s ≤ 16777216) (bytes : (k : ℕ) → getD s k 0 < 256) where
+module _ (s : List ℕ) (short : length s ≤ longestStream) (bytes : (k : ℕ) → getD s k 0 < 256) where
   abbrev Ends-with : Left Outcome → Type 0
   Ends-with r = Ending (r .answer)
 
@@ -71,7 +72,7 @@ module _ (s : List ℕ) (short : length s ≤ 16777216) (bytes : (k : ℕ) → g
 
 -- ---- the run
 
-module _ (s : List ℕ) (short : length s ≤ 16777216) (bytes : (k : ℕ) → getD s k 0 < 256) (x : Going) (begins : Between s x 0)
+module _ (s : List ℕ) (short : length s ≤ longestStream) (bytes : (k : ℕ) → getD s k 0 < 256) (x : Going) (begins : Between s x 0)
     (header : x .decoder .sequence .«has_sequence_header» ≡ true) where
   -- RULES R.1: the fuel is more than the pictures that are left
   from-run : (j n : ℕ) → Handed s x n → 8 * length s / 29 + 1 < n + j → CountsRun s x (countFrom j s n (before s x n .decoder) (before s x n .store))

@@ -6,6 +6,7 @@ use Prim.Native.Nat.{ℕ, suc, _+_, _-_, _≤_, _<_}
 use native.Mathlib.Omega.{arith}
 use lib.Dec.{leb}
 use lib.ListN.{length, getD}
+use Rattle.bits.specs.Bounds.{longestStream}
 use Rattle.bits.specs.Programs.{many}
 use Rattle.decoder.specs.declared.record.Decoder.{Decoder}
 use Rattle.decoder.specs.declared.answers.Shown.{Shown}
@@ -26,11 +27,11 @@ use Rattle.count.specs.Count.{Counts, counts, countFrom, countOf, counts
 -- ---- opening
 
 -- RULES Q1: a stream that is too long is refused
-long-number : (s l : List ℕ) → leb (length s) 16777216 ≡ false → openingNumber (opening s l .answer) ≡ 1
+long-number : (s l : List ℕ) → leb (length s) longestStream ≡ false → openingNumber (opening s l .answer) ≡ 1
 unfolding opening
 long-number s l h = rw h refl
 
-pub ready-short : (s l : List ℕ) → opening s l .answer ≡ O.Ready → length s ≤ 16777216
+pub ready-short : (s l : List ℕ) → opening s l .answer ≡ O.Ready → length s ≤ longestStream
 ready-short s l e =
     by-length s _ (λ h. h) (λ h. let z : _≡_ {A = ℕ} 1 0 = sym (long-number s l h) ∙ ap openingNumber e in let no : ⊥ = omega arith in absurd no)
 
@@ -56,7 +57,7 @@ onward-is k n s l d x e = ap (onward k n s) (sym e)
 
 -- n pictures are counted from d₀ and l₀ on, and the others follow
 pub record Counting (s l₀ : List ℕ) (d₀ : Decoder) (l : List ℕ) (d : Decoder) (n : ℕ) : Type 0 where
-  pub short : length s ≤ 16777216
+  pub short : length s ≤ longestStream
   pub bytes : (k : ℕ) → getD s k 0 < 256
   pub run : Between s (going d l) n
   pub long : length l ≡ length l₀

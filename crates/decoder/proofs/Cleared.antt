@@ -16,6 +16,7 @@ use Rattle.decoder.specs.Headers.{Asked, refused, passed, askHeader, ask
 use Rattle.decoder.specs.Opening.{opened, openingFrom, opening}
 use Rattle.decoder.specs.Turns.{going}
 use Rattle.decoder.specs.HandOut.{begun}
+use Rattle.bits.specs.Bounds.{longestStream}
 
 -- what a call that accepts a header leaves in the store
 abbrev Clears : List ℕ → Decoder → List ℕ → Type 0
@@ -40,7 +41,7 @@ from-row d s l = store-row d l (askHeader s d)
 
 ready-row : (s l : List ℕ) → LeftRow l (opening s l)
 unfolding opening
-ready-row s l = by-case (LeftRow l) (leb (length s) 16777216) (λ e. from-row fresh s l) (λ e. tt)
+ready-row s l = by-case (LeftRow l) (leb (length s) longestStream) (λ e. from-row fresh s l) (λ e. tt)
 
 -- an opening that accepts a header: the store is long enough and cleared
 pub opening-clears : (s l : List ℕ) → opening s l .answer ≡ O.Ready

@@ -8,6 +8,7 @@ use lib.Dec.{eqb, leb}
 use lib.IntN.{ℤ, pos, negℤ}
 use borrow.Author.Tests.{leb-true}
 use Rattle.laws.proofs.Tests.{each}
+use Rattle.bits.specs.Bounds.{lastPosition}
 use Rattle.bits.specs.declared.reader.Reader.{Reader}
 use Rattle.bits.specs.Programs.{Out, findStartCode}
 use Rattle.bits.specs.Runs.{Reading}
@@ -21,7 +22,7 @@ use Rattle.header.specs.Possible.{possibleSequence}
 use Rattle.header.specs.Sequences.{Size, Rest}
 use Rattle.header.proofs.Sizing.{sized-of, possible-sized}
 use Rattle.decoder.specs.declared.record.Decoder.{Decoder}
-use Rattle.decoder.specs.Record.{place, fresh, searchedAs}
+use Rattle.decoder.specs.Record.{place, fresh, searchedAs, mostPictures}
 use Rattle.decoder.specs.Possible.{possible}
 use Rattle.decoder.specs.Headers.{sized, accepted}
 use Rattle.decoder.specs.Fit.{Fit}
@@ -33,11 +34,11 @@ use Rattle.decoder.proofs.Starts.{fresh-starts}
 
 -- its parts
 pub possible-parts : (d : Decoder) → possible d ≡ true
-    → (place d ≤ 134217728) × (possibleSequence (d .sequence) ≡ true) × (possiblePicture (d .picture) ≡ true) × (d .«frames_decoded» ≤ 134217728)
+    → (place d ≤ lastPosition) × (possibleSequence (d .sequence) ≡ true) × (possiblePicture (d .picture) ≡ true) × (d .«frames_decoded» ≤ mostPictures)
 unfolding possible
 possible-parts d e =
-    let h = each (leb (place d) 134217728)
-    (possibleSequence (d .sequence) ∷ possiblePicture (d .picture) ∷ leb (d .«frames_decoded») 134217728 ∷
+    let h = each (leb (place d) lastPosition)
+    (possibleSequence (d .sequence) ∷ possiblePicture (d .picture) ∷ leb (d .«frames_decoded») mostPictures ∷
     (eqb (d .stop) 0 || eqb (d .stop) 8 || eqb (d .stop) 9) ∷ []) e in
     (leb-true _ _ (h 0), h 1, h 2, leb-true _ _ (h 3))
 
@@ -47,12 +48,12 @@ numbers-first true f m q p = rw (and-assoc (f && m) q p, and-comm (f && m) (q &&
 numbers-first false f m q p = refl
 
 pub possible-by : (d : Decoder) (p : Bool) {n q l : Bool} {x : PictureState}
-    → n ≡ (leb (place d) 134217728 && leb (d .«frames_decoded») 134217728 && (eqb (d .stop) 0 || eqb (d .stop) 8 || eqb (d .stop) 9))
+    → n ≡ (leb (place d) lastPosition && leb (d .«frames_decoded») mostPictures && (eqb (d .stop) 0 || eqb (d .stop) 8 || eqb (d .stop) 9))
     → q ≡ possibleSequence (d .sequence) → x ≡ stateOfPicture (d .picture) → ((left : List ℤ) → (p && bounded left) ≡ possiblePicture (pictureOf x left))
     → l ≡ bounded (d .picture .slice .«block_data») → (n && q && (p && l)) ≡ possible d
 unfolding possible
 possible-by d p numbers sequence is state left =
-    rw (numbers, sequence, left, state (d .picture .slice .«block_data»), is, numbers-first (leb (place d) 134217728))
+    rw (numbers, sequence, left, state (d .picture .slice .«block_data»), is, numbers-first (leb (place d) lastPosition))
 
 pub fit-of : {d : Decoder} → possible d ≡ true → Fit d
 fit-of {d} e =
@@ -99,7 +100,7 @@ fit-fresh = record {
 }
 
 -- RULES Q5: width and height as read
-pub fit-sized : {d : Decoder} (z : Size) {e : ℕ} → Fit d → e ≤ 134217728 → z .width ≤ 4095 → z .height ≤ 4095
+pub fit-sized : {d : Decoder} (z : Size) {e : ℕ} → Fit d → e ≤ lastPosition → z .width ≤ 4095 → z .height ≤ 4095
     → Fit (sized (record { value = z; at = e }) d)
 fit-sized z f e w h = record {
   place = e;
@@ -113,7 +114,7 @@ fit-sized z f e w h = record {
 }
 
 -- RULES O.4: an accepted header
-pub fit-accepted : {d : Decoder} (v : Rest) {e : ℕ} → Fit d → e ≤ 134217728 → Fit (accepted (record { value = v; at = e }) d)
+pub fit-accepted : {d : Decoder} (v : Rest) {e : ℕ} → Fit d → e ≤ lastPosition → Fit (accepted (record { value = v; at = e }) d)
 unfolding accepted
 fit-accepted {d} v f e =
     let z = sized-of (d .sequence .width) (d .sequence .height) (f .wide) (f .high) in
@@ -142,7 +143,7 @@ fit-accepted {d} v f e =
 
 -- RULES 1.11: a search for a start code
 module _ {d : Decoder} (c : ℤ) (b : between (negℤ (pos 1)) (pos 255) c ≡ true) (f : Fit d) where
-  placed : {k : ℤ} {e : ℕ} → e ≤ 134217728 → between (negℤ (pos 1)) (pos 255) k ≡ true → Fit (searchedAs k e d)
+  placed : {k : ℤ} {e : ℕ} → e ≤ lastPosition → between (negℤ (pos 1)) (pos 255) k ≡ true → Fit (searchedAs k e d)
   placed e q = record {
     place = e;
     wide = f .wide;
@@ -154,7 +155,7 @@ module _ {d : Decoder} (c : ℤ) (b : between (negℤ (pos 1)) (pos 255) c ≡ t
     count = f .count;
   }
 
-  pub fit-found : {s : List ℕ} {o : Out ℤ} → Sought c s (place d) o → o .at ≤ 134217728 → Fit (searchedAs (o .value) (o .at) d)
+  pub fit-found : {s : List ℕ} {o : Out ℤ} → Sought c s (place d) o → o .at ≤ lastPosition → Fit (searchedAs (o .value) (o .at) d)
   fit-found (hit x y z) h = placed h (rw x b)
   fit-found (miss x y) h = placed h (rw x refl)
 

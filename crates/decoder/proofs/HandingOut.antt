@@ -17,6 +17,7 @@ use Rattle.decoder.specs.declared.answers.Outcome.the-variants.{Refused}
 use Rattle.decoder.specs.Record.{stopAs, Left, left, storeBytes}
 use Rattle.decoder.specs.Possible.{possibleWith}
 use Rattle.decoder.specs.State.{decoderOf, stateOf}
+use Rattle.bits.specs.Bounds.{longestStream}
 use Rattle.bits.specs.Programs.{if_then_else_}
 use Rattle.decoder.specs.Headers.{Asked, passed, askHeader, askStore}
 use Rattle.decoder.specs.Turns.{Going, going, Ended, pictureTurn}
@@ -122,11 +123,11 @@ module _ (s : List ℕ) (d : Decoder) (l : List ℕ) where
     go-on zero g e f = rw (← e) f
     go-on (suc n) g e f = absurd (omega arith)
 
-  pub hand-1 : 16777216 < length s → left (Refused 1) d l ≡ handOut d s l
+  pub hand-1 : longestStream < length s → left (Refused 1) d l ≡ handOut d s l
   unfolding handOut
   hand-1 h = rw (lt-leb _ _ h)
 
-  module _ (h : length s ≤ 16777216) where
+  module _ (h : length s ≤ longestStream) where
     pub hand-2 : possibleWith s d ≡ false → left (Refused 2) d l ≡ handOut d s l
     unfolding handOut
     hand-2 e = rw (le-leb _ _ h, e)

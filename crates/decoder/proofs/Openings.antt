@@ -12,13 +12,14 @@ use Rattle.decoder.specs.Record.{fresh, left, storeBytes}
 use Rattle.decoder.specs.Headers.{askHeader, askStore}
 use Rattle.decoder.specs.Opening.{opened, openingFrom, opening}
 use Rattle.decoder.specs.Asking.{asked}
+use Rattle.bits.specs.Bounds.{longestStream}
 
 module _ (s l : List ℕ) where
-  pub open-1 : 16777216 < length s → left (Refused 1) fresh l ≡ opening s l
+  pub open-1 : longestStream < length s → left (Refused 1) fresh l ≡ opening s l
   unfolding opening
   open-1 h = rw (lt-leb _ _ h)
 
-  module _ (h : length s ≤ 16777216) (x : Decoder) where
+  module _ (h : length s ≤ longestStream) (x : Decoder) where
     pub open-no : (n : ℕ) → (n ≡ 0 → ⊥) → asked n x ≡ askStore fresh l (askHeader s fresh) → left (Refused n) x l ≡ opening s l
     unfolding opening openingFrom opened
     open-no zero g e = absurd (g refl)

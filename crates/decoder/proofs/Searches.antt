@@ -9,6 +9,7 @@ use lib.IntN.{ℤ, pos, negsuc, natAbs}
 use lib.ListN.{length, getD}
 use borrow.Author.Tests.{eqb-true}
 use Rattle.laws.specs.Turns.{again, stop}
+use Rattle.bits.specs.Bounds.{longestStream}
 use Rattle.bits.specs.Bits.{Found, boundary, codePrefix, codeFrom, found}
 use Rattle.bits.specs.Programs.{Out, done, bind, run, eqZ, turn, loop, many, findTurn, findStartCode}
 use Rattle.bits.specs.Runs.{Runs}
@@ -91,7 +92,7 @@ sought-from c s (suc n) a h = go (found s a .code) (found s a .at) (code-ahead s
     go (negsuc zero) e p q x r = rw (or-true (eqZ (negsuc 0) c)) (miss refl (q refl))
     go (negsuc (suc v)) e p q x r = let z : suc (suc v) ≡ 1 = ap natAbs (x refl) in let no : ⊥ = omega arith in absurd no
 
-pub sought : (c : ℤ) (s : List ℕ) (a : ℕ) → length s ≤ 16777216 → Sought c s a (run (findStartCode c) s a)
+pub sought : (c : ℤ) (s : List ℕ) (a : ℕ) → length s ≤ longestStream → Sought c s a (run (findStartCode c) s a)
 unfolding findStartCode
 sought c s a h = sought-from c s many a (omega arith)
 

@@ -8,6 +8,7 @@ use lib.IntN.{pos, negsuc}
 use lib.ListN.{length, getD}
 use Rattle.laws.specs.Turns.{Turn, again, stop}
 use Rattle.laws.proofs.Tests.{by-case}
+use Rattle.bits.specs.Bounds.{longestStream, lastPosition}
 use Rattle.bits.specs.Programs.{Prog, run, eqZ, findStartCode}
 use Rattle.bits.specs.Runs.{Runs}
 use Rattle.bits.proofs.Programs.{run-most}
@@ -33,7 +34,7 @@ use Rattle.decoder.proofs.Fits.{fit-found}
 
 -- ---- the picture
 
-fit-behind : {d : Decoder} {q : Picture} {e : ℕ} → Fit d → PossiblePicture q → e ≤ 134217728 → Fit (placeAs e (pictureAs q d))
+fit-behind : {d : Decoder} {q : Picture} {e : ℕ} → Fit d → PossiblePicture q → e ≤ lastPosition → Fit (placeAs e (pictureAs q d))
 fit-behind f k h = record {
   place = h;
   wide = f .wide;
@@ -109,20 +110,20 @@ shown-fits d l f =
     by-case Follows (eqb (d .picture .«picture_type») 3) (λ e. tt)
     (λ e. by-case Follows (d .«has_reference_frame») (λ e. tt) (λ e. fit-held f))
 
-past-fits : (d : Decoder) (l : List ℕ) (w : Way Frame) (e : ℕ) → Fit d → Ends (length l) (StaysPossible l) w → e ≤ 134217728
+past-fits : (d : Decoder) (l : List ℕ) (w : Way Frame) (e : ℕ) → Fit d → Ends (length l) (StaysPossible l) w → e ≤ lastPosition
     → Follows (pastPicture d (record { value = w; at = e }))
 unfolding pastPicture
 past-fits d l (on x) e f k h = shown-fits (placeAs e (pictureAs (x .picture) d)) (x .store) (fit-behind f (picture-of (x .picture) (k .picture)) h)
 past-fits d l (out n m) e f k h = tt
 
-module _ (s : List ℕ) (short : length s ≤ 16777216) (bytes : (k : ℕ) → getD s k 0 < 256) where
+module _ (s : List ℕ) (short : length s ≤ longestStream) (bytes : (k : ℕ) → getD s k 0 < 256) where
   decoded-fits : (d : Decoder) (l : List ℕ) → Fit d → Follows (decoded s d l)
   unfolding decoded
   decoded-fits d l f =
       let z = d .sequence .sizes in
       let m = d .sequence .matrices in
       past-fits d l _ _ f (picture-kept z m (d .picture) l s (place d) (f .across) (f .down) (f .size) (picture-by (f .picture)) short bytes)
-      (run-most (picture z m (d .picture) l) s (place d) 16777216 (f .place) short)
+      (run-most (picture z m (d .picture) l) s (place d) longestStream (f .place) short)
 
   searched-fits : (d : Decoder) (l : List ℕ) → Fit d → Follows (searched s d l)
   unfolding searched
@@ -134,7 +135,7 @@ module _ (s : List ℕ) (short : length s ≤ 16777216) (bytes : (k : ℕ) → g
   unfolding nextPicture
   next-fits d f =
       by-case Fit (eqZ (startCode d) (pos 0)) (λ e. f)
-      (λ e. fit-found (pos 0) refl f (sought (pos 0) s (place d) short) (run-most (findStartCode (pos 0)) s (place d) 16777216 (f .place) short))
+      (λ e. fit-found (pos 0) refl f (sought (pos 0) s (place d) short) (run-most (findStartCode (pos 0)) s (place d) longestStream (f .place) short))
 
   pub turn-fits : (d : Decoder) (l : List ℕ) {y : Going} → Fit d → pictureTurn s (going d l) ≡ again y → Fit (y .decoder)
   unfolding pictureTurn

@@ -3,15 +3,16 @@ use mathlib.Core.Path.{_≡_}
 use Prim.Native.Nat.{_*_, _≤_}
 use Rattle.picture.specs.Possible.{PossiblePicture}
 use Rattle.decoder.specs.declared.record.Decoder.{Decoder}
-use Rattle.decoder.specs.Record.{place}
+use Rattle.decoder.specs.Record.{place, mostPictures}
+use Rattle.bits.specs.Bounds.{lastPosition}
 
 -- with no header the sizes are 0
 pub record Fit (d : Decoder) : Type 0 where
-  pub place : place d ≤ 134217728
+  pub place : place d ≤ lastPosition
   pub wide : d .sequence .width ≤ 4095
   pub high : d .sequence .height ≤ 4095
   pub across : d .sequence .sizes .«mb_width» ≤ 256
   pub down : d .sequence .sizes .«mb_height» ≤ 256
   pub size : d .sequence .sizes .«mb_size» ≡ d .sequence .sizes .«mb_width» * d .sequence .sizes .«mb_height»
   pub picture : PossiblePicture (d .picture)
-  pub count : d .«frames_decoded» ≤ 134217728
+  pub count : d .«frames_decoded» ≤ mostPictures

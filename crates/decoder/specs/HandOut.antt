@@ -5,6 +5,7 @@ use Prim.Native.Nat.{ℕ}
 use lib.Dec.{eqb, leb}
 use lib.ListN.{length}
 use Rattle.laws.specs.Turns.{turns}
+use Rattle.bits.specs.Bounds.{longestStream}
 use Rattle.bits.specs.Programs.{if_then_else_}
 use Rattle.header.specs.Store.{cleared}
 use Rattle.decoder.specs.declared.record.Decoder.{Decoder}
@@ -40,7 +41,7 @@ goOn s d l (passed x) = ended d (pictures s (begun d x l))
 -- RULES Q, QA: the questions 1 and 2, the stop mark, and the others
 unfoldable pub handOut : Decoder → List ℕ → List ℕ → Left Outcome
 handOut d s l =
-    if not (leb (length s) 16777216) then left (Refused 1) d l
+    if not (leb (length s) longestStream) then left (Refused 1) d l
     else (if not (possibleWith s d) then left (Refused 2) d l
     else (if not (eqb (d .stop) 0) then left (Refused (d .stop)) d l
     else goOn s d l (askFirst s d l)))

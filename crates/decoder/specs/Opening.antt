@@ -3,6 +3,7 @@ use mathlib.Core.List.{List}
 use Prim.Native.Nat.{ℕ}
 use lib.Dec.{leb}
 use lib.ListN.{length}
+use Rattle.bits.specs.Bounds.{longestStream}
 use Rattle.bits.specs.Programs.{if_then_else_}
 use Rattle.header.specs.Store.{cleared}
 use Rattle.decoder.specs.declared.record.Decoder.{Decoder}
@@ -22,4 +23,4 @@ openingFrom d s l = opened l (askStore d l (askHeader s d))
 
 -- RULES O.1, O.2: question 1, then from the fresh record on
 unfoldable pub opening : List ℕ → List ℕ → Left Opening
-opening s l = if leb (length s) 16777216 then openingFrom fresh s l else left (Refused 1) fresh l
+opening s l = if leb (length s) longestStream then openingFrom fresh s l else left (Refused 1) fresh l

@@ -7,6 +7,7 @@ use Rattle.picture.specs.declared.state.Picture.{Picture}
 use Rattle.picture.specs.State.{startCodeAs, freshPicture}
 use Rattle.header.specs.declared.state.Sequence.{Sequence}
 use Rattle.header.specs.State.{freshSequence, noTime}
+use Rattle.prediction.specs.Planes.{storesBytes}
 use Rattle.decoder.specs.declared.record.Clock.{Clock}
 use Rattle.decoder.specs.declared.record.Decoder.{Decoder}
 
@@ -16,6 +17,10 @@ place d = d .reader .at .0
 
 abbrev pub startCode : Decoder → ℤ
 startCode d = d .picture .«start_code»
+
+-- RULES Q2: the most pictures that a record can have handed out
+abbrev pub mostPictures : ℕ
+mostPictures = 134217728
 
 -- RULES O.1: the fresh record
 unfoldable pub fresh : Decoder
@@ -114,4 +119,4 @@ left x d l = record { answer = x; decoder = d; store = l }
 
 -- RULES 6.11: bytes of the three stores
 abbrev pub storeBytes : Decoder → ℕ
-storeBytes d = 1152 * d .sequence .sizes .«mb_size»
+storeBytes d = storesBytes (d .sequence .sizes .«mb_size»)

@@ -10,6 +10,7 @@ use crate::state::state_of;
 use crate::state::with_state;
 use crate::turns::Turned;
 use crate::turns::picture_turn;
+use bits::position::LONGEST_STREAM;
 use header::store::clear;
 use picture::state::Sizes;
 ghost use mathlib.Core.Path.{_≡_};
@@ -18,12 +19,14 @@ ghost use mathlib.Core.List.{List};
 ghost use Prim.Native.Nat.{ℕ, _*_, _≤_};
 ghost use lib.ListN.{length};
 ghost use Rattle.picture.specs.Views.{matrices};
+ghost use Rattle.prediction.specs.Planes.{storesBytes};
 ghost use Rattle.decoder.specs.declared.answers.Outcome.the-variants as Outcomes;
 ghost use Rattle.decoder.specs.Record as Record;
 ghost use Rattle.decoder.specs.Fit.{Fit};
 ghost use Rattle.decoder.specs.State.{decoderOf, FitState};
 ghost use Rattle.decoder.specs.Turned.{endOf, Plays};
 ghost use Rattle.decoder.specs.HandOut as Out;
+ghost use Rattle.bits.specs.Bounds.{longestStream};
 
 fn refused(decoder: Decoder, number: u32) -> Handed
     ensures { λ r. ⌜ ((l : List ℕ) → Record.left (r .outcome) (r .decoder) l ≡ Record.left (Outcomes.Refused number) decoder l) ⌝ }
@@ -45,8 +48,8 @@ fn pictures(
     d: DecoderState,
 ) -> Turned
     requires { ⌜ FitState sizes (matrices (now intra) (now other)) d (now values) ⌝ }
-    requires { ⌜ length (now s) ≤ 16777216 ⌝ }
-    requires { ⌜ 1152 * sizes .«mb_size» ≤ length (now store) ⌝ }
+    requires { ⌜ length (now s) ≤ longestStream ⌝ }
+    requires { ⌜ storesBytes (sizes .«mb_size») ≤ length (now store) ⌝ }
     ensures { λ r. ⌜
         Plays (now (s .entry)) sizes (matrices (now (intra .entry)) (now (other .entry))) d (now (values .entry)) (now (store .entry))
         r (now (values .exit)) (now (store .exit))
@@ -77,7 +80,7 @@ fn ended(mut before: Decoder, d: Decoder, t: Turned, left: [i32; 64]) -> Handed
 // RULES 8.1, O.4: the first hand-out of a record without a header. The questions 3 to 6, the store becomes 0, and the pictures.
 fn with_header(s: &[u8], store: &mut [u8], before: Decoder) -> Handed
     requires { ⌜ Fit before ⌝ }
-    requires { ⌜ length (now s) ≤ 16777216 ⌝ }
+    requires { ⌜ length (now s) ≤ longestStream ⌝ }
     requires { ⌜ before .sequence .«has_sequence_header» ≡ false ⌝ }
     ensures { λ r. ⌜ Record.left (r .outcome) (r .decoder) (now (store .exit))
         ≡ Out.goOn (now (s .entry)) before (now (store .entry)) (Out.askFirst (now (s .entry)) before (now (store .entry))) ⌝ }
@@ -106,7 +109,7 @@ impl Decoder {
     pub fn decode(self, stream: &[u8], store: &mut [u8]) -> Handed
         ensures { λ r. ⌜ Record.left (r .outcome) (r .decoder) (now (store .exit)) ≡ Out.handOut self (now (stream .entry)) (now (store .entry)) ⌝ }
     {
-        if 16777216 < stream.len() {
+        if LONGEST_STREAM < stream.len() {
             return refused(self, 1);
         }
         if !possible_with(stream, self) {

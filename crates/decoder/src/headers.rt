@@ -18,6 +18,7 @@ ghost use lib.ListN.{length};
 ghost use Rattle.decoder.specs.Headers as Headers;
 ghost use Rattle.decoder.specs.Fit.{Fit};
 ghost use Rattle.decoder.specs.Asking.{asked, Roomed};
+ghost use Rattle.bits.specs.Bounds.{longestStream};
 
 // `answer`: 0 where the call goes on, else the number of the first "no".
 pub struct Asked {
@@ -28,7 +29,7 @@ pub struct Asked {
 // RULES Q3, Q4: the sequence start code is searched, unless the record has it already.
 fn find_sequence(s: &[u8], d: Decoder) -> Decoder
     requires { ⌜ Fit d ⌝ }
-    requires { ⌜ length (now s) ≤ 16777216 ⌝ }
+    requires { ⌜ length (now s) ≤ longestStream ⌝ }
     ensures { λ r. ⌜ r ≡ Headers.findSequence (now (s .entry)) d ⌝ }
     ensures { λ r. ⌜ Fit r ⌝ }
 {
@@ -84,7 +85,7 @@ fn accepted(rest: RestRead, mut d: Decoder) -> Decoder
 // RULES Q5: width and height, and with both above 0 the rest of the header.
 fn ask_size(s: &[u8], mut d: Decoder) -> Asked
     requires { ⌜ Fit d ⌝ }
-    requires { ⌜ length (now s) ≤ 16777216 ⌝ }
+    requires { ⌜ length (now s) ≤ longestStream ⌝ }
     ensures { λ r. ⌜ asked (r .answer) (r .decoder) ≡ Headers.askSize (now (s .entry)) d ⌝ }
     ensures { λ r. ⌜ Fit (r .decoder) ⌝ }
 {
@@ -113,7 +114,7 @@ fn ask_size(s: &[u8], mut d: Decoder) -> Asked
 // RULES Q3, Q4, Q5. 1,088 bits are the longest header, behind its start code.
 pub fn ask_header(s: &[u8], before: Decoder) -> Asked
     requires { ⌜ Fit before ⌝ }
-    requires { ⌜ length (now s) ≤ 16777216 ⌝ }
+    requires { ⌜ length (now s) ≤ longestStream ⌝ }
     ensures { λ r. ⌜ asked (r .answer) (r .decoder) ≡ Headers.askHeader (now (s .entry)) before ⌝ }
     ensures { λ r. ⌜ Fit (r .decoder) ⌝ }
 {

@@ -6,6 +6,7 @@ use crate::headers::ask_store;
 use crate::record::Decoder;
 use crate::record::fresh;
 use crate::record::store_bytes;
+use bits::position::LONGEST_STREAM;
 use header::store::clear;
 ghost use mathlib.Core.Path.{_≡_};
 ghost use Rattle.decoder.specs.Record.{left};
@@ -17,7 +18,7 @@ impl Decoder {
         ensures { λ r. ⌜ left (r .answer) (r .decoder) (now (store .exit)) ≡ opening (now (stream .entry)) (now (store .entry)) ⌝ }
     {
         let d = fresh();
-        if 16777216 < stream.len() {
+        if LONGEST_STREAM < stream.len() {
             return Opened {
                 decoder: d,
                 answer: Opening::Refused(1),

@@ -2,7 +2,9 @@
 // A conversion and a hand-out ask it by a function each, with a body each: called from one place only, it is joined into its caller, which then
 // copies no record for it.
 use crate::record::Decoder;
+use crate::record::MOST_PICTURES;
 use crate::state::picture_state;
+use bits::position::LAST_POSITION;
 use codes::matrices::bounded;
 use header::possible::possible_sequence;
 use picture::limits::possible_state;
@@ -10,12 +12,16 @@ ghost use mathlib.Core.Path.{_≡_};
 ghost use mathlib.Core.Bool.{_&&_, _||_};
 ghost use lib.Dec.{eqb, leb};
 ghost use Rattle.decoder.specs.Possible.{possible, possibleWith};
+ghost use Rattle.bits.specs.Bounds.{lastPosition};
+ghost use Rattle.decoder.specs.Record.{mostPictures};
 
 // Position, count of pictures handed out, stop mark.
 fn possible_numbers(at: usize, frames_decoded: u32, stop: u32) -> bool
-    ensures { λ r. ⌜ r ≡ (leb at 134217728 && leb «frames_decoded» 134217728 && (eqb stop 0 || eqb stop 8 || eqb stop 9)) ⌝ }
+    ensures { λ r. ⌜ r ≡ (leb at lastPosition && leb «frames_decoded» mostPictures && (eqb stop 0 || eqb stop 8 || eqb stop 9)) ⌝ }
 {
-    (at <= 134217728) & (frames_decoded <= 134217728) & ((stop == 0) | (stop == 8) | (stop == 9))
+    (at <= LAST_POSITION)
+        & (frames_decoded <= MOST_PICTURES)
+        & ((stop == 0) | (stop == 8) | (stop == 9))
 }
 
 pub fn possible(d: Decoder) -> bool

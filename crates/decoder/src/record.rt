@@ -5,10 +5,14 @@ use header::state::Sequence;
 use header::state::fresh_sequence;
 use picture::fresh::fresh_picture;
 use picture::state::Picture;
+use prediction::planes::MACROBLOCK_STORES;
 ghost use mathlib.Core.Path.{_≡_};
 ghost use Rattle.bits.specs.Programs.{eqZ};
 ghost use Rattle.decoder.specs.Fit.{Fit};
 ghost use Rattle.decoder.specs.Record.{searchedAs, storeBytes, fresh};
+
+// RULES Q2: the most pictures that a record can have handed out.
+pub const MOST_PICTURES: u32 = 134217728;
 
 // RULES 8.12: rate, aspect, the next time and the time shown.
 pub struct Clock {
@@ -46,7 +50,7 @@ pub fn store_bytes(d: Decoder) -> usize
     ensures { λ r. ⌜ r ≡ storeBytes d ⌝ }
 {
     let n = d.sequence.sizes.mb_size;
-    1152 * n
+    MACROBLOCK_STORES * n
 }
 
 // Whether the start code that was found last is this one.

@@ -12,6 +12,7 @@ ghost use Prim.Native.Nat.{_≤_};
 ghost use Rattle.picture.specs.Views.{pictureOf};
 ghost use Rattle.decoder.specs.Turns.{timeOf, counted};
 ghost use Rattle.decoder.specs.State.{decoderOf, stateOf, stateOfPicture, Becomes};
+ghost use Rattle.decoder.specs.Record.{mostPictures};
 
 pub struct DecoderState {
     pub reader: Reader,
@@ -111,7 +112,7 @@ fn time_of(n: u32, rate: f64) -> f64
 
 // RULES 8.10.
 pub fn counted(mut d: DecoderState) -> DecoderState
-    requires { ⌜ d .«frames_decoded» ≤ 134217728 ⌝ }
+    requires { ⌜ d .«frames_decoded» ≤ mostPictures ⌝ }
     ensures { λ r. ⌜ Becomes d r counted ⌝ }
 {
     let n = d.frames_decoded + 1;

@@ -11,11 +11,13 @@ ghost use mathlib.Core.Path.{_≡_};
 ghost use Prim.Native.Nat.{_*_, _≤_};
 ghost use lib.ListN.{length};
 ghost use Rattle.laws.specs.Turns.{stop};
+ghost use Rattle.bits.specs.Bounds.{longestStream};
 ghost use Rattle.bits.specs.Programs.{eqZ};
 ghost use Rattle.bits.specs.Runs.{Inside};
 ghost use Rattle.picture.specs.Views.{matrices};
+ghost use Rattle.prediction.specs.Planes.{storesBytes};
 ghost use Rattle.decoder.specs.State.{Becomes, FitState};
-ghost use Rattle.decoder.specs.Record.{searchedAs};
+ghost use Rattle.decoder.specs.Record.{searchedAs, mostPictures};
 ghost use Rattle.decoder.specs.Turns as Turns;
 ghost use Rattle.decoder.specs.Turned.{Shows, Makes};
 
@@ -84,7 +86,7 @@ fn is_followed(s: &[u8], reader: Reader) -> bool
 
 // The store number k is handed out with the time that is then shown.
 fn handed(d: DecoderState, k: usize) -> Turned
-    requires { ⌜ d .«frames_decoded» ≤ 134217728 ⌝ }
+    requires { ⌜ d .«frames_decoded» ≤ mostPictures ⌝ }
     ensures { λ r. ⌜ Shows d r (λ x l. stop (Turns.handed k x l)) ⌝ }
 {
     let x = counted(d);
@@ -94,7 +96,7 @@ fn handed(d: DecoderState, k: usize) -> Turned
 
 // RULES 8.5: after a picture, decoded or not.
 fn shown(mut d: DecoderState) -> Turned
-    requires { ⌜ d .«frames_decoded» ≤ 134217728 ⌝ }
+    requires { ⌜ d .«frames_decoded» ≤ mostPictures ⌝ }
     ensures { λ r. ⌜ Shows d r Turns.shown ⌝ }
 {
     let picture_type = d.picture.picture_type;
@@ -116,7 +118,7 @@ fn shown(mut d: DecoderState) -> Turned
 
 // RULES 8.8, 8.11: no picture is found: the held one is flushed, with the time shown before, or the answer is 7.
 fn flushed(s: &[u8], mut d: DecoderState) -> Turned
-    requires { ⌜ length (now s) ≤ 16777216 ⌝ }
+    requires { ⌜ length (now s) ≤ longestStream ⌝ }
     ensures { λ r. ⌜ Shows d r (λ x l. stop (Turns.flushed (now (s .entry)) x l)) ⌝ }
 {
     let held = d.has_reference_frame;
@@ -142,8 +144,8 @@ fn decoded(
     mut d: DecoderState,
 ) -> Turned
     requires { ⌜ FitState sizes (matrices (now intra) (now other)) d (now values) ⌝ }
-    requires { ⌜ length (now s) ≤ 16777216 ⌝ }
-    requires { ⌜ 1152 * sizes .«mb_size» ≤ length (now store) ⌝ }
+    requires { ⌜ length (now s) ≤ longestStream ⌝ }
+    requires { ⌜ storesBytes (sizes .«mb_size») ≤ length (now store) ⌝ }
     ensures { λ r. ⌜
         Makes sizes (matrices (now (intra .entry)) (now (other .entry))) d (now (values .entry)) (now (store .entry))
         r (now (values .exit)) (now (store .exit)) (Turns.decoded (now (s .entry)))
@@ -177,8 +179,8 @@ pub fn picture_turn(
     before: DecoderState,
 ) -> Turned
     requires { ⌜ FitState sizes (matrices (now intra) (now other)) before (now values) ⌝ }
-    requires { ⌜ length (now s) ≤ 16777216 ⌝ }
-    requires { ⌜ 1152 * sizes .«mb_size» ≤ length (now store) ⌝ }
+    requires { ⌜ length (now s) ≤ longestStream ⌝ }
+    requires { ⌜ storesBytes (sizes .«mb_size») ≤ length (now store) ⌝ }
     ensures { λ r. ⌜
         Makes sizes (matrices (now (intra .entry)) (now (other .entry))) before (now (values .entry)) (now (store .entry))
         r (now (values .exit)) (now (store .exit)) (λ d l. Turns.pictureTurn (now (s .entry)) (Turns.going d l))

@@ -21,7 +21,7 @@ use Rattle.decoder.specs.declared.answers.Opening.the-variants as O
 use Rattle.decoder.specs.declared.answers.Shown.{Shown}
 use Rattle.decoder.specs.declared.answers.Outcome.{Outcome}
 use Rattle.decoder.specs.declared.answers.Outcome.the-variants as H
-use Rattle.decoder.specs.Record.{Left, fresh, place, storeBytes}
+use Rattle.decoder.specs.Record.{Left, fresh, place, storeBytes, mostPictures}
 use Rattle.decoder.specs.Possible.{possible, possibleWith}
 use Rattle.decoder.specs.Headers.{Asked, refused, passed, accepted, askHeader, askStore}
 use Rattle.decoder.specs.Opening.{opened, openingFrom, opening}
@@ -35,6 +35,7 @@ use Rattle.demands.specs.Handing.{Opened, HandsOut}
 use Rattle.demands.proofs.AfterHeader.{AskAfter, IsHeaded, header-after, header-passed}
 use Rattle.demands.proofs.Reached.{same-from, then-same, Fit, CallEnd, hands, seven, stops, pictures-end}
 use Rattle.demands.proofs.Keeps.{sized}
+use Rattle.bits.specs.Bounds.{longestStream, lastPosition}
 
 -- ---- opening
 
@@ -55,9 +56,9 @@ opened-row s l (passed x) h e =
 opening-row : (s l : List ℕ) → OpenedRow s l (opening s l)
 unfolding opening openingFrom
 opening-row s l =
-    by-case (OpenedRow s l) (leb (length s) 16777216)
-    (λ e. opened-row s l (askHeader s fresh) (header-after s fresh (leb-true (length s) 16777216 e)) (header-passed s fresh))
-    (λ e. (A.after-1 (leb-false (length s) 16777216 e), refl))
+    by-case (OpenedRow s l) (leb (length s) longestStream)
+    (λ e. opened-row s l (askHeader s fresh) (header-after s fresh (leb-true (length s) longestStream e)) (header-passed s fresh))
+    (λ e. (A.after-1 (leb-false (length s) longestStream e), refl))
 
 pub opening-after : (s l : List ℕ) (n : ℕ) → opening s l .answer ≡ O.Refused n → AfterOpening s l n (opening s l .decoder) × (opening s l .store ≡ l)
 opening-after s l n e = subst (λ (o : Opening). OpeningRow s l o (opening s l .decoder) (opening s l .store)) e (opening-row s l)
@@ -75,7 +76,7 @@ pub record Parts (d : Decoder) : Type 0 where
 pub parts : (d : Decoder) → possible d ≡ true → Parts d
 unfolding possible
 parts d p =
-    let x = each (leb (place d) 134217728) (possibleSequence (d .sequence) ∷ possiblePicture (d .picture) ∷ leb (d .«frames_decoded») 134217728 ∷
+    let x = each (leb (place d) lastPosition) (possibleSequence (d .sequence) ∷ possiblePicture (d .picture) ∷ leb (d .«frames_decoded») mostPictures ∷
     (eqb (d .stop) 0 || eqb (d .stop) 8 || eqb (d .stop) 9) ∷ []) p in
     record { sequence = x 1; picture = x 2; mark = x 4 }
 
@@ -164,7 +165,7 @@ module _ (d : Decoder) (s l : List ℕ) where
       let is : x ≡ headed s d = e ∙ sym (rw f refl) in
       subst (λ (y : Decoder). Row (goOn s d l (askStore d l (passed y)))) (sym is) (store-row p)
 
-  first-row : length s ≤ 16777216 → possible d ≡ true → Row (goOn s d l (askFirst s d l))
+  first-row : length s ≤ longestStream → possible d ≡ true → Row (goOn s d l (askFirst s d l))
   unfolding askFirst
   first-row h p = go (d .sequence .«has_sequence_header») refl
     where
@@ -177,12 +178,12 @@ module _ (d : Decoder) (s l : List ℕ) where
   hand-row : Row (handOut d s l)
   unfolding handOut
   hand-row =
-      by-case Row (not (leb (length s) 16777216))
-      (λ e. record { after = A.after-1 (leb-false (length s) 16777216 (not-true (leb (length s) 16777216) e)); same = same-from }) (λ e.
+      by-case Row (not (leb (length s) longestStream))
+      (λ e. record { after = A.after-1 (leb-false (length s) longestStream (not-true (leb (length s) longestStream) e)); same = same-from }) (λ e.
       by-case Row (not (possibleWith s d)) (λ f. record { after = A.after-2 (not-true (possible d) f); same = same-from }) (λ f.
       by-case Row (not (eqb (d .stop) 0))
       (λ g. record { after = A.after-mark (marks (d .stop) (parts d (not-false (possible d) f) .mark) (not-true (eqb (d .stop) 0) g)); same = same-from })
-      (λ g. first-row (leb-true (length s) 16777216 (not-false (leb (length s) 16777216) e)) (not-false (possible d) f))))
+      (λ g. first-row (leb-true (length s) longestStream (not-false (leb (length s) longestStream) e)) (not-false (possible d) f))))
 
   pub hand-after : (n : ℕ) → handOut d s l .answer ≡ H.Refused n → AfterHandOut d s l n (handOut d s l .decoder) (handOut d s l .store)
   hand-after n e = subst (λ (o : Outcome). Answered o (handOut d s l .decoder) (handOut d s l .store)) e (hand-row .after)

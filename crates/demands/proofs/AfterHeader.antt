@@ -9,6 +9,7 @@ use lib.Dec.{eqb}
 use lib.IntN.{ℤ, pos, negsuc}
 use lib.ListN.{length}
 use borrow.Author.Tests.{eqb-true, leb-true, leb-false}
+use Rattle.bits.specs.Bounds.{longestStream}
 use Rattle.bits.specs.Bits.{has, bitsAt}
 use Rattle.bits.specs.Programs.{Out, run, bind, eqZ, findStartCode}
 use Rattle.bits.proofs.Programs.{served-got, served-next}
@@ -29,7 +30,7 @@ pub data Finds (s : List ℕ) (d : Decoder) : Decoder → Type 0 where
   a-code : {x : Decoder} → AtCode s d x → Finds s d x
   no-code : {e : ℕ} → NoneFound s (place d) e → Finds s d (searchedAs (negsuc 0) e d)
 
-pub find-sequence : (s : List ℕ) (d : Decoder) → length s ≤ 16777216 → Finds s d (findSequence s d)
+pub find-sequence : (s : List ℕ) (d : Decoder) → length s ≤ longestStream → Finds s d (findSequence s d)
 unfolding findSequence
 find-sequence s d h = go (eqZ (startCode d) (pos 0xb3)) refl (run (findStartCode (pos 0xb3)) s (place d)) (search-end s 0xb3 (place d) h)
   where
@@ -71,7 +72,7 @@ size-after s d x k h =
     (by-case (AskAfter s d) (eqb (bitsAt s (place x) 12) 0 || eqb (bitsAt s (place x + 12) 12) 0)
     (λ e. after-5 k h (or-zero (bitsAt s (place x) 12) (bitsAt s (place x + 12) 12) e)) (λ e. tt))
 
-pub header-after : (s : List ℕ) (d : Decoder) → length s ≤ 16777216 → AskAfter s d (askHeader s d)
+pub header-after : (s : List ℕ) (d : Decoder) → length s ≤ longestStream → AskAfter s d (askHeader s d)
 unfolding askHeader
 header-after s d h = go (findSequence s d) (find-sequence s d h)
   where

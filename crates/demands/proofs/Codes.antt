@@ -10,6 +10,7 @@ use lib.ListN.{length, getD}
 use borrow.Author.Tests.{eqb-true}
 use Rattle.laws.specs.Turns.{again, stop}
 use Rattle.laws.proofs.Tests.{both}
+use Rattle.bits.specs.Bounds.{longestStream}
 use Rattle.bits.specs.Bits.{Found, boundary, codePrefix, found}
 use Rattle.bits.specs.Programs.{Out, done, bind, run, eqZ, turn, loop, many, findTurn, findStartCode}
 use Rattle.bits.proofs.Start.{isCode, First, Searched, first, none, found-is-first}
@@ -76,7 +77,7 @@ pub data SearchEnd (s : List ℕ) (c a : ℕ) (o : Out ℤ) : Type 0 where
   with-code : o .value ≡ pos c → CodeFound s c a (o .at) → SearchEnd s c a o
   with-none : o .value ≡ negsuc 0 → NoneFound s a (o .at) → SearchEnd s c a o
 
-pub search-end : (s : List ℕ) (c a : ℕ) → length s ≤ 16777216 → SearchEnd s c a (run (findStartCode (pos c)) s a)
+pub search-end : (s : List ℕ) (c a : ℕ) → length s ≤ longestStream → SearchEnd s c a (run (findStartCode (pos c)) s a)
 search-end s c a h = go (run (findStartCode (pos c)) s a) (sought (pos c) s a h) (run-on (findStartCode (pos c)) s a) (code-found s c a)
   where
     go : (o : Out ℤ) → Sought (pos c) s a o → a ≤ o .at → (o .value ≡ pos c → CodeFound s c a (o .at)) → SearchEnd s c a o

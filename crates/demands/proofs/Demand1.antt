@@ -32,6 +32,7 @@ use Rattle.demands.proofs.Questions.{first-is, is-first, opening-asks, 
 use Rattle.demands.proofs.After.{opening-after, hand-after}
 use Rattle.demands.proofs.Numbers.{opening-named, opening-positive, hand-named, positive, conversion-after, conversion-positive}
 use Rattle.demands.proofs.Rows as Rows
+use Rattle.bits.specs.Bounds.{longestStream}
 
 -- ---- open
 
@@ -61,7 +62,7 @@ module _ (s l : List ℕ) (r : Opened) (m : List ℕ) (gave : Opens s l r m) whe
   open-means n e = is-first (openingAsks s l) n (opening-positive n (open-named n e)) (sym open-number ∙ ap openingNumber e)
 
   -- the rows of the table
-  pub open-1 : r .answer ≡ O.Refused 1 → (16777216 < length s) × (r .decoder ≡ fresh)
+  pub open-1 : r .answer ≡ O.Refused 1 → (longestStream < length s) × (r .decoder ≡ fresh)
   open-1 e = Rows.opening-1 (open-left 1 e .0) refl
 
   pub open-3 : r .answer ≡ O.Refused 3 → Row3 s fresh (r .decoder)
@@ -108,7 +109,7 @@ module _ (d : Decoder) (s l : List ℕ) (r : Handed) (m : List ℕ) (gave : Deco
   decode-means n e = is-first (handOutAsks d s l) n (positive n (decode-named n e)) (sym decode-number ∙ ap handOutNumber e)
 
   -- the rows of the table
-  pub decode-1 : r .outcome ≡ H.Refused 1 → (16777216 < length s) × (r .decoder ≡ d) × (m ≡ l)
+  pub decode-1 : r .outcome ≡ H.Refused 1 → (longestStream < length s) × (r .decoder ≡ d) × (m ≡ l)
   decode-1 e = Rows.hand-1 (decode-left 1 e) refl
 
   pub decode-2 : r .outcome ≡ H.Refused 2 → (possible d ≡ false) × (r .decoder ≡ d) × (m ≡ l)

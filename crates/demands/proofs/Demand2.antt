@@ -38,6 +38,7 @@ use Rattle.demands.proofs.After.{opening-ready, hand-picture, hand-same
 use Rattle.demands.proofs.Numbers.{opening-positive, positive, conversion-positive, conversion-written}
 use Rattle.demands.proofs.Demand1 as D1
 use Rattle.demands.proofs.Reached.{same-from}
+use Rattle.bits.specs.Bounds.{longestStream}
 
 -- ---- open
 
@@ -68,8 +69,8 @@ module _ (s l : List ℕ) (r : D.Opened) (m : List ℕ) (gave : Opens s l r m) w
       go (O.Refused n) q = subst (SameFrom (storeBytes (withHeader s fresh)) l) (sym (D1.open-store s l r m gave n q)) same-from
 
   -- D2.4
-  pub open-too-long : 16777216 < length s → r .answer ≡ O.Refused 1
-  open-too-long h = D1.open-says s l r m gave 1 (omega arith) (this-one refl (lt-leb (length s) 16777216 h))
+  pub open-too-long : longestStream < length s → r .answer ≡ O.Refused 1
+  open-too-long h = D1.open-says s l r m gave 1 (omega arith) (this-one refl (lt-leb (length s) longestStream h))
 
 -- ---- decode
 
@@ -91,9 +92,9 @@ module _ (d : Decoder) (s l : List ℕ) (r : Handed) (m : List ℕ) (gave : Deco
   decode-same = subst (λ (x : Left Outcome). SameFrom (storeBytes (headed s d)) l (x .store)) (sym gave) (hand-same d s l)
 
   -- D2.4: for 8 and 9 see `decode-says`, `decode-8`, `decode-9` in Demand1.antt
-  pub decode-too-long : 16777216 < length s → r .outcome ≡ H.Refused 1
+  pub decode-too-long : longestStream < length s → r .outcome ≡ H.Refused 1
   unfolding handOutAsks
-  decode-too-long h = D1.decode-says d s l r m gave 1 (omega arith) (this-one refl (lt-leb (length s) 16777216 h))
+  decode-too-long h = D1.decode-says d s l r m gave 1 (omega arith) (this-one refl (lt-leb (length s) longestStream h))
 
 -- ---- write_rgb_scaled
 

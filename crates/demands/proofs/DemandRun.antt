@@ -21,8 +21,9 @@ use Rattle.demands.specs.Calls.{Opens, Calls, none, and-then, picturesIn
 use Rattle.demands.proofs.Waiting.{fresh-waits}
 use Rattle.demands.proofs.RunCall.{Between, Resting, waits-possible, stuck-call, call-on, few, admitted}
 use Rattle.demands.proofs.Run.{by-length, opening-begins, long-call, long-begin}
+use Rattle.bits.specs.Bounds.{longestStream}
 
-module _ (s : List ℕ) (short : length s ≤ 16777216) (bytes : (k : ℕ) → getD s k 0 < 256) where
+module _ (s : List ℕ) (short : length s ≤ longestStream) (bytes : (k : ℕ) → getD s k 0 < 256) where
   calls-on : {x : Going} {n : ℕ} {rs : List Handed} {y : Going} → Between s x n → Calls s x rs y → Between s y (n + picturesIn rs)
   unfolding picturesIn
   calls-on {x} {n} b none = subst (Between s x) (omega arith) b
@@ -44,7 +45,7 @@ module _ (s : List ℕ) (short : length s ≤ 16777216) (bytes : (k : ℕ) → g
       (λ h. rests (seven h) c, stays (subst (λ (q : Left Outcome). Between s (behind q) (n + pictureIn (q .answer))) (sym gave) (o .0)) c)
 
 -- a stream that is too long
-module _ (s : List ℕ) (long : leb (length s) 16777216 ≡ false) where
+module _ (s : List ℕ) (long : leb (length s) longestStream ≡ false) where
   long-run : {x : Going} {rs : List Handed} {y : Going} → Calls s x rs y → (picturesIn rs ≡ 0) × StaySeven rs × (y .decoder ≡ x .decoder)
   unfolding picturesIn
   long-run none = (refl, tt, refl)
@@ -63,7 +64,7 @@ module _ (s l : List ℕ) (r : Opened) (m : List ℕ) (gave : Opens s l r m) (by
   opened : going (r .decoder) m ≡ begin s l
   opened = ap (λ (x : Left Opening). going (x .decoder) (x .store)) gave
 
-  start : length s ≤ 16777216 → Between s (going (r .decoder) m) 0
+  start : length s ≤ longestStream → Between s (going (r .decoder) m) 0
   start h = subst (λ (x : Going). Between s x 0) (sym opened) (opening-begins s h bytes l)
 
   -- R.1

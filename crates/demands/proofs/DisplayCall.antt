@@ -33,6 +33,7 @@ use Rattle.demands.proofs.TurnCases.{TurnIs, gives, holds, leaves, is-s
 use Rattle.demands.proofs.Reached.{Fit}
 use Rattle.demands.proofs.DisplayTurn.{Showing, none-held, EndShows, reads-none}
 use Rattle.demands.proofs.DisplayTurns.{pictures-show}
+use Rattle.bits.specs.Bounds.{longestStream}
 
 -- every call from here on answers a number and reads nothing
 abbrev pub Over : List ℕ → Going → Type 0
@@ -56,21 +57,21 @@ keeps-fit {s} {d} k =
 
 -- ---- what a call reads
 
-module _ (s : List ℕ) (short : length s ≤ 16777216) where
+module _ (s : List ℕ) (short : length s ≤ longestStream) where
   keeps-reads : (d : Decoder) (l : List ℕ) → Keeps s d l → handOutReads d s l ≡ picturesRead s (going d l)
   unfolding handOutReads askFirst askStore begun
   keeps-reads d l k =
-      rw (le-leb (length s) 16777216 short, keeps-possible s short k, eq-eqb (d .stop) 0 (k .mark), k .header, le-leb (storeBytes d) (length l) (k .long)) refl
+      rw (le-leb (length s) longestStream short, keeps-possible s short k, eq-eqb (d .stop) 0 (k .mark), k .header, le-leb (storeBytes d) (length l) (k .long)) refl
 
   waits-reads : (d : Decoder) (l : List ℕ) → Waits s d → handOutReads d s l ≡ askedReads s d l (askStore d l (askHeader s d))
   unfolding handOutReads askFirst
-  waits-reads d l k = rw (le-leb (length s) 16777216 short, waits-possible s short k, eq-eqb (d .stop) 0 (k .mark), k .header) refl
+  waits-reads d l k = rw (le-leb (length s) longestStream short, waits-possible s short k, eq-eqb (d .stop) 0 (k .mark), k .header) refl
 
   marked-reads : (d : Decoder) (l : List ℕ) → possibleWith s d ≡ true → (d .stop ≡ 8) ⊎ (d .stop ≡ 9) → handOutReads d s l ≡ []
   unfolding handOutReads
   marked-reads d l p m =
       let z : eqb (d .stop) 0 ≡ false = ⊎-elim (λ (e : d .stop ≡ 8). rw e refl) (λ (e : d .stop ≡ 9). rw e refl) m in
-      rw (le-leb (length s) 16777216 short, p, z)
+      rw (le-leb (length s) longestStream short, p, z)
 
   -- a turn that answers 7 reads nothing
   abbrev isSeven : Turn Going Ended → Bool
@@ -93,7 +94,7 @@ module _ (s : List ℕ) (short : length s ≤ 16777216) where
 
 -- ---- what a call shows
 
-module _ (s : List ℕ) (short : length s ≤ 16777216) (bytes : (k : ℕ) → getD s k 0 < 256) where
+module _ (s : List ℕ) (short : length s ≤ longestStream) (bytes : (k : ℕ) → getD s k 0 < 256) where
   pub over-call : (x : Going) → Over s x
       → (shownBy (call s x .answer) (call s x .decoder) (call s x .store) ≡ []) × (handOutReads (x .decoder) s (x .store) ≡ []) × Over s (behind (call s x))
   over-call x (inl k) =

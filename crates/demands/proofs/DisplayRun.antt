@@ -22,6 +22,7 @@ use Rattle.demands.proofs.Run.{by-length, opening-leaves, long-call}
 use Rattle.demands.proofs.Display.{waiting-on, displayed-on, decoded-first, decoded-rest}
 use Rattle.demands.proofs.DisplayTurn.{none-held}
 use Rattle.demands.proofs.DisplayCall.{Over, Phase, no-header, under-way, CallShows, over-call, call-shows}
+use Rattle.bits.specs.Bounds.{longestStream}
 
 abbrev Frames : Type 0
 Frames = List (List ℕ)
@@ -32,7 +33,7 @@ InOrder h ps cs = (ps ≡ displayed h cs) ⊎ (ps ≡ displayed h cs ++ waiting 
 
 -- ---- a stream that is not too long
 
-module _ (s : List ℕ) (short : length s ≤ 16777216) (bytes : (k : ℕ) → getD s k 0 < 256) where
+module _ (s : List ℕ) (short : length s ≤ longestStream) (bytes : (k : ℕ) → getD s k 0 < 256) where
   over-run : {x : Going} {ps : Frames} {cs : List Coded} {y : Going} → Over s x → Shows s x ps cs y → (ps ≡ []) × (cs ≡ [])
   over-run k none = (refl, refl)
   over-run {x} k (and-then {r = r} {m = m} {ps = ps} {cs = cs} gave c) =
@@ -80,7 +81,7 @@ module _ (s : List ℕ) (short : length s ≤ 16777216) (bytes : (k : ℕ) → g
 
 -- ---- a stream that is too long: nothing is read, and nothing shown
 
-module _ (s : List ℕ) (long : leb (length s) 16777216 ≡ false) where
+module _ (s : List ℕ) (long : leb (length s) longestStream ≡ false) where
   long-shows : {x : Going} {ps : Frames} {cs : List Coded} {y : Going} → Shows s x ps cs y → (ps ≡ []) × (cs ≡ [])
   unfolding handOutReads
   long-shows none = (refl, refl)

@@ -11,6 +11,7 @@ use lib.ListN.{length}
 use borrow.Author.Tests.{le-leb, lt-leb}
 use Rattle.laws.specs.Turns.{Turn, again, stop}
 use Rattle.laws.proofs.Tests.{by-case}
+use Rattle.bits.specs.Bounds.{longestStream}
 use Rattle.bits.specs.Programs.{eqZ}
 use Rattle.header.specs.Store.{cleared}
 use Rattle.decoder.specs.declared.record.Decoder.{Decoder}
@@ -84,10 +85,10 @@ module _ (s l : List ℕ) (r : Opened) (m : List ℕ) (gave : Opens s l r m) (b 
   unfolding fresh
   unread = refl
 
-  pub open-edge-fails : length s ≤ 16777216 → length s < b + 4 + 136 → r .answer ≡ O.Refused 4
+  pub open-edge-fails : length s ≤ longestStream → length s < b + 4 + 136 → r .answer ≡ O.Refused 4
   open-edge-fails h f =
       open-says s l r m gave 4 (omega arith)
-      (a-later (le-leb (length s) 16777216 h) (a-later (edge-code s fresh b unread k)
+      (a-later (le-leb (length s) longestStream h) (a-later (edge-code s fresh b unread k)
       (this-one refl (edge-bits s fresh b unread k ∙ lt-leb (b + 4 + 136) (length s) f))))
 
   pub open-edge-passes : b + 4 + 136 ≤ length s → (n : ℕ) → r .answer ≡ O.Refused n → (n ≡ 3) ⊎ (n ≡ 4) → ⊥

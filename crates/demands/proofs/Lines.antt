@@ -6,6 +6,7 @@ use native.Mathlib.Omega.{arith}
 use lib.Dec.{leb}
 use lib.ListN.{length, getD, replicate}
 use borrow.Author.Tests.{leb-true}
+use Rattle.bits.specs.Bounds.{longestStream}
 use Rattle.bits.specs.Programs.{many}
 use Rattle.laws.proofs.Tests.{by-case}
 use Rattle.decoder.specs.declared.record.Decoder.{Decoder}
@@ -27,7 +28,7 @@ use Rattle.demands.proofs.Run.{opening-begins}
 abbrev lines : ℕ → Outcome → Decoder → List Line → List Line
 lines n o d t = elim o [ H.Picture p ↦ line (n + 1) (p .store) (d .picture .«picture_type») 0 ∷ t | H.Refused a ↦ line n 0 0 a ∷ [] ]
 
-module _ (s : List ℕ) (most : length s ≤ 16777216) (bytes : (k : ℕ) → getD s k 0 < 256) where
+module _ (s : List ℕ) (most : length s ≤ longestStream) (bytes : (k : ℕ) → getD s k 0 < 256) where
   lines-from : (j n : ℕ) (x : Going) → Between s x n → 8 * length s / 29 + 1 < n + j → Lines n (linesFrom j s n (x .decoder) (x .store))
   unfolding linesFrom
   lines-from zero n x b p = let f = few s most bytes b in let no : ⊥ = omega arith in absurd no

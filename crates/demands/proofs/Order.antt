@@ -22,6 +22,7 @@ use Rattle.demands.specs.Questions as Q
 use Rattle.demands.specs.Questions.{Question, ask, firstNo, withHeader, isThere, isFlush, pictureEnd, turnAsks, picturesAsk, handOutAsks}
 use Rattle.demands.proofs.Questions.{is-first}
 use Rattle.demands.proofs.Demand1.{decode-says}
+use Rattle.bits.specs.Bounds.{longestStream}
 
 module _ (d : Decoder) (s l : List ℕ) where
   -- with a header: 1, 2, the stop mark, 6, and the pictures' 7, 8, 9
@@ -41,7 +42,7 @@ module _ (d : Decoder) (s l : List ℕ) where
 
 -- the questions 1 and 2 and the stop mark are passed
 pub record Begins (d : Decoder) (s : List ℕ) : Type 0 where
-  pub short : length s ≤ 16777216
+  pub short : length s ≤ longestStream
   pub possible : possible d ≡ true
   pub mark : d .stop ≡ 0
 
@@ -49,24 +50,24 @@ module _ (d : Decoder) (s l : List ℕ) (r : Handed) (m : List ℕ) (gave : Deco
   says : (n : ℕ) → 0 < n → firstNo (handOutAsks d s l) ≡ n → r .outcome ≡ H.Refused n
   says n h e = decode-says d s l r m gave n h (is-first (handOutAsks d s l) n h e)
 
-  pub says-1 : 16777216 < length s → r .outcome ≡ H.Refused 1
+  pub says-1 : longestStream < length s → r .outcome ≡ H.Refused 1
   unfolding handOutAsks firstNo
-  says-1 h = says 1 (omega arith) (rw (lt-leb (length s) 16777216 h) refl)
+  says-1 h = says 1 (omega arith) (rw (lt-leb (length s) longestStream h) refl)
 
-  pub says-2 : length s ≤ 16777216 → possible d ≡ false → r .outcome ≡ H.Refused 2
+  pub says-2 : length s ≤ longestStream → possible d ≡ false → r .outcome ≡ H.Refused 2
   unfolding handOutAsks firstNo
-  says-2 h p = says 2 (omega arith) (rw (le-leb (length s) 16777216 h, p))
+  says-2 h p = says 2 (omega arith) (rw (le-leb (length s) longestStream h, p))
 
   -- QA
-  pub says-mark : length s ≤ 16777216 → possible d ≡ true → 0 < d .stop → r .outcome ≡ H.Refused (d .stop)
+  pub says-mark : length s ≤ longestStream → possible d ≡ true → 0 < d .stop → r .outcome ≡ H.Refused (d .stop)
   unfolding handOutAsks firstNo
-  says-mark h p z = says (d .stop) z (rw (le-leb (length s) 16777216 h, p, ne-eqb (d .stop) 0 (λ e. omega arith)))
+  says-mark h p z = says (d .stop) z (rw (le-leb (length s) longestStream h, p, ne-eqb (d .stop) 0 (λ e. omega arith)))
 
   -- the questions behind these
   from : (qs : List Question) → Begins d s
       → handOutAsks d s l ≡ Q.isShort s ∷ ask 2 (possible d) ∷ ask (d .stop) (eqb (d .stop) 0) ∷ qs → firstNo (handOutAsks d s l) ≡ firstNo qs
   unfolding firstNo
-  from qs b e = ap firstNo e ∙ rw (le-leb (length s) 16777216 (b .short), b .possible, eq-eqb (d .stop) 0 (b .mark)) refl
+  from qs b e = ap firstNo e ∙ rw (le-leb (length s) longestStream (b .short), b .possible, eq-eqb (d .stop) 0 (b .mark)) refl
 
   module _ (b : Begins d s) (none : d .sequence .«has_sequence_header» ≡ false) where
     pub says-3 : Q.hasCode s d .yes ≡ false → r .outcome ≡ H.Refused 3

@@ -21,7 +21,7 @@ use Rattle.prediction.specs.declared.planes.Plane.the-variants.{Y, Cr, Cb}
 use Rattle.prediction.specs.declared.predict.Predicted.{Predicted}
 use Rattle.prediction.specs.declared.predict.Predicted.the-variants.{Done, Refused}
 use Rattle.prediction.specs.Predict.{macroblockAt, blockOf, bytes, fetch, predicted, address, width, chroma}
-use Rattle.prediction.specs.Planes.{After, blockSize, planeOf, planeLength, planeStart, offset, follow, next, predictedPlanes}
+use Rattle.prediction.specs.Planes.{After, blockSize, planeOf, planeLength, planeStart, offset, follow, next, predictedPlanes, storesBytes}
 use Rattle.prediction.specs.Writers.{setConst, overwrite, addConst, addBlock, blockWidth, blockPlace}
 use Rattle.picture.specs.State.{Given}
 use Rattle.picture.specs.Blocks.{results, written}
@@ -82,7 +82,7 @@ module _ (S : List ℕ → Type 0) (O : ℕ → List ℕ → Type 0) where
       go Refused e = h
 
 module _ (s : List ℕ) (g : Given) (l : List ℕ) (area : g .sizes .«mb_size» ≡ g .sizes .«mb_width» * g .sizes .«mb_height»)
-    (cur : g .stores .cur ≤ 2) (long : 1152 * g .sizes .«mb_size» ≤ length l) where
+    (cur : g .stores .cur ≤ 2) (long : storesBytes (g .sizes .«mb_size») ≤ length l) where
   abbrev S : List ℕ → Type 0
   S = SameBut (g .sizes .«mb_size») (g .stores .cur) l
 

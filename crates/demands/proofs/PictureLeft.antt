@@ -16,6 +16,7 @@ use Rattle.picture.specs.declared.state.Picture.{Picture}
 use Rattle.picture.specs.State.{storesAs}
 use Rattle.picture.specs.Ways.{Way, on, out}
 use Rattle.picture.specs.Pictures as P
+use Rattle.prediction.specs.Planes.{storesBytes}
 use Rattle.demands.specs.Causes.{Cause}
 use Rattle.demands.specs.Stores.{SameBut}
 use Rattle.demands.proofs.PictureStores.{Ways, Framed, slices-ways, onward-ways, ways-as}
@@ -54,7 +55,7 @@ module _ (s : List ℕ) (z : Sizes) (m : Matrices) (area : z .«mb_size» ≡ z 
   abbrev pub Stopped : Picture → List ℕ → ℕ → List ℕ → Type 0
   Stopped p l n x = SameBut (z .«mb_size») (p .stores .cur) l x × Cause s z n
 
-  coded-left : (p : Picture) (l : List ℕ) → p .stores .cur ≤ 2 → 1152 * z .«mb_size» ≤ length l
+  coded-left : (p : Picture) (l : List ℕ) → p .stores .cur ≤ 2 → storesBytes (z .«mb_size») ≤ length l
       → Gives s (Ways (Left z p l true) (Stopped p l)) (P.coded z m p l)
   unfolding P.coded
   coded-left p l cur long =
@@ -90,7 +91,7 @@ module _ (s : List ℕ) (z : Sizes) (m : Matrices) (area : z .«mb_size» ≡ z 
   as-before p x l e t (out n y) k = (rw e at k .0, k .1)
 
   -- RULES 7.1 to 7.4, 8.4
-  pub picture-left : (p : Picture) (l : List ℕ) → p .stores .cur ≤ 2 → 1152 * z .«mb_size» ≤ length l → (a : ℕ)
+  pub picture-left : (p : Picture) (l : List ℕ) → p .stores .cur ≤ 2 → storesBytes (z .«mb_size») ≤ length l → (a : ℕ)
       → Ways (Left z p l (run (P.pictureHeader p) s a .value .decoded)) (Stopped p l) (run (P.picture z m p l) s a .value)
   unfolding P.picture run
   picture-left p l cur long a =

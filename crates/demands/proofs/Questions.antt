@@ -9,6 +9,7 @@ use lib.Dec.{eqb, leb}
 use lib.IntN.{negsuc}
 use lib.ListN.{length}
 use Rattle.laws.specs.Turns.{Turn, again, stop, turns}
+use Rattle.bits.specs.Bounds.{longestStream}
 use Rattle.bits.specs.Bits.{has}
 use Rattle.bits.specs.Programs.{eqZ}
 use Rattle.laws.proofs.Tests.{by-case}
@@ -78,7 +79,7 @@ header-asks N says s d qs rest =
 pub opening-asks : (s l : List ℕ) → openingNumber (opening s l .answer) ≡ firstNo (Q.openingAsks s l)
 unfolding opening openingFrom opened askStore firstNo
 opening-asks s l =
-    if-yes (λ (r : Left Opening). openingNumber (r .answer)) (leb (length s) 16777216)
+    if-yes (λ (r : Left Opening). openingNumber (r .answer)) (leb (length s) longestStream)
     (header-asks (λ a. openingNumber (opened l (askStore fresh l a) .answer)) (λ n x. refl) s fresh (Q.hasStore (withHeader s fresh) l ∷ [])
     (if-yes (λ a. openingNumber (opened l a .answer)) (leb (storeBytes (withHeader s fresh)) (length l)) refl refl)) refl
 
@@ -172,7 +173,7 @@ module _ (d : Decoder) (s l : List ℕ) where
   unfolding handOut askFirst Q.handOutAsks firstNo
   hand-asks =
       let M : Left Outcome → ℕ = λ r. handOutNumber (r .answer) in
-      unless M (leb (length s) 16777216) refl
+      unless M (leb (length s) longestStream) refl
       (unless M (possibleWith s d) refl
       (unless M (eqb (d .stop) 0) refl (first-asks (d .sequence .«has_sequence_header»))))
 

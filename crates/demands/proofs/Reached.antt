@@ -23,6 +23,7 @@ use Rattle.decoder.specs.Record.{place, startCode, storeBytes}
 use Rattle.decoder.specs.Turns.{Going, Ended, gave, stopped, nextPicture, pictureTurn}
 use Rattle.decoder.specs.HandOut.{pictures}
 use Rattle.decoder.proofs.TwoTurns.{Holds, isStop, goes-held, held-stops}
+use Rattle.prediction.specs.Planes.{storesBytes}
 use Rattle.demands.specs.Causes.{Cause}
 use Rattle.demands.specs.Stores.{SameBut, SameFrom}
 use Rattle.demands.specs.Questions.{isThere, isFlush, pictureEnd}
@@ -40,7 +41,7 @@ same-from = record { long = refl; same = λ i w. refl }
 pub then-same : {n : ℕ} {l m k : List ℕ} → SameFrom n l m → SameFrom n m k → SameFrom n l k
 then-same p q = record { long = q .long ∙ p .long; same = λ i w. q .same i w ∙ p .same i w }
 
-but-from : {n k : ℕ} {l m : List ℕ} → k ≤ 2 → SameBut n k l m → SameFrom (1152 * n) l m
+but-from : {n k : ℕ} {l m : List ℕ} → k ≤ 2 → SameBut n k l m → SameFrom (storesBytes n) l m
 but-from {n} {k} h s = record { long = s .long; same = λ i w. s .same i (inr (omega (arith, mul-le-mul-right (384 * n) h))) }
 
 -- ---- what a turn asks of the record and the store that it is given
@@ -119,10 +120,10 @@ turn-end s x y k = go
     fit = next-fit s (k .fit)
 
     from : storeBytes (nextPicture s (y .decoder)) ≡ storeBytes (y .decoder)
-    from = ap (λ q. 1152 * q .sizes .«mb_size») (next-sequence s (y .decoder))
+    from = ap (λ q. storesBytes (q .sizes .«mb_size»)) (next-sequence s (y .decoder))
 
     start : storeBytes (y .decoder) ≡ storeBytes (x .decoder)
-    start = ap (λ q. 1152 * q .sizes .«mb_size») (k .sequence)
+    start = ap (λ q. storesBytes (q .sizes .«mb_size»)) (k .sequence)
 
     here : {m : List ℕ} → SameFrom (storeBytes (nextPicture s (y .decoder))) (y .store) m → SameFrom (storeBytes (y .decoder)) (y .store) m
     here {m} h = subst (λ (n : ℕ). SameFrom n (y .store) m) from h

@@ -15,6 +15,7 @@ use Rattle.demands.specs.Questions.{ask, IsFirstNo, this-one, a-later, h
 use Rattle.demands.specs.After as A
 use Rattle.demands.specs.After.{AfterHeader, AfterOpening, AfterHandOut}
 use Rattle.demands.specs.Rows.{Row3, Row4, Row5, Row7, Row89}
+use Rattle.bits.specs.Bounds.{longestStream}
 
 -- ---- the questions on the header
 
@@ -42,7 +43,7 @@ module _ {s : List ℕ} {d : Decoder} where
 -- ---- opening
 
 module _ {s l : List ℕ} where
-  pub opening-1 : {n : ℕ} {x : Decoder} → AfterOpening s l n x → n ≡ 1 → (16777216 < length s) × (x ≡ fresh)
+  pub opening-1 : {n : ℕ} {x : Decoder} → AfterOpening s l n x → n ≡ 1 → (longestStream < length s) × (x ≡ fresh)
   opening-1 (A.after-1 h) q = (h, refl)
   opening-1 (A.after-header h) q = let k = header-number h in let no : ⊥ = omega arith in absurd no
   opening-1 (A.after-6 h) q = let no : ⊥ = omega arith in absurd no
@@ -64,7 +65,7 @@ cause-number (dc o) = inl refl
 cause-number (prediction o) = inr refl
 
 module _ {d : Decoder} {s l : List ℕ} where
-  pub hand-1 : {n : ℕ} {x : Decoder} {m : List ℕ} → AfterHandOut d s l n x m → n ≡ 1 → (16777216 < length s) × (x ≡ d) × (m ≡ l)
+  pub hand-1 : {n : ℕ} {x : Decoder} {m : List ℕ} → AfterHandOut d s l n x m → n ≡ 1 → (longestStream < length s) × (x ≡ d) × (m ≡ l)
   hand-1 (A.after-1 h) p = (h, refl, refl)
   hand-1 (A.after-2 h) p = let no : ⊥ = omega arith in absurd no
   hand-1 (A.after-mark h) p = let no : ⊥ = ⊎-elim (λ (e : d .stop ≡ 8). omega arith) (λ (e : d .stop ≡ 9). omega arith) h in absurd no

@@ -24,17 +24,18 @@ use Rattle.decoder.specs.Run.{call, behind, begin, before, answer, handedOut}
 use Rattle.decoder.specs.Answers.{handOutNumber}
 use Rattle.demands.proofs.Waiting.{Waits, Accepted, fresh-waits, Accepts, header-accepts}
 use Rattle.demands.proofs.RunCall.{Between, waiting, live, Resting, accepted-keeps, waits-possible, stuck-call, call-on, few, admitted}
+use Rattle.bits.specs.Bounds.{longestStream}
 
 -- RULES Q1: a stream is not too long, or it is
-pub by-length : (s : List ℕ) (P : Type 0) → (length s ≤ 16777216 → P) → (leb (length s) 16777216 ≡ false → P) → P
-by-length s P f g = go (leb (length s) 16777216) refl
+pub by-length : (s : List ℕ) (P : Type 0) → (length s ≤ longestStream → P) → (leb (length s) longestStream ≡ false → P) → P
+by-length s P f g = go (leb (length s) longestStream) refl
   where
-    go : (b : Bool) → leb (length s) 16777216 ≡ b → P
-    go true e = f (leb-true (length s) 16777216 e)
+    go : (b : Bool) → leb (length s) longestStream ≡ b → P
+    go true e = f (leb-true (length s) longestStream e)
     go false e = g e
 
 -- what opening leaves: a record that waits for a header, or one that has accepted it, and its store cleared
-module _ (s : List ℕ) (short : length s ≤ 16777216) (P : Going → Type 0) (waits : (x : Decoder) (l : List ℕ) → Waits s x → P (going x l))
+module _ (s : List ℕ) (short : length s ≤ longestStream) (P : Going → Type 0) (waits : (x : Decoder) (l : List ℕ) → Waits s x → P (going x l))
     (accepts : (x : Decoder) (l : List ℕ) → Accepted s x → leb (storeBytes x) (length l) ≡ true → P (going x (cleared (storeBytes x) l))) where
   abbrev Leaves : Left Opening → Type 0
   Leaves r = P (going (r .decoder) (r .store))
@@ -48,12 +49,12 @@ module _ (s : List ℕ) (short : length s ≤ 16777216) (P : Going → Type 0) (
   pub opening-leaves : (l : List ℕ) → Leaves (opening s l)
   unfolding opening openingFrom
   opening-leaves l =
-      by-case Leaves (leb (length s) 16777216) (λ e. asked-leaves l (askHeader s fresh) (header-accepts (fresh-waits s) short))
+      by-case Leaves (leb (length s) longestStream) (λ e. asked-leaves l (askHeader s fresh) (header-accepts (fresh-waits s) short))
       (λ e. waits fresh l (fresh-waits s))
 
 -- ---- a stream that is not too long
 
-module _ (s : List ℕ) (short : length s ≤ 16777216) (bytes : (k : ℕ) → getD s k 0 < 256) where
+module _ (s : List ℕ) (short : length s ≤ longestStream) (bytes : (k : ℕ) → getD s k 0 < 256) where
   pub run-on : {x : Going} → Between s x 0 → (n : ℕ) → Between s (before s x n) (handedOut s x n)
   unfolding before handedOut answer
   run-on b zero = b
@@ -83,7 +84,7 @@ module _ (s : List ℕ) (short : length s ≤ 16777216) (bytes : (k : ℕ) → g
 
 -- ---- a stream that is too long: every call answers 1 and changes nothing
 
-module _ (s l : List ℕ) (long : leb (length s) 16777216 ≡ false) where
+module _ (s l : List ℕ) (long : leb (length s) longestStream ≡ false) where
   pub long-call : (x : Going) → call s x ≡ left (H.Refused 1) (x .decoder) (x .store)
   unfolding handOut
   long-call x = rw long refl

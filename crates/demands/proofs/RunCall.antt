@@ -16,7 +16,7 @@ use Rattle.decoder.specs.declared.record.Decoder.{Decoder}
 use Rattle.decoder.specs.declared.answers.Shown.{Shown}
 use Rattle.decoder.specs.declared.answers.Outcome.{Outcome}
 use Rattle.decoder.specs.declared.answers.Outcome.the-variants as H
-use Rattle.decoder.specs.Record.{Left, left, place, stopAs, storeBytes}
+use Rattle.decoder.specs.Record.{Left, left, place, stopAs, storeBytes, mostPictures}
 use Rattle.decoder.specs.Possible.{possible, possibleWith}
 use Rattle.decoder.specs.Headers.{Asked, refused, passed, askHeader, askStore}
 use Rattle.decoder.specs.Turns.{Going, going, Ended, gave, stopped, pictureTurn}
@@ -29,6 +29,7 @@ use Rattle.demands.proofs.AfterHeader.{AskAfter, header-after}
 use Rattle.demands.proofs.Keeps.{Keeps}
 use Rattle.demands.proofs.RunTurns.{Stuck, Ends, hands, flushes, seven, stops, pictures-row}
 use Rattle.demands.proofs.Waiting.{Waits, waits-sequence, Accepted, Accepts, header-accepts}
+use Rattle.bits.specs.Bounds.{longestStream, lastPosition}
 
 -- ---- question 2
 
@@ -37,24 +38,24 @@ all-true p q r t u = rw (p, q, r, t, u)
 
 -- ---- a call that is given a record with a header
 
-module _ (s : List ℕ) (short : length s ≤ 16777216) where
+module _ (s : List ℕ) (short : length s ≤ longestStream) where
   pub keeps-possible : {d : Decoder} {l : List ℕ} → Keeps s d l → possibleWith s d ≡ true
   unfolding possible
   keeps-possible {d} {l} k =
-      all-true (le-leb (place d) 134217728 (omega arith)) (k .sequence) (k .picture) (le-leb (d .«frames_decoded») 134217728 (omega arith))
+      all-true (le-leb (place d) lastPosition (omega arith)) (k .sequence) (k .picture) (le-leb (d .«frames_decoded») mostPictures (omega arith))
       (rw (k .mark) refl)
 
   pub keeps-marked : {d : Decoder} {l : List ℕ} (n : ℕ) → Keeps s d l → (n ≡ 8) ⊎ (n ≡ 9) → possibleWith s (stopAs n d) ≡ true
   unfolding possible
   keeps-marked {d} {l} n k m =
-      all-true (le-leb (place d) 134217728 (omega arith)) (k .sequence) (k .picture) (le-leb (d .«frames_decoded») 134217728 (omega arith))
+      all-true (le-leb (place d) lastPosition (omega arith)) (k .sequence) (k .picture) (le-leb (d .«frames_decoded») mostPictures (omega arith))
       (⊎-elim (λ (e : n ≡ 8). rw e refl) (λ (e : n ≡ 9). rw e refl) m)
 
   -- the questions 3 to 6 are passed, and the turns follow
   pub keeps-call : (d : Decoder) (l : List ℕ) → Keeps s d l → handOut d s l ≡ ended d (pictures s (going d l))
   unfolding handOut askFirst askStore goOn begun
   keeps-call d l k =
-      rw (le-leb (length s) 16777216 short, keeps-possible k, eq-eqb (d .stop) 0 (k .mark), k .header, le-leb (storeBytes d) (length l) (k .long)) refl
+      rw (le-leb (length s) longestStream short, keeps-possible k, eq-eqb (d .stop) 0 (k .mark), k .header, le-leb (storeBytes d) (length l) (k .long)) refl
 
   pub stuck-call : (d : Decoder) (l : List ℕ) → Keeps s d l → Stuck s d l → handOut d s l ≡ left (H.Refused 7) d l
   unfolding ended pictures
@@ -65,25 +66,25 @@ module _ (s : List ℕ) (short : length s ≤ 16777216) where
   unfolding handOut
   marked-call d l p m =
       let z : eqb (d .stop) 0 ≡ false = ⊎-elim (λ (e : d .stop ≡ 8). rw e refl) (λ (e : d .stop ≡ 9). rw e refl) m in
-      rw (le-leb (length s) 16777216 short, p, z)
+      rw (le-leb (length s) longestStream short, p, z)
 
   -- ---- a call that is given a record with none
 
   pub waits-possible : {d : Decoder} → Waits s d → possibleWith s d ≡ true
   unfolding possible
   waits-possible {d} k =
-      all-true (le-leb (place d) 134217728 (omega (arith, k .inside))) (waits-sequence k) (k .picture)
-      (le-leb (d .«frames_decoded») 134217728 (omega (arith, k .count))) (rw (k .mark) refl)
+      all-true (le-leb (place d) lastPosition (omega (arith, k .inside))) (waits-sequence k) (k .picture)
+      (le-leb (d .«frames_decoded») mostPictures (omega (arith, k .count))) (rw (k .mark) refl)
 
   pub waits-marked : {d : Decoder} (n : ℕ) → Waits s d → (n ≡ 8) ⊎ (n ≡ 9) → possibleWith s (stopAs n d) ≡ true
   unfolding possible
   waits-marked {d} n k m =
-      all-true (le-leb (place d) 134217728 (omega (arith, k .inside))) (waits-sequence k) (k .picture)
-      (le-leb (d .«frames_decoded») 134217728 (omega (arith, k .count))) (⊎-elim (λ (e : n ≡ 8). rw e refl) (λ (e : n ≡ 9). rw e refl) m)
+      all-true (le-leb (place d) lastPosition (omega (arith, k .inside))) (waits-sequence k) (k .picture)
+      (le-leb (d .«frames_decoded») mostPictures (omega (arith, k .count))) (⊎-elim (λ (e : n ≡ 8). rw e refl) (λ (e : n ≡ 9). rw e refl) m)
 
   pub waits-call : (d : Decoder) (l : List ℕ) → Waits s d → handOut d s l ≡ goOn s d l (askStore d l (askHeader s d))
   unfolding handOut askFirst
-  waits-call d l k = rw (le-leb (length s) 16777216 short, waits-possible k, eq-eqb (d .stop) 0 (k .mark), k .header) refl
+  waits-call d l k = rw (le-leb (length s) longestStream short, waits-possible k, eq-eqb (d .stop) 0 (k .mark), k .header) refl
 
   -- a header is accepted in this call
   pub accepted-call : (d x : Decoder) (l : List ℕ) → Waits s d → goOn s d l (passed x) ≡ ended d (pictures s (going x (cleared (storeBytes x) l)))
@@ -119,7 +120,7 @@ header-number (after-3 e) = omega arith
 header-number (after-4 e f) = omega arith
 header-number (after-5 e f g) = omega arith
 
-module _ (s : List ℕ) (short : length s ≤ 16777216) (bytes : (k : ℕ) → getD s k 0 < 256) where
+module _ (s : List ℕ) (short : length s ≤ longestStream) (bytes : (k : ℕ) → getD s k 0 < 256) where
   -- the turns from x, m on, in a call that was given d
   ended-on : (d x : Decoder) (m : List ℕ) (n : ℕ) (e : Ended) → Keeps s x m → n ≡ x .«frames_decoded»
       → ((i : ℕ) → (i ≡ 8) ⊎ (i ≡ 9) → possibleWith s (stopAs i d) ≡ true)

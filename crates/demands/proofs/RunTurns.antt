@@ -10,6 +10,7 @@ use lib.IntN.{ℤ, pos, negsuc}
 use lib.ListN.{length, getD}
 use borrow.Author.Tests.{leb-true}
 use Rattle.laws.specs.Turns.{Turn, again, stop, turns}
+use Rattle.bits.specs.Bounds.{longestStream}
 use Rattle.bits.specs.Programs.{Out, run, eqZ, findStartCode}
 use Rattle.bits.proofs.Start.{isCode}
 use Rattle.bits.proofs.Programs.{run-on, run-most}
@@ -53,7 +54,7 @@ data Next (s : List ℕ) (d : Decoder) : Decoder → Type 0 where
   finds : (e : ℕ) → place d ≤ e → e + 8 ≤ length s * 8 → Next s d (searchedAs (pos 0) e d)
   fails : (e : ℕ) → place d ≤ e → e ≤ length s * 8 → Barren s e → Next s d (searchedAs (negsuc 0) e d)
 
-next-is : (s : List ℕ) (d : Decoder) → length s ≤ 16777216 → place d ≤ length s * 8 → Next s d (nextPicture s d)
+next-is : (s : List ℕ) (d : Decoder) → length s ≤ longestStream → place d ≤ length s * 8 → Next s d (nextPicture s d)
 unfolding nextPicture
 next-is s d h i =
     go (eqZ (startCode d) (pos 0)) refl (run (findStartCode (pos 0)) s (place d)) (sought (pos 0) s (place d) h) (run-on (findStartCode (pos 0)) s (place d))
@@ -104,7 +105,7 @@ shown-row s d l k h =
 
 -- ---- a picture
 
-module _ (s : List ℕ) (short : length s ≤ 16777216) (bytes : (k : ℕ) → getD s k 0 < 256) where
+module _ (s : List ℕ) (short : length s ≤ longestStream) (bytes : (k : ℕ) → getD s k 0 < 256) where
   past-row : (d : Decoder) (l : List ℕ) (w : Way Frame) (e : ℕ) → Keeps s d l → Kept.Ends (length l) (Kept.StaysPossible l) w → Ahead s e w
       → place d + 29 ≤ e → e ≤ length s * 8 → Turns s (d .«frames_decoded») (pastPicture d (record { value = w; at = e }))
   unfolding pastPicture

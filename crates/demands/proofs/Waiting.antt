@@ -8,6 +8,7 @@ use lib.Dec.{eqb, leb}
 use lib.IntN.{ℤ, pos, negsuc, natAbs}
 use lib.ListN.{length}
 use borrow.Author.Tests.{le-leb, eq-eqb}
+use Rattle.bits.specs.Bounds.{longestStream}
 use Rattle.bits.specs.Bits.{has, got, next}
 use Rattle.bits.specs.Programs.{run, bind, eqZ, findStartCode}
 use Rattle.bits.proofs.Bits.{bits-lt}
@@ -168,7 +169,7 @@ size-accepts {s} {d} k c =
     never : {A : Type 0} → _≡_ {A = ℕ} 0xb3 0 → A
     never e = let no : ⊥ = omega arith in absurd no
 
-pub header-accepts : {s : List ℕ} {d : Decoder} → Waits s d → length s ≤ 16777216 → Accepts s (askHeader s d)
+pub header-accepts : {s : List ℕ} {d : Decoder} → Waits s d → length s ≤ longestStream → Accepts s (askHeader s d)
 unfolding askHeader
 header-accepts {s} {d} k h = go (findSequence s d) (find-sequence s d h) (find-inside k)
   where

@@ -7,6 +7,7 @@ use borrow.Rule.Slice.PartMut.{midOf}
 use lib.Dec.{eqb, leb}
 use lib.ListN.{length}
 use Rattle.laws.specs.Turns.{again, stop}
+use Rattle.bits.specs.Bounds.{longestStream}
 use Rattle.bits.specs.Programs.{run, if_then_else_}
 use Rattle.picture.specs.Ways.{Way, on, out}
 use Rattle.picture.specs.Pictures.{Frame, pictureHeader}
@@ -80,7 +81,7 @@ askedReads s d l (passed x) = picturesRead s (begun d x l)
 
 -- the pictures that a hand-out reads: none where a question before them is answered "no"
 unfoldable pub handOutReads : Decoder → List ℕ → List ℕ → List Coded
-handOutReads d s l = if leb (length s) 16777216 && possibleWith s d && eqb (d .stop) 0 then askedReads s d l (askFirst s d l) else []
+handOutReads d s l = if leb (length s) longestStream && possibleWith s d && eqb (d .stop) 0 then askedReads s d l (askFirst s d l) else []
 
 -- the picture that it hands out: the samples of the store that it names
 abbrev pub shownBy : Outcome → Decoder → List ℕ → List (List ℕ)

@@ -3,6 +3,7 @@ use mathlib.Core.List.{List, [], _∷_}
 use Prim.Native.Nat.{ℕ, _≤_}
 use lib.IntN.{ℤ, pos, _+ℤ_}
 use lib.ListN.{length}
+use Rattle.bits.specs.Bounds.{longestStream, lastPosition}
 use Rattle.bits.specs.Programs.{run}
 use Rattle.motion.specs.Vector.{displacement, motionVector}
 
@@ -10,8 +11,8 @@ use Rattle.motion.specs.Vector.{displacement, motionVector}
 pub record Step : Type 0 where
   pub stream : List ℕ
   pub place : ℕ
-  pub admitted : length stream ≤ 16777216
-  pub inside : place ≤ 134217728
+  pub admitted : length stream ≤ longestStream
+  pub inside : place ≤ lastPosition
 
 -- what a step adds: the displacement that it reads there
 unfoldable pub displacementOf : ℕ → Step → ℤ

@@ -18,6 +18,7 @@ use Rattle.decoder.specs.Conversion as Conversion
 use Rattle.memory.specs.Memory.{Memory, written, recordOf, roomy, isRecord}
 use Rattle.decoder.specs.Answers.{openingNumber, conversionNumber}
 use Rattle.mpeg1.specs.Calls.{kept, Shows, shows, opensIn, HandsOut, decodesIn, converts, convertsIn}
+use Rattle.bits.specs.Bounds.{longestStream}
 
 -- ---- opening
 
@@ -38,19 +39,19 @@ abbrev pub told : Outcome → List ℕ → Memory → ℕ → Float → Shows
 told a store z k t = elim a [ H.Picture p ↦ shows (kept 0 store z) (p .store) (p .time) | H.Refused n ↦ shows (kept n store z) k t ]
 
 module _ (s l : List ℕ) (x : Memory) (shown : ℕ) (time : Float) where
-  pub decodes-1 : 16777216 < length s → shows (kept 1 l x) shown time ≡ decodesIn s l x shown time
+  pub decodes-1 : longestStream < length s → shows (kept 1 l x) shown time ≡ decodesIn s l x shown time
   unfolding decodesIn
-  decodes-1 h = rw (lt-leb (length s) 16777216 h)
+  decodes-1 h = rw (lt-leb (length s) longestStream h)
 
-  module _ (h : length s ≤ 16777216) where
+  module _ (h : length s ≤ longestStream) where
     pub decodes-2 : isRecord x ≡ false → shows (kept 2 l x) shown time ≡ decodesIn s l x shown time
     unfolding decodesIn
-    decodes-2 e = rw (le-leb (length s) 16777216 h, e)
+    decodes-2 e = rw (le-leb (length s) longestStream h, e)
 
     pub decodes : {a : Outcome} {store : List ℕ} {z : Memory} → isRecord x ≡ true → HandsOut a store z (handOut (recordOf x) s l) x
         → told a store z shown time ≡ decodesIn s l x shown time
     unfolding decodesIn
-    decodes i o = rw (le-leb (length s) 16777216 h, i, o .answered, o .stored, o .wrote)
+    decodes i o = rw (le-leb (length s) longestStream h, i, o .answered, o .stored, o .wrote)
 
 -- ---- the conversion
 

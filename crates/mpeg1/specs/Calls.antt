@@ -7,6 +7,7 @@ use lib.Dec.{leb}
 use lib.Ieee.{Float}
 use lib.IntN.{ℤ}
 use lib.ListN.{length, replicate}
+use Rattle.bits.specs.Bounds.{longestStream}
 use Rattle.bits.specs.Programs.{if_then_else_}
 use Rattle.header.specs.State.{noTime}
 use Rattle.decoder.specs.declared.answers.Outcome.{Outcome}
@@ -61,7 +62,7 @@ handedOut y x k t = elim (y .answer) [
 -- RULES Q: question 1, then whether the memory holds a record, which is part of question 2, and the hand-out of that record
 unfoldable pub decodesIn : List ℕ → List ℕ → Memory → ℕ → Float → Shows
 decodesIn s l x k t =
-    if not (leb (length s) 16777216) then shows (kept 1 l x) k t
+    if not (leb (length s) longestStream) then shows (kept 1 l x) k t
     else (if not (isRecord x) then shows (kept 2 l x) k t
     else handedOut (handOut (recordOf x) s l) x k t)
 

@@ -5,10 +5,11 @@ use Prim.Native.Nat.{ℕ, _*_, _/_, _≤_}
 use lib.Dec.{eqb, leb}
 use lib.Ieee.{Float, nan}
 use lib.ListN.{length, getD, replicate}
+use Rattle.bits.specs.Bounds.{lastPosition}
 use Rattle.bits.specs.Programs.{if_then_else_}
 use Rattle.prediction.specs.declared.planes.Plane.{Plane}
 use Rattle.prediction.specs.declared.planes.Plane.the-variants.{Y, Cr, Cb}
-use Rattle.prediction.specs.Planes.{blockSize, planeLength, planeStart}
+use Rattle.prediction.specs.Planes.{blockSize, planeLength, planeStart, storesBytes}
 use Rattle.header.specs.declared.state.Sequence.{Sequence}
 use Rattle.header.specs.State.{noTime, freshSequence}
 use Rattle.header.specs.Possible.{sizesOf, possibleSequence}
@@ -36,7 +37,7 @@ abbrev pub typeSeen : List ℕ → ℕ
 typeSeen n = numberSeen n 7 7
 
 abbrev pub bytesRead : List ℕ → ℕ
-bytesRead n = numberSeen n 0 134217728 / 8
+bytesRead n = numberSeen n 0 lastPosition / 8
 
 -- the plane of a number: Y, Cr, Cb
 abbrev pub planeNumber : ℕ → Plane
@@ -58,4 +59,4 @@ clockNumber c k = if leb 4 (length c) then getD c k nan else noTime
 
 -- RULES 6.11, O.4: bytes of the three stores of a picture; 0 for a size that no header may have
 abbrev pub storeBytesOf : ℕ → ℕ → ℕ
-storeBytesOf w h = if leb 1 w && leb w 4095 && leb 1 h && leb h 4095 then 1152 * sizesOf w h .«mb_size» else 0
+storeBytesOf w h = if leb 1 w && leb w 4095 && leb 1 h && leb h 4095 then storesBytes (sizesOf w h .«mb_size») else 0

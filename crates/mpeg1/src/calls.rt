@@ -1,4 +1,5 @@
 // The three calls. Stream, store and record lie in the host's memory.
+use bits::position::LONGEST_STREAM;
 use decoder::answers::Converted;
 use decoder::answers::Opening;
 use decoder::answers::Outcome;
@@ -16,6 +17,7 @@ ghost use Rattle.decoder.specs.HandOut as Out;
 ghost use Rattle.decoder.specs.Answers.{openingNumber, conversionNumber};
 ghost use Rattle.memory.specs.Memory.{memory, roomy, recordOf, isRecord, Holds};
 ghost use Rattle.mpeg1.specs.Calls.{kept, shows, opensIn, HandsOut, decodesIn, unclocked, converts, convertsIn};
+ghost use Rattle.bits.specs.Bounds.{longestStream};
 
 fn opening_number(x: Opening) -> u32
     ensures { λ r. ⌜ r ≡ openingNumber x ⌝ }
@@ -98,12 +100,12 @@ pub extern "C" fn mpeg1_decode(
         ≡ decodesIn (now (stream .entry)) (now (store .entry))
         (memory (now (numbers .entry)) (now (integers .entry)) (now (matrices .entry)) (now (clock .entry))) (now (shown .entry)) (now (time .entry)) ⌝ }
     ensures held { λ r. ⌜ (isRecord (memory (now (numbers .entry)) (now (integers .entry)) (now (matrices .entry)) (now (clock .entry))) ≡ true
-        → leb (length (now (stream .entry))) 16777216 ≡ true
+        → leb (length (now (stream .entry))) longestStream ≡ true
         → Holds (memory (now (numbers .exit)) (now (integers .exit)) (now (matrices .exit)) (now (clock .exit)))
         (Out.handOut (recordOf (memory (now (numbers .entry)) (now (integers .entry)) (now (matrices .entry)) (now (clock .entry))))
         (now (stream .entry)) (now (store .entry)) .decoder)) ⌝ }
 {
-    if 16777216 < stream.len() {
+    if LONGEST_STREAM < stream.len() {
         return 1;
     }
     if !is_record(numbers, integers, matrices, clock) {

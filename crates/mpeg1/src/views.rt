@@ -1,9 +1,11 @@
 // What a host reads of a record, and the sizes that it needs, so that none counts fields or repeats the layout of a store.
+use bits::position::LAST_POSITION;
 use header::possible::possible_sequence;
 use header::possible::sizes_of;
 use header::state::Sequence;
 use header::state::fresh_sequence;
 use memory::reading::sequence_in;
+use prediction::planes::MACROBLOCK_STORES;
 use prediction::planes::Plane;
 use prediction::planes::block_size;
 use prediction::planes::plane_length;
@@ -104,7 +106,7 @@ pub extern "C" fn mpeg1_store_bytes(width: usize, height: usize) -> usize
     }
     let sizes = sizes_of(width, height);
     let n = sizes.mb_size;
-    1152 * n
+    MACROBLOCK_STORES * n
 }
 
 #[no_mangle]
@@ -136,7 +138,7 @@ pub extern "C" fn mpeg1_picture_type(numbers: &[usize]) -> u32
 pub extern "C" fn mpeg1_position(numbers: &[usize]) -> usize
     ensures { λ r. ⌜ r ≡ View.bytesRead (now (numbers .entry)) ⌝ }
 {
-    number_seen(numbers, 0, 134217728) / 8
+    number_seen(numbers, 0, LAST_POSITION) / 8
 }
 
 #[no_mangle]

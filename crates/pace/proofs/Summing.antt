@@ -4,6 +4,7 @@ use mathlib.Core.List.{List}
 use Prim.Native.Nat.{ℕ, suc, _+_, _-_, _%_, _≤_, _<_}
 use native.Mathlib.Omega.{arith}
 use lib.ListN.{length}
+use Rattle.bits.specs.Bounds.{longestStream}
 use Rattle.bits.specs.declared.reader.Reader.{Reader}
 use Rattle.bits.specs.Programs.{Prog, Out, run}
 use Rattle.bits.specs.Runs.{Inside, Reading}
@@ -27,7 +28,7 @@ pub record Summing (code : Prog ℕ) (s : List ℕ) (count : ℕ) (reader : Read
   pub same : run (summed code count 0) s 0 ≡ run (summed code (count - k) sum) s (reader .at .0)
 
 module _ {code : Prog ℕ} {s : List ℕ} {count : ℕ} {reader : Reader} where
-  pub summing-first : length s ≤ 16777216 → reader .at .0 ≡ 0 → Summing code s count reader 0 0
+  pub summing-first : length s ≤ longestStream → reader .at .0 ≡ 0 → Summing code s count reader 0 0
   summing-first h e =
       let all : count ≡ count - 0 = omega arith in record {
         inside = record { place = omega arith; stream = h };

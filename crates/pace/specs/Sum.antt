@@ -4,6 +4,7 @@ use mathlib.Core.List.{List}
 use Prim.Native.Nat.{ℕ, zero, suc, _+_, _%_, _^_}
 use lib.Dec.{leb, eqb}
 use lib.ListN.{length}
+use Rattle.bits.specs.Bounds.{longestStream}
 use Rattle.bits.specs.Programs.{Prog, done, run, _>>=_, if_then_else_}
 use Rattle.codes.specs.Codes.{dctCoeff, macroblockAddressIncrement}
 
@@ -20,4 +21,4 @@ codeOf table = if eqb table 0 then dctCoeff else macroblockAddressIncrement
 
 -- `count` codes of a table, from the beginning of the stream on; RULES Q1: 0 for a stream that is too long
 unfoldable pub codeSum : List ℕ → ℕ → ℕ → ℕ
-codeSum s table count = cond (leb (length s) 16777216) (run (summed (codeOf table) count 0) s 0 .value) 0
+codeSum s table count = cond (leb (length s) longestStream) (run (summed (codeOf table) count 0) s 0 .value) 0

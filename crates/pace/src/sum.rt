@@ -1,5 +1,6 @@
 // The sum of the values of codes that are read one behind the other from the beginning of a stream on, modulo 2^32. A loop for each table, so that the
 // compiler joins its reader into it.
+use bits::position::LONGEST_STREAM;
 use bits::reader::Reader;
 use codes::codes::read_dct_coeff;
 use codes::codes::read_macroblock_address_increment;
@@ -10,13 +11,14 @@ use tables::tables::tables_with;
 ghost use mathlib.Core.Path.{_≡_};
 ghost use Prim.Native.Nat.{_≤_};
 ghost use lib.ListN.{length};
+ghost use Rattle.bits.specs.Bounds.{longestStream};
 ghost use Rattle.bits.specs.Programs.{run};
 ghost use Rattle.codes.specs.Codes.{dctCoeff, macroblockAddressIncrement};
 ghost use Rattle.codes.specs.Lent.{Lent};
 ghost use Rattle.pace.specs.Sum.{summed, codeSum};
 
 fn coefficient_sum(s: &[u8], tables: &Tables, count: usize) -> u64
-    requires { ⌜ length (now s) ≤ 16777216 ⌝ }
+    requires { ⌜ length (now s) ≤ longestStream ⌝ }
     requires { ⌜ Lent (now tables) ⌝ }
     ensures { λ r. ⌜ r ≡ run (summed dctCoeff count 0) (now (s .entry)) 0 .value ⌝ }
 {
@@ -33,7 +35,7 @@ fn coefficient_sum(s: &[u8], tables: &Tables, count: usize) -> u64
 }
 
 fn increment_sum(s: &[u8], tables: &Tables, count: usize) -> u64
-    requires { ⌜ length (now s) ≤ 16777216 ⌝ }
+    requires { ⌜ length (now s) ≤ longestStream ⌝ }
     requires { ⌜ Lent (now tables) ⌝ }
     ensures { λ r. ⌜ r ≡ run (summed macroblockAddressIncrement count 0) (now (s .entry)) 0 .value ⌝ }
 {
@@ -54,7 +56,7 @@ fn increment_sum(s: &[u8], tables: &Tables, count: usize) -> u64
 pub extern "C" fn mpeg1_code_sum(s: &[u8], table: u32, count: usize) -> u64
     ensures { λ r. ⌜ r ≡ codeSum (now (s .entry)) table count ⌝ }
 {
-    if 16777216 < s.len() {
+    if LONGEST_STREAM < s.len() {
         return 0;
     }
     let tables = tables_with(&INTRA_QUANT_MATRIX, &NON_INTRA_QUANT_MATRIX);

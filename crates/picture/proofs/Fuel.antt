@@ -11,6 +11,7 @@ use lib.Dec.{eqb}
 use lib.IntN.{negsuc, natAbs}
 use lib.ListN.{length}
 use Rattle.laws.specs.Turns.{Turn, again, stop}
+use Rattle.bits.specs.Bounds.{longestStream, lastPosition}
 use Rattle.bits.specs.Bits.{Found, boundary, has, got, next, found}
 use Rattle.bits.specs.Programs.{Prog, bind, loop, many, run, turn}
 use Rattle.bits.proofs.Fuel.{loop-enough-fuel}
@@ -41,7 +42,7 @@ takes m a (stop v) e h l = tt
 
 -- the law: such a loop ends within the bits of the stream and one turn more
 enough : {S A : Type 0} (s : List ℕ) (f : S → Prog (Turn S A))
-    → ((x : S) (a : ℕ) → Takes (length s * 8) a (run (f x) s a .value) (run (f x) s a .at)) → length s ≤ 16777216
+    → ((x : S) (a : ℕ) → Takes (length s * 8) a (run (f x) s a .value) (run (f x) s a .at)) → length s ≤ longestStream
     → (n : ℕ) → many ≤ n → (d e : A) (x : S) (a : ℕ) → run (loop n f d x) s a ≡ run (loop many f e x) s a
 enough s f h l n m d e x a =
     loop-enough-fuel f s (λ x a. length s * 8 - a) (λ x y a e r. let t = rw (r .is) at (h x a) in omega arith) n many d e x a (omega arith) (omega arith)
@@ -70,7 +71,7 @@ increment-takes s sum a =
     (by-case Ends (eqb c 34 && eqb sum 0) (λ q. served 34 refl (both _ _ q .0)) (λ q. by-case Ends (eqb c 35) (λ q. served 35 refl q) (λ q. tt)))
 
 -- RULES 7.7
-pub increment-fuel : (s : List ℕ) → length s ≤ 16777216 → (n : ℕ) → many ≤ n → (d a : ℕ)
+pub increment-fuel : (s : List ℕ) → length s ≤ longestStream → (n : ℕ) → many ≤ n → (d a : ℕ)
     → run (loop n incrementTurn d 0) s a ≡ run increment s a
 unfolding increment
 increment-fuel s l n m d a = enough s incrementTurn (increment-takes s) l n m d 0 0 a
@@ -86,7 +87,7 @@ extra-takes s x a =
     (omega (arith, next-le s (next s a 1) 8), omega arith))
 
 -- RULES 7.5
-pub extra-fuel : (s : List ℕ) → length s ≤ 16777216 → (n : ℕ) → many ≤ n → (a : ℕ) → run (loop n extraTurn tt tt) s a ≡ run extra s a
+pub extra-fuel : (s : List ℕ) → length s ≤ longestStream → (n : ℕ) → many ≤ n → (a : ℕ) → run (loop n extraTurn tt tt) s a ≡ run extra s a
 unfolding extra
 extra-fuel s l n m a = enough s extraTurn (extra-takes s) l n m tt tt tt a
 
@@ -95,7 +96,7 @@ extra-fuel s l n m a = enough s extraTurn (extra-takes s) l n m tt tt tt a
 first-takes : (s : List ℕ) (a : ℕ) → a < length s * 8 → a < run increment s a .at
 unfolding increment incrementTurn
 first-takes s a h =
-    lt-of-lt-of-le (code-takes s a h) (le-trans (bind-on macroblockAddressIncrement _ s a) (loop-past incrementTurn 0 0 s a many 134217728 refl))
+    lt-of-lt-of-le (code-takes s a h) (le-trans (bind-on macroblockAddressIncrement _ s a) (loop-past incrementTurn 0 0 s a many lastPosition refl))
 
 macroblock-takes : (g : Given) (first : Bool) (w : World) (s : List ℕ) (a : ℕ) → a < length s * 8 → a < run (macroblock g first w) s a .at
 unfolding macroblock onward plain
@@ -118,7 +119,7 @@ slice-takes g s x a =
     (past-takes g s a _ _ (run-on (macroblock g (x .first) (x .world)) s a) (macroblock-takes g (x .first) (x .world) s a))
 
 -- RULES 7.6
-pub slice-fuel : (g : Given) (s : List ℕ) → length s ≤ 16777216 → (n : ℕ) → many ≤ n → (d e : Way World) (x : Slicing) (a : ℕ)
+pub slice-fuel : (g : Given) (s : List ℕ) → length s ≤ longestStream → (n : ℕ) → many ≤ n → (d e : Way World) (x : Slicing) (a : ℕ)
     → run (loop n (sliceTurn g) d x) s a ≡ run (loop many (sliceTurn g) e x) s a
 slice-fuel g s l n m d e x a = enough s (sliceTurn g) (slice-takes g s) l n m d e x a
 
@@ -147,7 +148,7 @@ slices-take g s x a =
     by-case Ends (P.isExtra c && not (x .begun)) (λ q. found-takes s a (λ z. false≢true (sym (ap P.isExtra z) ∙ both _ _ q .0))) (λ q. tt))
 
 -- RULES 7.3
-pub slices-fuel : (g : Given) (s : List ℕ) → length s ≤ 16777216 → (n : ℕ) → many ≤ n → (d : Way P.Frame) (f : P.Frame) (a : ℕ)
+pub slices-fuel : (g : Given) (s : List ℕ) → length s ≤ longestStream → (n : ℕ) → many ≤ n → (d : Way P.Frame) (f : P.Frame) (a : ℕ)
     → run (loop n (P.slicesTurn g) d (P.slicesOf false f)) s a ≡ run (P.slices g f) s a
 unfolding P.slices
 slices-fuel g s l n m d f a = enough s (P.slicesTurn g) (slices-take g s) l n m d (on f) (P.slicesOf false f) a

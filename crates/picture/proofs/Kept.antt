@@ -15,6 +15,7 @@ use lib.ListN.{length, getD, set}
 use lib.Seq.{set-out, getD-set-same, getD-set-other}
 use lib.Signed.{leZ}
 use Rattle.laws.proofs.Ints.{up, dn, v, lit, _⊕_, _⊖_, le-no, le-yes, abs-by}
+use Rattle.bits.specs.Bounds.{longestStream}
 use Rattle.bits.specs.Programs.{Prog, nonZero, many, run}
 use Rattle.bits.proofs.Gives.{Gives, Turned, g-done, g-any, g-bind, g-if, g-loop, g-bits, g-start, g-as, g-when}
 use Rattle.laws.proofs.Tests.{by-case, both}
@@ -135,7 +136,7 @@ skipped-end n g s address (suc k) l e = also-ends n (Long n) (Long n) _ _ (predi
 pub record Domain (H : Type 0) (s : List ℕ) (z : Sizes) : Type 0 where
   pub width : H → z .«mb_width» ≤ 256
   pub size : H → z .«mb_size» ≤ 65536
-  pub stream : H → length s ≤ 16777216
+  pub stream : H → length s ≤ longestStream
   pub bytes : H → (k : ℕ) → getD s k 0 < 256
 
 -- a DC predictor is put in its place
@@ -399,7 +400,7 @@ pub record StaysPossible (l : List ℕ) (f : P.Frame) : Type 0 where
 
 pub picture-kept : (z : Sizes) (m : Matrices) (p : Picture) (l s : List ℕ) (a : ℕ) → z .«mb_width» ≤ 256 → z .«mb_height» ≤ 256
     → z .«mb_size» ≡ z .«mb_width» * z .«mb_height»
-    → possiblePicture p ≡ true → length s ≤ 16777216 → ((k : ℕ) → getD s k 0 < 256)
+    → possiblePicture p ≡ true → length s ≤ longestStream → ((k : ℕ) → getD s k 0 < 256)
     → Ends (length l) (StaysPossible l) (run (P.picture z m p l) s a .value)
 picture-kept z m p l s a w h e k most bytes =
     g-as (ends-as (length l) {P = PictureKept (Unit {0}) (length l)} {Q = StaysPossible l}

@@ -8,6 +8,7 @@ use lib.Dec.{eqb, ltb}
 use lib.IntN.{ℤ, pos, negsuc, natAbs}
 use lib.ListN.{length}
 use Rattle.laws.specs.Turns.{Turn, again, stop}
+use Rattle.bits.specs.Bounds.{longestStream}
 use Rattle.bits.specs.Bits.{Found, boundary, has, got, next, found}
 use Rattle.bits.specs.Programs.{Prog, done, bind, bits, skips, loop, many, run, turn}
 use Rattle.bits.proofs.Start.{isCode, Searched, first, none, found-is-first}
@@ -192,7 +193,7 @@ slices-ahead g d s (suc n) x a h =
     rw (run-bind (P.slicesTurn g x) (turn (loop n (P.slicesTurn g) d)) s a)
     (left-turn g d s a n (run (P.slicesTurn g x) s a .value) (run (P.slicesTurn g x) s a .at) h (turn-ahead g x s a) (λ y b. slices-ahead g d s n y b))
 
-all-ahead : (g : Given) (f : P.Frame) (s : List ℕ) (a : ℕ) → length s ≤ 16777216 → Left s a (P.slices g f)
+all-ahead : (g : Given) (f : P.Frame) (s : List ℕ) (a : ℕ) → length s ≤ longestStream → Left s a (P.slices g f)
 unfolding P.slices
 all-ahead g f s a h = slices-ahead g (on f) s many (P.slicesOf false f) a (omega arith)
 
@@ -202,7 +203,7 @@ unfolding leave run
 turned-ahead t s e (on f) k = k
 turned-ahead t s e (out n l) k = tt
 
-coded-ahead : (z : Sizes) (m : Matrices) (p : Picture) (l s : List ℕ) (a : ℕ) → length s ≤ 16777216 → Left s a (P.coded z m p l)
+coded-ahead : (z : Sizes) (m : Matrices) (p : Picture) (l s : List ℕ) (a : ℕ) → length s ≤ longestStream → Left s a (P.coded z m p l)
 unfolding P.coded onward
 coded-ahead z m p l s a h =
     let q = storesAs (P.before (p .stores)) p in
@@ -215,7 +216,7 @@ unfolding run
 given-ahead s a f h = λ c. h
 
 -- 40 bits at a are what a start code further on takes with the byte behind it
-pub picture-ahead : (z : Sizes) (m : Matrices) (p : Picture) (l s : List ℕ) (a : ℕ) → length s ≤ 16777216 → a + 40 ≤ length s * 8
+pub picture-ahead : (z : Sizes) (m : Matrices) (p : Picture) (l s : List ℕ) (a : ℕ) → length s ≤ longestStream → a + 40 ≤ length s * 8
     → Ahead s (run (P.picture z m p l) s a .at) (run (P.picture z m p l) s a .value)
 unfolding P.picture
 picture-ahead z m p l s a h k =

@@ -33,7 +33,7 @@ use Rattle.picture.specs.Heads.{flag}
 use Rattle.prediction.specs.declared.predict.Predicted.{Predicted}
 use Rattle.prediction.specs.declared.predict.Predicted.the-variants.{Done, Refused}
 use Rattle.prediction.specs.Predict.{macroblockAt}
-use Rattle.prediction.specs.Planes.{planeOf, planeLength, planeStart}
+use Rattle.prediction.specs.Planes.{planeOf, planeLength, planeStart, storesBytes}
 use Rattle.prediction.specs.Writers.{blockWidth, blockPlace}
 use borrow.Rule.Slice.PartMut.{midOf, putMid}
 use Rattle.picture.specs.declared.state.Setting.{Setting}
@@ -268,7 +268,7 @@ pub record Held (g : Setting) (store : List ℕ) : Type 0 where
   pub down : g .sizes .«mb_height» ≤ 256
   pub size : g .sizes .«mb_size» ≡ g .sizes .«mb_width» * g .sizes .«mb_height»
   pub stores : Three (g .stores)
-  pub whole : 1152 * g .sizes .«mb_size» ≤ length store
+  pub whole : storesBytes (g .sizes .«mb_size») ≤ length store
 
 -- the address is that of a macroblock
 pub record Here (g : Setting) (address : ℤ) : Type 0 where

@@ -22,6 +22,7 @@ use Rattle.prediction.specs.Planes.{macroblocks, blockSize, planeOf, pla
 use Rattle.prediction.specs.Predict.{Inside, Placed, macroblockAt, blockOf, bytes, chroma}
 use Rattle.prediction.specs.Writers.{lumaPlace, chromaPlace, blockWidth, blockPlace}
 use Rattle.prediction.proofs.Places.{at-place, block-in}
+use Rattle.prediction.specs.Planes.{storesBytes}
 
 -- a picture with an address has a macroblock across
 pub across-some : (across down address : ℕ) → address < across * down → 1 ≤ across
@@ -103,7 +104,7 @@ module _ {m : Macroblock} (i : Inside m) (number : ℕ) where
       go true = refl
       go false = refl
 
-pub plane-in : (m : Macroblock) (q : Plane) (k : ℕ) → k < 3 → planeStart k q (macroblocks m) + bytes (blockOf m (blockSize q)) ≤ 1152 * macroblocks m
+pub plane-in : (m : Macroblock) (q : Plane) (k : ℕ) → k < 3 → planeStart k q (macroblocks m) + bytes (blockOf m (blockSize q)) ≤ storesBytes (macroblocks m)
 plane-in m Y k h = omega (arith, store-most k (macroblocks m) h)
 plane-in m Cr k h = omega (arith, store-most k (macroblocks m) h)
 plane-in m Cb k h = omega (arith, store-most k (macroblocks m) h)

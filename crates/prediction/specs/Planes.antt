@@ -39,9 +39,16 @@ offset Cb n = 320 * n
 abbrev pub planeLength : Plane → ℕ → ℕ
 planeLength p n = blockSize p * blockSize p * n
 
+-- RULES 6.11: bytes of one store, and of the three
+abbrev pub storeLength : ℕ → ℕ
+storeLength n = 384 * n
+
+abbrev pub storesBytes : ℕ → ℕ
+storesBytes n = 1152 * n
+
 -- where a plane of the store number k begins in the lent memory
 abbrev pub planeStart : ℕ → Plane → ℕ → ℕ
-planeStart k p n = k * (384 * n) + offset p n
+planeStart k p n = k * storeLength n + offset p n
 
 -- the lent memory after a prediction, and the prediction's answer
 pub record After : Type 0 where

@@ -3,6 +3,9 @@ ghost use mathlib.Core.Path.{_≡_};
 ghost use Prim.Native.Nat.{_≤_, _<_};
 ghost use Rattle.prediction.specs.Planes.{blockSize, planeOf, planeLength, planeStart};
 
+// Bytes of a macroblock in the three stores.
+pub const MACROBLOCK_STORES: usize = 1152;
+
 pub enum Plane {
     Y,
     Cr,

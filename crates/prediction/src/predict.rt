@@ -14,7 +14,7 @@ ghost use Prim.Native.Nat.{_+_, _*_, _≤_, _<_};
 ghost use borrow.Rule.Slice.PartMut.{midOf, putMid};
 ghost use lib.IntN.{natAbs};
 ghost use lib.ListN.{length};
-ghost use Rattle.prediction.specs.Planes.{macroblocks, inPlane, ofStores, predictedPlanes};
+ghost use Rattle.prediction.specs.Planes.{macroblocks, inPlane, ofStores, predictedPlanes, storesBytes};
 ghost use Rattle.prediction.specs.Predict.{Inside, Placed, bytes, maxAddress, reach, predicted};
 
 // RULES Q9: refused is number 9.
@@ -98,7 +98,7 @@ fn predict_of_stores(
     requires { ⌜ Inside m ⌝ }
     requires { ⌜ (from < 3) × (to < 3) × (to ≡ from → ⊥) ⌝ }
     requires { ⌜ (natAbs h ≤ 2048) × (natAbs v ≤ 2048) ⌝ }
-    requires { ⌜ 1152 * macroblocks m ≤ length (now store) ⌝ }
+    requires { ⌜ storesBytes (macroblocks m) ≤ length (now store) ⌝ }
     ensures answer { λ r. ⌜ r ≡ ofStores m from to interpolate q h v (now (store .entry)) .answer ⌝ }
     ensures store { λ _. ⌜ now (store .exit) ≡ ofStores m from to interpolate q h v (now (store .entry)) .store ⌝ }
 {
@@ -123,7 +123,7 @@ pub fn predict_macroblock_planes(
     requires { ⌜ Inside m ⌝ }
     requires { ⌜ (from < 3) × (to < 3) × (to ≡ from → ⊥) ⌝ }
     requires { ⌜ (natAbs h ≤ 2048) × (natAbs v ≤ 2048) ⌝ }
-    requires { ⌜ 1152 * macroblocks m ≤ length (now store) ⌝ }
+    requires { ⌜ storesBytes (macroblocks m) ≤ length (now store) ⌝ }
     ensures answer { λ r. ⌜ r ≡ predictedPlanes m from to h v interpolate (now (store .entry)) .answer ⌝ }
     ensures store { λ _. ⌜ now (store .exit) ≡ predictedPlanes m from to h v interpolate (now (store .entry)) .store ⌝ }
 {

@@ -13,6 +13,7 @@ use Rattle.lists.specs.Tallies.{none, counted}
 use Rattle.lists.proofs.Tallies.{more-one, counted-behind, counted-fails, counted-agrees}
 use Rattle.replay.specs.declared.reader_list.Along.{Along}
 use Rattle.replay.specs.ReaderList.{stepped, beginning, scoreFrom, scored}
+use Rattle.bits.specs.Bounds.{longestStream}
 
 -- n cases from p on, each whole and equal to ours, and no byte left over
 pub data Whole (l : List ℕ) : ℕ → Along → Type 0 where
@@ -55,7 +56,7 @@ whole l (suc n) p t m h e = go (stepped l p .agrees) refl e (λ f. whole l n (st
 -- the list has the cases that its number says, none is cut off, and none fails
 pub all-agree : (l : List ℕ) → scored l .agreed ≡ scored l .cases → Whole l (numberAt l 0) beginning
 unfolding scored
-all-agree l = go (ltb (length l) 4) (ltb 16777216 (length l)) (ltb (length l) (numberAt l 0)) (ltb-false _ _) (ltb-false _ _) (ltb-true _ _)
+all-agree l = go (ltb (length l) 4) (ltb longestStream (length l)) (ltb (length l) (numberAt l 0)) (ltb-false _ _) (ltb-false _ _) (ltb-true _ _)
   where
     -- the whole list by its three tests
     tested : Bool → Bool → Bool → Tally
@@ -63,7 +64,7 @@ all-agree l = go (ltb (length l) 4) (ltb 16777216 (length l)) (ltb (length l) (n
         cond a (counted none false)
         (cond b (counted none false) (cond d (record { cases = numberAt l 0; agreed = 0; first = 1 }) (scoreFrom l (numberAt l 0) beginning none)))
 
-    go : (a b d : Bool) → (b ≡ false → length l ≤ 16777216) → (d ≡ false → numberAt l 0 ≤ length l) → (d ≡ true → length l < numberAt l 0)
+    go : (a b d : Bool) → (b ≡ false → length l ≤ longestStream) → (d ≡ false → numberAt l 0 ≤ length l) → (d ≡ true → length l < numberAt l 0)
         → tested a b d .agreed ≡ tested a b d .cases → Whole l (numberAt l 0) beginning
     go true b d short few f e = absurd (omega (arith, more-one 0 (omega arith)))
     go false true d short few f e = absurd (omega (arith, more-one 0 (omega arith)))

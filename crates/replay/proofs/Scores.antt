@@ -13,6 +13,7 @@ use Rattle.replay.specs.declared.reader_list.Along.{Along}
 use Rattle.replay.specs.declared.reader_list.Step.{Step}
 use Rattle.replay.specs.ReaderList.{Inside, stepped, beginning, scoreFrom, scored}
 use Rattle.replay.proofs.Inside.{beginning-inside}
+use Rattle.bits.specs.Bounds.{longestStream}
 
 -- a list of n cases in the middle: with `left` cases from p on, and those before them counted in t, it still comes to what the whole list comes to
 pub record Scoring (l : List ℕ) (n : ℕ) (p : Along) (t : Tally) (left : ℕ) : Type 0 where
@@ -46,7 +47,7 @@ module _ (l : List ℕ) (n : ℕ) (p : Along) (t : Tally) where
   scoring-end (suc left) h k m = absurd (omega arith)
 
 -- the list has a number of cases that it can hold, or not
-module _ (l : List ℕ) (n : ℕ) (some : 4 ≤ length l) (short : length l ≤ 16777216) (is : n ≡ numberAt l 0) where
+module _ (l : List ℕ) (n : ℕ) (some : 4 ≤ length l) (short : length l ≤ longestStream) (is : n ≡ numberAt l 0) where
   pub whole : n ≤ length l → scoreFrom l n beginning none ≡ scored l
   unfolding scored
   whole h = rw (le-ltb _ _ some, le-ltb _ _ short, ← is, le-ltb _ _ h)

@@ -7,13 +7,14 @@ use lib.IntN.{ℤ}
 use lib.ListN.{length}
 use mir.Syntax.{w32}
 use mir.Val.{ofZ, toZ}
+use Rattle.bits.specs.Bounds.{longestStream}
 use Rattle.bits.specs.Programs.{Prog, Out, run}
 use Rattle.bits.specs.Runs.{Inside, Reading}
 use Rattle.bits.specs.declared.reader.Reader.{Reader}
 
 -- a reader at the beginning of a stream, and what is read there
 module _ {s : List ℕ} {from : Reader} (begins : from .at .0 ≡ 0) where
-  pub inside-at : length s ≤ 16777216 → Inside s from
+  pub inside-at : length s ≤ longestStream → Inside s from
   inside-at h = record { place = omega arith; stream = h }
 
   pub value-at : {A : Type 0} {p : Prog A} {v : A} {to : Reader} → Reading p s from v to → v ≡ run p s 0 .value

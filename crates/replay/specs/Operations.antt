@@ -6,6 +6,7 @@ use lib.Dec.{leb, ltb}
 use lib.ListN.{length, getD}
 use mir.Syntax.{w32}
 use mir.Val.{ofZ, toZ}
+use Rattle.bits.specs.Bounds.{longestStream}
 use Rattle.bits.specs.Bits.{has, boundary, equalBytes, partAt}
 use Rattle.bits.specs.Programs.{run, bits, reads, skips, nonZero, nextStartCode, findStartCode}
 use Rattle.bits.specs.declared.bytes.Part.{Part}
@@ -56,7 +57,7 @@ outcome HasEnded x s a = gives (flag (leb (length s * 8) a)) a
 outcome Skip x s a = gives 0 (run (skips x) s a .at)
 outcome Align x s a = gives 0 (boundary a * 8)
 outcome Tell x s a = gives (a / 8) a
-outcome Seek x s a = cond (ltb 16777216 x) (unknown a) (gives 0 (x * 8))
+outcome Seek x s a = cond (ltb longestStream x) (unknown a) (gives 0 (x * 8))
 outcome SkipBytes x s a = cond (ltb 255 x) (unknown a) (passed s x (boundary a))
 outcome NextStartCode x s a = gives (ofZ w32 (run nextStartCode s a .value)) (run nextStartCode s a .at)
 outcome FindStartCode x s a = gives (ofZ w32 (run (findStartCode (toZ w32 x)) s a .value)) (run (findStartCode (toZ w32 x)) s a .at)

@@ -4,6 +4,7 @@ use mathlib.Core.Bool.{Bool, true, false, cond, _&&_}
 use mathlib.Core.List.{List}
 use lib.Dec.{eqb, ltb}
 use lib.ListN.{length, getD}
+use Rattle.bits.specs.Bounds.{longestStream, lastPosition}
 use Rattle.bits.specs.Bits.{bitsAt, hasBytes, partAt, bytesOf}
 use Rattle.bits.specs.declared.reader.Reader.{Reader}
 use Rattle.replay.specs.declared.reader_operations.Outcome.{Outcome}
@@ -53,7 +54,7 @@ pub record Inside (l : List ℕ) (p : Along) : Type 0 where
   pub case : p .at ≤ length l
   pub order : p .from ≤ p .to
   pub stream : p .to ≤ length l
-  pub place : p .reader .at .0 ≤ 134217728
+  pub place : p .reader .at .0 ≤ lastPosition
 
 -- a case that is cut off does not agree, and neither does any behind it
 abbrev pub cutOff : List ℕ → Along → Step
@@ -91,6 +92,6 @@ beginning = record { at = 4; from = 4; to = 4; reader = record { at = record { 0
 unfoldable pub scored : List ℕ → Tally
 scored l =
     cond (ltb (length l) 4) (counted none false)
-    (cond (ltb 16777216 (length l)) (counted none false)
+    (cond (ltb longestStream (length l)) (counted none false)
     (cond (ltb (length l) (numberAt l 0)) (record { cases = numberAt l 0; agreed = 0; first = 1 })
     (scoreFrom l (numberAt l 0) beginning none)))

@@ -6,6 +6,7 @@ use crate::reader_operations::Outcome;
 use crate::reader_operations::operate;
 use crate::reader_operations::operation_of;
 use bits::bytes::Part;
+use bits::position::LONGEST_STREAM;
 use bits::reader::Reader;
 use lists::bytes::same;
 use lists::load::load;
@@ -17,6 +18,7 @@ ghost use Prim.Native.Nat.{_+_, _≤_};
 ghost use lib.ListN.{length};
 ghost use Rattle.replay.specs.ReaderList.{behindOf, agree, bytesAgree, eightAgree, onward, cutOff, Inside, stepped, scored};
 ghost use Rattle.replay.specs.Replayed.{Replayed};
+ghost use Rattle.bits.specs.Bounds.{longestStream};
 
 // How far a list is taken: the next case stands at `at`, the present stream from `from` up to `to`, and our reader is in it.
 pub struct Along {
@@ -137,7 +139,7 @@ fn cut(list: &[u8], along: Along) -> Step
 
 // The next case.
 fn take_case(list: &[u8], along: Along) -> Step
-    requires { ⌜ (length (now list) ≤ 16777216) × Inside (now list) along ⌝ }
+    requires { ⌜ (length (now list) ≤ longestStream) × Inside (now list) along ⌝ }
     ensures { λ r. ⌜ r ≡ stepped (now (list .entry)) along ⌝ }
     ensures { λ r. ⌜ Inside (now (list .entry)) (r .along) ⌝ }
 {
@@ -178,7 +180,7 @@ pub fn score(list: &[u8]) -> Tally
     if list.len() < 4 {
         return none.counted(false);
     }
-    if 16777216 < list.len() {
+    if LONGEST_STREAM < list.len() {
         return none.counted(false);
     }
     let cases = number_at(list, 0);

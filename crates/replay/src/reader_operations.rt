@@ -1,6 +1,7 @@
 // The operations of the reader, as the list reader.bin names them, and ours for each.
 use bits::bytes::Part;
 use bits::position::BytePosition;
+use bits::position::LONGEST_STREAM;
 use bits::reader::Peeked;
 use bits::reader::ReadBits;
 use bits::reader::Reader;
@@ -12,6 +13,7 @@ ghost use Prim.Native.Nat.{_≤_};
 ghost use lib.ListN.{length};
 ghost use mir.Syntax.{w32};
 ghost use mir.Val.{ofZ};
+ghost use Rattle.bits.specs.Bounds.{longestStream};
 ghost use Rattle.bits.specs.Bits.{partAt};
 ghost use Rattle.bits.specs.Runs.{Inside};
 ghost use Rattle.replay.specs.Operations.{operationOf, gives, unknown, flag, peek, outcome};
@@ -119,7 +121,7 @@ fn flagged(ahead: Peeked) -> Outcome
 
 // One more than the bytes that a peek gives; 0 where they are absent.
 fn peeked(s: &[u8], reader: Reader, count: usize) -> Outcome
-    requires { ⌜ length (now s) ≤ 16777216 ⌝ }
+    requires { ⌜ length (now s) ≤ longestStream ⌝ }
     ensures { λ r. ⌜ r ≡ gives (peek (partAt (now (s .entry)) (reader .at .0) count)) (reader .at .0) ⌝ }
 {
     let ahead = reader.peek_bytes(s, count);
@@ -151,7 +153,7 @@ pub fn operate(s: &[u8], reader: Reader, op: Operation, argument: u32) -> Outcom
             given(r.reader, r.at.0 as u32)
         }
         Operation::Seek => {
-            if 16777216 < count {
+            if LONGEST_STREAM < count {
                 return refused(reader);
             }
             given(reader.seek(BytePosition(count)), 0)

@@ -13,6 +13,7 @@ ghost use mathlib.Core.Bool.{true};
 ghost use Prim.Native.Nat.{_≤_};
 ghost use lib.IntN.{pos, negℤ, natAbs, _+ℤ_};
 ghost use lib.ListN.{length};
+ghost use Rattle.bits.specs.Bounds.{longestStream};
 ghost use Rattle.bits.specs.Programs.{run};
 ghost use Rattle.motion.specs.Displacement.{InRange};
 ghost use Rattle.motion.specs.Vector.{motionVector};
@@ -66,7 +67,7 @@ pub struct Vectors {
 
 // The component after the vector step at the beginning of a stream.
 fn vector_case(s: &[u8], r: u32, motion: i32) -> i32
-    requires { ⌜ length (now s) ≤ 16777216 ⌝ }
+    requires { ⌜ length (now s) ≤ longestStream ⌝ }
     requires { ⌜ (r ≤ 6) × InRange 64 motion ⌝ }
     ensures { λ v. ⌜ v ≡ run (motionVector r motion) (now (s .entry)) 0 .value ⌝ }
 {
@@ -117,7 +118,7 @@ pub struct Dcs {
 
 // The DC value at the beginning of a stream, where the predictor is 128.
 fn dc_case(s: &[u8]) -> i32
-    requires { ⌜ length (now s) ≤ 16777216 ⌝ }
+    requires { ⌜ length (now s) ≤ longestStream ⌝ }
     ensures { λ v. ⌜ v ≡ pos 128 +ℤ run (dcDifference true) (now (s .entry)) 0 .value ⌝ }
 {
     let tables = default_tables();

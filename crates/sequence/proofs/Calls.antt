@@ -8,6 +8,7 @@ use native.Mathlib.Omega.{arith}
 use lib.ListN.{length, getD}
 use Rattle.laws.specs.Turns.{turns}
 use Rattle.laws.proofs.Loops.{turns-again, turns-stop}
+use Rattle.bits.specs.Bounds.{longestStream}
 use Rattle.bits.specs.Programs.{many}
 use Rattle.picture.specs.declared.state.Sizes.{Sizes}
 use Rattle.picture.specs.declared.state.Matrices.{Matrices}
@@ -36,7 +37,7 @@ use Rattle.sequence.proofs.Pictures.{inverted, no-pictures}
 use Rattle.sequence.proofs.Stores.{Sound, Waits, sound-behind}
 use Rattle.sequence.proofs.Handing.{last-turn, handing, holding}
 
-module _ (s : List ℕ) (long : length s ≤ 16777216) (bytes : (k : ℕ) → getD s k 0 < 256) where
+module _ (s : List ℕ) (long : length s ≤ longestStream) (bytes : (k : ℕ) → getD s k 0 < 256) where
   -- a call that hands out a picture leaves what the next one needs
   hands-keep : {n : ℕ} {i : Shown} {d : Decoder} {l : List ℕ} → Ends s n (gave (H.Picture i) d l) → Keeps s d l
   hands-keep (hands k e) = k

@@ -10,6 +10,7 @@ use lib.Ieee.{Float}
 use lib.IntN.{ℤ, pos, negsuc}
 use lib.ListN.{length}
 use Rattle.laws.specs.Turns.{Turn, again, stop}
+use Rattle.bits.specs.Bounds.{longestStream}
 use Rattle.bits.specs.Programs.{eqZ}
 use Rattle.bits.proofs.Programs.{run-on}
 use Rattle.picture.specs.declared.state.Stores.{Stores}
@@ -28,7 +29,7 @@ use Rattle.sequence.proofs.Turns.{Waiting, Behind, last, Turned, turned
 use Rattle.sequence.proofs.Pictures.{coded, Begun, inverted, last-is}
 use Rattle.sequence.proofs.Stores.{Sound, Waits, store-next, still-holds, waits-on, waits-now}
 
-module _ (rule : Rule) (s : List ℕ) (long : length s ≤ 16777216) (z : Sizes) (m : Matrices) where
+module _ (rule : Rule) (s : List ℕ) (long : length s ≤ longestStream) (z : Sizes) (m : Matrices) where
   -- RULES 8.3: another picture follows
   followed : (x : Carried) (a : ℕ) (c e : S.Decoded) (es : List S.Decoded) (q : Begun rule s z m x a c (e ∷ es)) → isFollowed s (q .f .at) ≡ true
   unfolding isFollowed

@@ -8,6 +8,7 @@ use lib.IntN.{ℤ, pos, negsuc}
 use lib.ListN.{length}
 use borrow.Author.Tests.{leb-true}
 use Rattle.laws.proofs.Tests.{by-case}
+use Rattle.bits.specs.Bounds.{longestStream}
 use Rattle.bits.specs.Bits.{has}
 use Rattle.bits.specs.Programs.{Out, run, eqZ, findStartCode}
 use Rattle.standard.specs.Standard.State.{zero-vector}
@@ -55,7 +56,7 @@ size-asks s e =
       refl,
     ))
 
-header-asks : (s : List ℕ) → length s ≤ 16777216 → Asks (askHeader s fresh)
+header-asks : (s : List ℕ) → length s ≤ longestStream → Asks (askHeader s fresh)
 unfolding askHeader findSequence fresh
 header-asks s h = go (run (findStartCode (pos 0xb3)) s 0) (sought (pos 0xb3) s 0 h)
   where
@@ -68,7 +69,7 @@ header-asks s h = go (run (findStartCode (pos 0xb3)) s 0) (sought (pos 0xb3) s 0
 
 -- what an opening that accepts a header leaves
 pub record Readied (s : List ℕ) (d : Decoder) (l : List ℕ) : Type 0 where
-  pub short : length s ≤ 16777216
+  pub short : length s ≤ longestStream
   pub keeps : Keeps s d l
   pub starting : Starting d l
 
@@ -78,7 +79,7 @@ IfReady s o d l = elim o [ O.Ready ↦ Readied s d l | O.Refused n ↦ Unit {0} 
 abbrev Opens : List ℕ → Left Opening → Type 0
 Opens s r = IfReady s (r .answer) (r .decoder) (r .store)
 
-store-opens : (s l : List ℕ) (a : Asked) → length s ≤ 16777216 → Accepts s a → Asks a → Opens s (opened l (askStore fresh l a))
+store-opens : (s l : List ℕ) (a : Asked) → length s ≤ longestStream → Accepts s a → Asks a → Opens s (opened l (askStore fresh l a))
 unfolding opened askStore
 store-opens s l (refused n x) h j k = tt
 store-opens s l (passed x) h j k =
@@ -88,8 +89,8 @@ store-opens s l (passed x) h j k =
 opens : (s l : List ℕ) → Opens s (opening s l)
 unfolding opening openingFrom
 opens s l =
-    by-case (Opens s) (leb (length s) 16777216)
-    (λ e. let h = leb-true (length s) 16777216 e in store-opens s l (askHeader s fresh) h (header-accepts (fresh-waits s) h) (header-asks s h)) (λ e. tt)
+    by-case (Opens s) (leb (length s) longestStream)
+    (λ e. let h = leb-true (length s) longestStream e in store-opens s l (askHeader s fresh) h (header-accepts (fresh-waits s) h) (header-asks s h)) (λ e. tt)
 
 pub readied : (s l : List ℕ) → opening s l .answer ≡ O.Ready → Readied s (opening s l .decoder) (opening s l .store)
 readied s l e = subst (λ (o : Opening). IfReady s o (opening s l .decoder) (opening s l .store)) e (opens s l)

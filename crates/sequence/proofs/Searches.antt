@@ -11,6 +11,7 @@ use lib.IntN.{ℤ, pos, negsuc}
 use lib.ListN.{length, getD}
 use Rattle.laws.specs.Turns.{Turn, again, stop, turns}
 use Rattle.laws.proofs.Tests.{both}
+use Rattle.bits.specs.Bounds.{longestStream}
 use Rattle.bits.specs.Bits.{Found, boundary, codePrefix, found}
 use Rattle.bits.specs.Programs.{Out, done, run, bind, eqZ, loop, turn, many, findTurn, findStartCode}
 use Rattle.bits.proofs.Start.{Searched, first, none, found-on, found-is-first}
@@ -93,7 +94,7 @@ finds-from s (suc n) a p h b k = go (found s a) (found-is-first s a) (λ e i j. 
     go f (none w e) r = absurd (true≢false (sym (k .here) ∙ w p b (k .five)))
 
 -- RULES 8.3
-pub finds : (s : List ℕ) (a p : ℕ) → length s ≤ 16777216 → boundary a ≤ p → PictureAt s p → run (findStartCode (pos 0)) s a .value ≡ pos 0
+pub finds : (s : List ℕ) (a p : ℕ) → length s ≤ longestStream → boundary a ≤ p → PictureAt s p → run (findStartCode (pos 0)) s a .value ≡ pos 0
 unfolding findStartCode
 finds s a p h b k = finds-from s many a p (omega arith) b k
 

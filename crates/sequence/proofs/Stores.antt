@@ -17,6 +17,7 @@ use Rattle.standard.specs.Standard as S
 use Rattle.standard.proofs.Related.{Rule}
 use Rattle.standard.proofs.Agreement.{WayIs}
 use Rattle.standard.proofs.Spared.{Leaves, picture-spared}
+use Rattle.prediction.specs.Planes.{storesBytes}
 use Rattle.sequence.specs.Sequence.{Carried, carried}
 use Rattle.sequence.specs.Display.{storeOf, Holds}
 use Rattle.sequence.proofs.Pictures.{Begun}
@@ -24,7 +25,7 @@ use Rattle.sequence.proofs.Pictures.{Begun}
 -- between pictures: three stores, and memory for them
 pub record Sound (n : ℕ) (x : Carried) : Type 0 where
   pub three : PossibleStores (x .stores)
-  pub long : 1152 * n ≤ length (x .pels)
+  pub long : storesBytes n ≤ length (x .pels)
 
 -- the picture w waits: its store is `bwd`, and has its samples
 pub record Waits (n : ℕ) (w : S.Decoded) (x : Carried) : Type 0 where

@@ -6,6 +6,7 @@ use Prim.Native.Nat.{ℕ, _≤_}
 use lib.IntN.{ℤ, pos}
 use lib.ListN.{length}
 use Rattle.laws.specs.Turns.{Turn, stop}
+use Rattle.bits.specs.Bounds.{longestStream}
 use Rattle.bits.specs.Bits.{Found}
 use Rattle.bits.specs.Programs.{Out, run, eqZ, many, findStartCode}
 use Rattle.picture.specs.declared.state.Stores.{Stores}
@@ -50,7 +51,7 @@ pub record Behind (z : Sizes) (m : Matrices) (x : Carried) (c : S.Decoded) (e : 
   pub held : d .«has_reference_frame» ≡ x .held
   pub mark : d .stop ≡ 0
 
-module _ (rule : Rule) (s : List ℕ) (long : length s ≤ 16777216) (z : Sizes) (m : Matrices) (x : Carried) (a : ℕ) (d : Decoder) (l : List ℕ)
+module _ (rule : Rule) (s : List ℕ) (long : length s ≤ longestStream) (z : Sizes) (m : Matrices) (x : Carried) (a : ℕ) (d : Decoder) (l : List ℕ)
     (w : Waiting z m x a d l) (f : Found) (n : Next s many a f) where
   abbrev theirs : Sizes → Matrices → Stores → List ℕ → Out (Way S.Decoded)
   theirs z m t l = run (S.picture (rule .rules) z m t (x .forward) (x .backward) l) s (f .at)

@@ -9,6 +9,7 @@ use lib.Dec.{eqb, leb}
 use lib.ListN.{length, getD}
 use Rattle.laws.specs.Turns.{Turn, again, stop}
 use Rattle.laws.proofs.Tests.{both}
+use Rattle.bits.specs.Bounds.{longestStream}
 use Rattle.bits.specs.Bits.{has, got}
 use Rattle.bits.specs.Programs.{Prog, Out, done, skip, run, bind, loop, turn, many}
 use Rattle.bits.proofs.Programs.{run-bind, next-has}
@@ -185,5 +186,5 @@ module _ (s : List ℕ) where
   unfolding plain
   plains p q a e = run-bind p _ s a ∙ ap (λ (o : Out ℕ). run (done (on (o .value))) s (o .at)) e ∙ sym (run-bind q _ s a)
 
-  pub increment-agrees : length s ≤ 16777216 → (a : ℕ) → Agree Increment s a S.increment (plain O.increment)
+  pub increment-agrees : length s ≤ longestStream → (a : ℕ) → Agree Increment s a S.increment (plain O.increment)
   increment-agrees l a = a-same (plains _ _ a (increment-fuel s l (3 * many) (omega arith) 0 a)) (both-loops (3 * many) a (omega arith))

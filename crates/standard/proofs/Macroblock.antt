@@ -10,6 +10,7 @@ use lib.ListN.{length}
 use lib.Signed.{ltZ, leZ}
 use Rattle.laws.proofs.Tests.{both}
 use Rattle.laws.proofs.Ints.{v, lit, _⊕_, _⊖_, le-yes, yes-le, yes-lt, no-lt, no-le, lt-yes}
+use Rattle.bits.specs.Bounds.{longestStream}
 use Rattle.bits.specs.Programs.{Prog, done, run, bind}
 use Rattle.codes.specs.Codes.{codeBlockPattern}
 use Rattle.picture.specs.declared.state.Slice.{Slice}
@@ -236,7 +237,7 @@ module _ (rule : Rule) (g : Given) (df db : S.Direction) (s : List ℕ) where
       (a-onward _ _ (a-step _ _ (later-ready C x w n some r)) (λ l y e k. coded-agrees false n (S.lastType C false n x) x l y e k))
 
   -- 2.4.2.7, 2.4.4: the standard's macroblock() and ours
-  pub macroblock-agrees : length s ≤ 16777216 → (first : Bool) (x : S.Variables) (w : World) (a : ℕ) → Related C first x w
+  pub macroblock-agrees : length s ≤ longestStream → (first : Bool) (x : S.Variables) (w : World) (a : ℕ) → Related C first x w
       → Agree (Related C false) s a (S.macroblock C first x) (M.macroblock g first w)
   unfolding S.macroblock M.macroblock
   macroblock-agrees l first x w a r =

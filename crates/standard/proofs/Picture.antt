@@ -7,6 +7,7 @@ use lib.Dec.{eqb}
 use lib.IntN.{pos}
 use lib.ListN.{length}
 use Rattle.laws.proofs.Ints.{v}
+use Rattle.bits.specs.Bounds.{longestStream}
 use Rattle.bits.specs.Bits.{next}
 use Rattle.bits.specs.Programs.{Prog, run, bind, eqZ}
 use Rattle.bits.proofs.Programs.{run-bind}
@@ -32,7 +33,7 @@ pub record Result (d : S.Decoded) (f : P.Frame) : Type 0 where
   pub begun : Begun (d .header .forward) (d .header .backward) (f .picture .slice)
   pub code : eqZ (f .picture .«start_code») (pos 0) ≡ false
 
-module _ (rule : Rule) (s : List ℕ) (long : length s ≤ 16777216) (z : Sizes) (m : Matrices) (l : List ℕ) where
+module _ (rule : Rule) (s : List ℕ) (long : length s ≤ longestStream) (z : Sizes) (m : Matrices) (l : List ℕ) where
   -- behind the header
   abbrev theirs : S.Direction → S.Direction → ℕ → Stores → Stores → Prog (Way S.Decoded)
   theirs f b type before after =

@@ -10,6 +10,7 @@ use lib.ListN.{length, replicate}
 use lib.Signed.{ltZ, leZ}
 use Rattle.laws.specs.Turns.{Turn, again, stop}
 use Rattle.laws.proofs.Ints.{v, lit, _⊕_, _⊖_, yes-lt, yes-le, le-yes, lt-yes}
+use Rattle.bits.specs.Bounds.{longestStream}
 use Rattle.bits.specs.Bits.{has, got}
 use Rattle.bits.specs.Programs.{Prog, Out, done, run, bind, bits, nonZero, many}
 use Rattle.bits.proofs.Programs.{run-bind}
@@ -39,7 +40,7 @@ record Between (g : S.Coding) (x : S.Slicing) (y : O.Slicing) : Type 0 where
   first : y .first ≡ x .first
   same : Related g (x .first) (x .variables) (y .world)
 
-module _ (rule : Rule) (g : Given) (df db : S.Direction) (s : List ℕ) (long : length s ≤ 16777216) where
+module _ (rule : Rule) (g : Given) (df db : S.Direction) (s : List ℕ) (long : length s ≤ longestStream) where
   abbrev C : S.Coding
   C = coding rule g df db
 

@@ -10,6 +10,7 @@ use lib.ListN.{length}
 use lib.Signed.{ltZ, leZ}
 use Rattle.laws.specs.Turns.{Turn, again, stop}
 use Rattle.laws.proofs.Ints.{v, lit, _⊕_, le-yes, le-no, lt-yes, lt-no}
+use Rattle.bits.specs.Bounds.{longestStream}
 use Rattle.bits.specs.Bits.{has, found}
 use Rattle.bits.specs.Programs.{Out, done, run, bind, many, eqZ}
 use Rattle.bits.proofs.Programs.{run-bind}
@@ -30,7 +31,7 @@ not-picture (pos zero) h = absurd (false≢true h)
 not-picture (pos (suc n)) h = ne-eqb (suc n) 0 (λ e. omega arith)
 not-picture (negsuc n) h = absurd (false≢true h)
 
-module _ (rule : Rule) (g : Given) (df db : S.Direction) (s : List ℕ) (long : length s ≤ 16777216) (ty : ℕ) (st : Stores) where
+module _ (rule : Rule) (g : Given) (df db : S.Direction) (s : List ℕ) (long : length s ≤ longestStream) (ty : ℕ) (st : Stores) where
   abbrev C : S.Coding
   C = coding rule g df db
 

@@ -27,6 +27,7 @@ use Rattle.codes.specs.Tables.{dctSizeLuminanceIndex, dctSizeLuminanceValue, dc
 use Rattle.codes.specs.Tables.{dctCoeffValue}
 use Rattle.codes.proofs.Entries.{natural, above}
 use Rattle.codes.proofs.Joined.{all-at, Short}
+use Rattle.codes.specs.Lent.{intraMatrixAt, otherMatrixAt, tablesLength}
 
 -- ---- entries as they are laid
 
@@ -135,23 +136,23 @@ paste-behind d at s n i v l h =
 -- a loop that copies both matrices, one behind the other, has copied k entries of each
 pub record Beside (before intra other now : List ℕ) (k : ℕ) : Type 0 where
   pub most : k ≤ 64
-  pub is : now ≡ paste (paste before 702 intra k) 766 other k
+  pub is : now ≡ paste (paste before intraMatrixAt intra k) otherMatrixAt other k
 
 module _ (before intra other : List ℕ) where
   pub beside-none : Beside before intra other before 0
-  beside-none = record { most = omega arith; is = paste-zero before 702 intra ∙ paste-zero (paste before 702 intra 0) 766 other }
+  beside-none = record { most = omega arith; is = paste-zero before intraMatrixAt intra ∙ paste-zero (paste before intraMatrixAt intra 0) otherMatrixAt other }
 
-  module _ (l : length before ≡ 830) (a : length intra ≡ 64) (b : length other ≡ 64) (now : List ℕ) (k : ℕ) (c : Beside before intra other now k) where
-    intra-long : (n : ℕ) → n ≤ 64 → length (paste before 702 intra n) ≡ 830
-    intra-long n h = length-paste before 702 intra n (omega arith) (omega arith) ∙ l
+  module _ (l : length before ≡ tablesLength) (a : length intra ≡ 64) (b : length other ≡ 64) (now : List ℕ) (k : ℕ) (c : Beside before intra other now k) where
+    intra-long : (n : ℕ) → n ≤ 64 → length (paste before intraMatrixAt intra n) ≡ tablesLength
+    intra-long n h = length-paste before intraMatrixAt intra n (omega arith) (omega arith) ∙ l
 
-    pub beside-long : length now ≡ 830
+    pub beside-long : length now ≡ tablesLength
     beside-long =
         let h = intra-long k (c .most) in
-        ap length (c .is) ∙ length-paste (paste before 702 intra k) 766 other k (omega (arith, c .most)) (omega (arith, c .most)) ∙ h
+        ap length (c .is) ∙ length-paste (paste before intraMatrixAt intra k) otherMatrixAt other k (omega (arith, c .most)) (omega (arith, c .most)) ∙ h
 
     pub beside-one : k < 64
-        → Beside before intra other (set (set now (702 + k) (getD intra k 0)) (766 + k) (getD other k 0)) (k + 1)
+        → Beside before intra other (set (set now (intraMatrixAt + k) (getD intra k 0)) (otherMatrixAt + k) (getD other k 0)) (k + 1)
     beside-one h =
         let x = getD intra k 0 in
         let y = getD other k 0 in
@@ -160,17 +161,19 @@ module _ (before intra other : List ℕ) where
         record {
           most = omega arith;
           is =
-              ap (λ (t : List ℕ). set (set t (702 + k) x) (766 + k) y) (c .is)
-              ∙ ap (λ (t : List ℕ). set t (766 + k) y) (paste-behind (paste before 702 intra k) 766 other k (702 + k) x (omega arith) (omega arith))
-              ∙ ap (λ (t : List ℕ). set (paste t 766 other k) (766 + k) y) (paste-suc before 702 intra k 0 (omega arith) (omega arith))
-              ∙ paste-suc (paste before 702 intra (suc k)) 766 other k 0 (omega arith) (omega arith)
-              ∙ ap (λ (i : ℕ). paste (paste before 702 intra i) 766 other i) (sym (add-one k));
+              ap (λ (t : List ℕ). set (set t (intraMatrixAt + k) x) (otherMatrixAt + k) y) (c .is)
+              ∙ ap (λ (t : List ℕ). set t (otherMatrixAt + k) y)
+              (paste-behind (paste before intraMatrixAt intra k) otherMatrixAt other k (intraMatrixAt + k) x (omega arith) (omega arith))
+              ∙ ap (λ (t : List ℕ). set (paste t otherMatrixAt other k) (otherMatrixAt + k) y)
+              (paste-suc before intraMatrixAt intra k 0 (omega arith) (omega arith))
+              ∙ paste-suc (paste before intraMatrixAt intra (suc k)) otherMatrixAt other k 0 (omega arith) (omega arith)
+              ∙ ap (λ (i : ℕ). paste (paste before intraMatrixAt intra i) otherMatrixAt other i) (sym (add-one k));
         }
 
-    pub beside-all : 64 ≤ k → now ≡ paste (paste before 702 intra 64) 766 other 64
+    pub beside-all : 64 ≤ k → now ≡ paste (paste before intraMatrixAt intra 64) otherMatrixAt other 64
     beside-all h =
         let all : k ≡ 64 = omega (arith, c .most) in
-        c .is ∙ ap (λ (i : ℕ). paste (paste before 702 intra i) 766 other i) all
+        c .is ∙ ap (λ (i : ℕ). paste (paste before intraMatrixAt intra i) otherMatrixAt other i) all
 
 -- a table behind another
 paste-on : (t a b : List ℕ) (at n m : ℕ) → length a ≡ n → m ≤ length b → at + n + m ≤ length t
@@ -197,11 +200,11 @@ pub laid-none : (before : List ℕ) (at : ℕ) → at ≤ length before → Laid
 laid-none before at h = record { long = refl; inside = omega arith; is = paste-zero before at [] }
 
 -- one table more, of m entries, which are k
-pub laid-on : {before t after laid : List ℕ} {at n : ℕ} (table : List ℕ) (k : ℕ) {m : ℕ} → length before ≡ 830 → Laid before at laid n t
-    → length table ≡ k → T (leb (at + n + k) 830) → m ≡ k
+pub laid-on : {before t after laid : List ℕ} {at n : ℕ} (table : List ℕ) (k : ℕ) {m : ℕ} → length before ≡ tablesLength → Laid before at laid n t
+    → length table ≡ k → T (leb (at + n + k) tablesLength) → m ≡ k
     → after ≡ paste t (at + n) table m → Laid before at (laid ++ table) (n + k) after
 laid-on {before} {t} {after} {laid} {at} {n} table k l f w h q r =
-    let most = leb→le (at + n + k) 830 h in
+    let most = leb→le (at + n + k) tablesLength h in
     record {
       long = length-append laid table ∙ rw (f .long, w) refl;
       inside = omega (arith, l, most);
@@ -212,8 +215,8 @@ laid-on {before} {t} {after} {laid} {at} {n} table k l f w h q r =
     }
 
 -- a part of a code table more: k entries of it, from `first` on
-pub laid-codes : {before t after laid : List ℕ} {at n : ℕ} (table : List ℕ) (first k : ℕ) → length before ≡ 830 → Laid before at laid n t
-    → T (leb (first + k) (length table)) → T (leb (at + n + k) 830)
+pub laid-codes : {before t after laid : List ℕ} {at n : ℕ} (table : List ℕ) (first k : ℕ) → length before ≡ tablesLength → Laid before at laid n t
+    → T (leb (first + k) (length table)) → T (leb (at + n + k) tablesLength)
     → after ≡ paste t (at + n) (drop first table) k → Laid before at (laid ++ take k (drop first table)) (n + k) after
 laid-codes {t = t} {at = at} {n = n} table first k l f w h r =
     let part = take k (drop first table) in
@@ -223,18 +226,18 @@ laid-codes {t = t} {at = at} {n = n} table first k l f w h r =
 
 -- the first n of the numbers t are those of `front`
 pub record Front (t : List ℕ) (n : ℕ) (front : List ℕ) : Type 0 where
-  pub long : length t ≡ 830
+  pub long : length t ≡ tablesLength
   pub is : take n t ≡ front
 
-pub front-none : {t : List ℕ} → length t ≡ 830 → Front t 0 []
+pub front-none : {t : List ℕ} → length t ≡ tablesLength → Front t 0 []
 front-none h = record { long = h; is = refl }
 
 -- one table more, of m entries, which are n
-pub front-on : {t front after : List ℕ} (table : List ℕ) (at n : ℕ) {m : ℕ} → Front t at front → length table ≡ n → T (leb (at + n) 830)
+pub front-on : {t front after : List ℕ} (table : List ℕ) (at n : ℕ) {m : ℕ} → Front t at front → length table ≡ n → T (leb (at + n) tablesLength)
     → m ≡ n
     → after ≡ paste t at table m → Front after (at + n) (front ++ table)
 front-on {t} {front} {after} table at n f k h q r =
-    let most = leb→le (at + n) 830 h in
+    let most = leb→le (at + n) tablesLength h in
     let e = r ∙ ap (paste t at table) q in
     let l = f .long in
     record {
@@ -246,8 +249,8 @@ front-on {t} {front} {after} table at n f k h q r =
           ∙ ap (λ (x : List ℕ). front ++ x) (take-all n table (omega arith));
     }
 
-pub front-all : {t front : List ℕ} → Front t 830 front → t ≡ front
-front-all {t} f = sym (take-all 830 t (omega (arith, f .long))) ∙ f .is
+pub front-all : {t front : List ℕ} → Front t tablesLength front → t ≡ front
+front-all {t} f = sym (take-all tablesLength t (omega (arith, f .long))) ∙ f .is
 
 -- ---- what has been made is what is lent
 
@@ -266,7 +269,7 @@ unfolding blockCodes motionIndex motionValue dctSizeLuminanceIndex dctSizeLumina
     dctCoeffIndex dctCoeffValue zigZag downFrom diagonals premultiplierMatrix
 block-codes-length = refl
 
-fixed-length : length fixedTables ≡ 702
+fixed-length : length fixedTables ≡ intraMatrixAt
 unfolding fixedTables
 fixed-length =
     length-append macroblockCodes blockCodes ∙ ap (λ (n : ℕ). n + length blockCodes) macroblock-codes-length
@@ -282,28 +285,28 @@ module _ (intra other : List ℕ) (i : Bytes64 intra) (o : Bytes64 other) where
   split : tablesWith intra other ≡ fixedTables ++ (intra ++ other)
   split = append-assoc fixedTables intra other
 
-  behind : (k : ℕ) → 702 ≤ k → getD (fixedTables ++ (intra ++ other)) k 0 ≡ getD (intra ++ other) (k - 702) 0
+  behind : (k : ℕ) → intraMatrixAt ≤ k → getD (fixedTables ++ (intra ++ other)) k 0 ≡ getD (intra ++ other) (k - intraMatrixAt) 0
   behind k h =
-      let e : k ≡ length fixedTables + (k - 702) = omega (arith, fixed-length) in
-      ap (λ (n : ℕ). getD (fixedTables ++ (intra ++ other)) n 0) e ∙ getD-append-add fixedTables (intra ++ other) (k - 702) 0
+      let e : k ≡ length fixedTables + (k - intraMatrixAt) = omega (arith, fixed-length) in
+      ap (λ (n : ℕ). getD (fixedTables ++ (intra ++ other)) n 0) e ∙ getD-append-add fixedTables (intra ++ other) (k - intraMatrixAt) 0
 
   pub lent-with : Lent (tablesWith intra other)
   lent-with =
       rw split
       (record {
-        fixed = take-at fixedTables (intra ++ other) 702 fixed-length;
-        bytes = λ k h. rw (behind k h) (bytes-in intra other (i .bytes) (o .bytes) (k - 702));
+        fixed = take-at fixedTables (intra ++ other) intraMatrixAt fixed-length;
+        bytes = λ k h. rw (behind k h) (bytes-in intra other (i .bytes) (o .bytes) (k - intraMatrixAt));
       })
 
   pub matrix-with : (b : Bool) → matrixOf (tablesWith intra other) b ≡ cond b intra other
   unfolding matrixOf
   matrix-with true =
-      ap (λ (l : List ℕ). take 64 (drop 702 l)) split
-      ∙ ap (take 64) (drop-at fixedTables (intra ++ other) 702 fixed-length)
+      ap (λ (l : List ℕ). take 64 (drop intraMatrixAt l)) split
+      ∙ ap (take 64) (drop-at fixedTables (intra ++ other) intraMatrixAt fixed-length)
       ∙ take-at intra other 64 (i .long)
   matrix-with false =
-      let front : length (fixedTables ++ intra) ≡ 766 = omega (arith, length-append fixedTables intra, fixed-length, i .long) in
-      ap (take 64) (drop-at (fixedTables ++ intra) other 766 front) ∙ take-all 64 other (omega (arith, o .long))
+      let front : length (fixedTables ++ intra) ≡ otherMatrixAt = omega (arith, length-append fixedTables intra, fixed-length, i .long) in
+      ap (take 64) (drop-at (fixedTables ++ intra) other otherMatrixAt front) ∙ take-all 64 other (omega (arith, o .long))
 
 -- RULES 2.7: the default matrices, and the tables with them
 pub intra-bytes : Bytes64 intraQuantMatrix

@@ -21,6 +21,7 @@ use codes::lent::CHROMINANCE;
 use codes::lent::COEFFICIENT;
 use codes::lent::INCREMENT;
 use codes::lent::INTRA_MATRIX;
+use codes::lent::LENGTH;
 use codes::lent::LUMINANCE;
 use codes::lent::ORDER;
 use codes::lent::OTHER_MATRIX;
@@ -40,7 +41,8 @@ ghost use lib.Dec.{T};
 ghost use lib.IntN.{natAbs};
 ghost use lib.ListN.{length, drop};
 ghost use lib.Seq.{paste};
-ghost use Rattle.codes.specs.Lent.{joined, all, near, isByte, short, macroblockCodes, blockCodes, tablesWith};
+ghost use Rattle.codes.specs.Lent.{joined, all, near, isByte, short, macroblockCodes, blockCodes, tablesWith, intraMatrixAt, otherMatrixAt};
+ghost use Rattle.codes.specs.Lent.{tablesLength};
 
 fn put(tables: &mut [u16], at: usize, table: &[i32])
     requires { ⌜ at + length (now table) ≤ length (now tables) ⌝ }
@@ -87,10 +89,10 @@ fn put_bytes(tables: &mut [u16], at: usize, table: &[u8])
 
 // Both matrices, the other behind that of intra blocks. One loop for the two: the compiler makes vectors of it, and single bytes of two loops.
 fn put_matrices(tables: &mut Tables, intra_matrix: &[u8], other_matrix: &[u8])
-    requires { ⌜ length (now tables) ≡ 830 ⌝ }
+    requires { ⌜ length (now tables) ≡ tablesLength ⌝ }
     requires { ⌜ (length (now «intra_matrix») ≡ 64) × (length (now «other_matrix») ≡ 64) ⌝ }
     ensures { λ _. ⌜ now (tables .exit)
-        ≡ paste (paste (now (tables .entry)) 702 (now («intra_matrix» .entry)) 64) 766 (now («other_matrix» .entry)) 64 ⌝ }
+        ≡ paste (paste (now (tables .entry)) intraMatrixAt (now («intra_matrix» .entry)) 64) otherMatrixAt (now («other_matrix» .entry)) 64 ⌝ }
 {
     let mut k: usize = 0;
     while k < 64 {
@@ -166,7 +168,7 @@ fn put_block_codes(t: &mut Tables)
 pub fn tables_with(intra_matrix: &[u8; 64], other_matrix: &[u8; 64]) -> Tables
     ensures { λ r. ⌜ r ≡ tablesWith (now («intra_matrix» .entry)) (now («other_matrix» .entry)) ⌝ }
 {
-    let mut tables = [0u16; 830];
+    let mut tables = [0u16; LENGTH];
     put_macroblock_codes(&mut tables);
     put_block_codes(&mut tables);
     put_matrices(&mut tables, intra_matrix, other_matrix);

@@ -5,13 +5,14 @@ use mathlib.Core.List.{List}
 use Prim.Native.Nat.{ℕ, _+_, _<_}
 use borrow.Author.Needs.{needs}
 use lib.ListN.{getD}
-use Rattle.codes.specs.Lent.{matrixOf}
+use Rattle.codes.specs.Lent.{matrixOf, intraMatrixAt, otherMatrixAt}
 use Rattle.codes.proofs.Parts.{matrix-at}
 use Rattle.codes.proofs.lent.entry.Statement.{statement}
 use Rattle.codes.proofs.lent.entry.Tie as tie
 
 -- the entry as the code reads it
-read-entry : (t : List ℕ) (intra t₀ : Bool) (place : ℕ) → intra ≡ t₀ → place < 64 → getD t (cond t₀ 702 766 + place) 0 ≡ getD (matrixOf t intra) place 0
+read-entry : (t : List ℕ) (intra t₀ : Bool) (place : ℕ) → intra ≡ t₀ → place < 64
+    → getD t (cond t₀ intraMatrixAt otherMatrixAt + place) 0 ≡ getD (matrixOf t intra) place 0
 read-entry t intra t₀ place e h = sym (matrix-at t t₀ place h) ∙ ap (λ (b : Bool). getD (matrixOf t b) place 0) (sym e)
 
 returns : tie.Need-returns
@@ -27,10 +28,10 @@ entry-spec =
     (λ c. search needs)
     (λ c. search needs)
     (λ c. search needs)
-    (λ c. let s = c .before .before in omega (arith, s .pre .0 .bytes (702 + s .args .place) (omega arith)))
+    (λ c. let s = c .before .before in omega (arith, s .pre .0 .bytes (intraMatrixAt + s .args .place) (omega arith)))
     returns
     (λ c. search needs)
     (λ c. search needs)
     (λ c. search needs)
-    (λ c. let s = c .before .before in omega (arith, s .pre .0 .bytes (766 + s .args .place) (omega arith)))
+    (λ c. let s = c .before .before in omega (arith, s .pre .0 .bytes (otherMatrixAt + s .args .place) (omega arith)))
     returns-2)

@@ -87,9 +87,10 @@ loop-again c =
     let n = next c in
     let to : natAbs (getD (indices t) (place x) (pos 0)) ≡ e = ap natAbs (n .is) in
     let goes = ap (λ (z : ℤ). leZ z (pos 0)) (n .is) ∙ no-le (lit e) (lit 0) (omega (arith, n .further)) in
-    let start = x .before .before .before .before .args .reader in
+    let a = x .before .before .before .before .args in
+    let start = a .reader in
     let Going : ℕ → Type 0 = λ at.
-    Loops (length (indices t)) (walkTurn (indices t)) 0 (x .before .before .before .before .args .pair) (now (x .before .before .before .before .args .s)) (start .at .0) at
+    Loops (length (indices t)) (walkTurn (indices t)) 0 (a .pair) (now (a .s)) (start .at .0) at
     (x .read-bit .result .reader .at .0) (length t - 1 - at) in (
       x .read-bit .ensures .inside,
       n .inside,

@@ -2,13 +2,13 @@ use mathlib.Core.Path.{_≡_}
 use Prim.Native.Nat.{_+_, _-_, _*_, _≤_}
 use native.Mathlib.Omega.{arith}
 use borrow.Author.Needs.{needs}
-use Rattle.prediction.specs.Planes.{planeLength}
+use Rattle.prediction.specs.Planes.{planeLength, storesBytes}
 use Rattle.conversion.proofs.Planes.{plane-end}
 use Rattle.conversion.proofs.pictures.plane.Statement.{statement}
 use Rattle.conversion.proofs.pictures.plane.Tie as tie
 
 -- the plane ends within the stores
-ends : (c : tie.After-plane-length) → c .before .plane-start .result + c .plane-length .result ≤ 1152 * c .before .before .before .args .n
+ends : (c : tie.After-plane-length) → c .before .plane-start .result + c .plane-length .result ≤ storesBytes (c .before .before .before .args .n)
 ends c =
     let s = c .before .before .before in
     rw (c .before .plane-start .ensures, c .plane-length .ensures) (plane-end (s .args .q) (s .args .k) (s .args .n) (s .pre .0 .0))

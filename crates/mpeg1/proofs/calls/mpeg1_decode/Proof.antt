@@ -10,6 +10,7 @@ use Rattle.mpeg1.specs.Calls.{decodesIn}
 use Rattle.mpeg1.proofs.Answers.{decodes-1, decodes-2, told, decodes}
 use Rattle.mpeg1.proofs.calls.mpeg1_decode.Statement.{statement}
 use Rattle.mpeg1.proofs.calls.mpeg1_decode.Tie as tie
+use Rattle.bits.specs.Bounds.{longestStream}
 
 -- the memory that is lent
 abbrev lent : tie.Start → Memory
@@ -39,7 +40,7 @@ returns : tie.Need-returns
 returns c =
     let s = entry (c .before) in (
       decodes-1 (now (s .args .stream)) (now (s .args .store)) (lent s) (now (s .args .shown)) (now (s .args .time)) (c .if1 .taken),
-      λ i h. absurd (false≢true (sym (lt-leb (length (now (s .args .stream))) 16777216 (c .if1 .taken)) ∙ h)),
+      λ i h. absurd (false≢true (sym (lt-leb (length (now (s .args .stream))) longestStream (c .if1 .taken)) ∙ h)),
     )
 
 returns-2 : tie.Need-returns-2

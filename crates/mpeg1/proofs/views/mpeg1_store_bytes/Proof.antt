@@ -8,6 +8,7 @@ use lib.Dec.{leb}
 use Rattle.laws.proofs.Tests.{each}
 use Rattle.header.specs.Possible.{across}
 use Rattle.header.proofs.Sizing.{size-most}
+use Rattle.prediction.specs.Planes.{storesBytes}
 use Rattle.mpeg1.proofs.views.mpeg1_store_bytes.Statement.{statement}
 use Rattle.mpeg1.proofs.views.mpeg1_store_bytes.Tie as tie
 
@@ -35,7 +36,7 @@ mul-result c =
 
 returns-2 : tie.Need-returns-2
 returns-2 c =
-    rw (not-false (inside (c .before .before)) (c .before .if1 .left)) (ap (λ z. 1152 * z .«mb_size») (c .sizes-of .ensures))
+    rw (not-false (inside (c .before .before)) (c .before .if1 .left)) (ap (λ z. storesBytes (z .«mb_size»)) (c .sizes-of .ensures))
 
 pub mpeg1-store-bytes-spec : {M : Type 1} → statement M
 mpeg1-store-bytes-spec = tie.close (tie.spec returns sizes-of-requires mul-result returns-2)

@@ -7,6 +7,7 @@ use borrow.Author.Tests.{eq-eqb, ne-eqb, le-leb, lt-leb}
 use denote.Ref.{now}
 use lib.Dec.{eqb}
 use lib.ListN.{length}
+use Rattle.bits.specs.Bounds.{longestStream}
 use Rattle.bits.specs.Programs.{run}
 use Rattle.codes.specs.Codes.{dctCoeff, macroblockAddressIncrement}
 use Rattle.codes.specs.Lent.{Lent}
@@ -17,14 +18,14 @@ use Rattle.pace.proofs.sum.mpeg1_code_sum.Statement.{statement}
 use Rattle.pace.proofs.sum.mpeg1_code_sum.Tie as tie
 
 module _ (s : List ℕ) (table count : ℕ) where
-  long-sum : 16777216 < length s → 0 ≡ codeSum s table count
+  long-sum : longestStream < length s → 0 ≡ codeSum s table count
   unfolding codeSum
-  long-sum h = rw (lt-leb (length s) 16777216 h) refl
+  long-sum h = rw (lt-leb (length s) longestStream h) refl
 
-  short-sum : (b : Bool) → length s ≤ 16777216 → eqb table 0 ≡ b
+  short-sum : (b : Bool) → length s ≤ longestStream → eqb table 0 ≡ b
       → run (summed (cond b dctCoeff macroblockAddressIncrement) count 0) s 0 .value ≡ codeSum s table count
   unfolding codeSum
-  short-sum b h e = rw (le-leb (length s) 16777216 h, e) refl
+  short-sum b h e = rw (le-leb (length s) longestStream h, e) refl
 
 -- where the tables are made
 abbrev begun : tie.After-tables-with → tie.Start
@@ -34,7 +35,7 @@ lent : (t : tie.After-tables-with) → Lent (t .tables-with .result)
 unfolding intraQuantMatrix nonIntraQuantMatrix
 lent t = subst Lent (sym (t .tables-with .ensures)) lent-default
 
-short : (t : tie.After-tables-with) → length (now (begun t .args .s)) ≤ 16777216
+short : (t : tie.After-tables-with) → length (now (begun t .args .s)) ≤ longestStream
 short t = t .before .before .before .if1 .left
 
 returns-2 : tie.Need-returns-2

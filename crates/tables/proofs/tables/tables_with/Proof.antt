@@ -6,16 +6,16 @@ use denote.Ref.{now}
 use borrow.Author.Needs.{needs}
 use lib.ListN.{length, replicate}
 use lib.Seq.{paste}
-use Rattle.codes.specs.Lent.{macroblockCodes, blockCodes, fixedTables}
+use Rattle.codes.specs.Lent.{macroblockCodes, blockCodes, fixedTables, intraMatrixAt, otherMatrixAt, tablesLength}
 use Rattle.tables.proofs.Made.{Front, front-none, front-on, front-all, macroblock-codes-length, block-codes-length}
 use Rattle.tables.proofs.tables.tables_with.Statement.{statement}
 use Rattle.tables.proofs.tables.tables_with.Tie as tie
 
 -- the array behind the two parts
-fixed : (c : tie.After-put-block-codes) → Front (c .put-block-codes .last .0) 702 (macroblockCodes ++ blockCodes)
+fixed : (c : tie.After-put-block-codes) → Front (c .put-block-codes .last .0) intraMatrixAt (macroblockCodes ++ blockCodes)
 fixed c =
     let m = c .before .before in
-    let f = front-on macroblockCodes 0 246 (front-none {t = replicate 830 0} refl) macroblock-codes-length tt macroblock-codes-length
+    let f = front-on macroblockCodes 0 246 (front-none {t = replicate tablesLength 0} refl) macroblock-codes-length tt macroblock-codes-length
     (m .put-macroblock-codes .ensures) in
     let behind : ℕ → List ℕ = λ k. paste (m .put-macroblock-codes .last .0) k blockCodes (length blockCodes) in
     front-on blockCodes 246 456 f block-codes-length tt block-codes-length (c .put-block-codes .ensures ∙ ap behind macroblock-codes-length)
@@ -33,8 +33,8 @@ returns c =
     let i = o .before in
     let laid = i .before .before in
     let a = laid .before .before .before .before .args in
-    let first = front-on (now (a .intra-matrix)) 702 64 (fixed laid) (i .put-matrices-arg .given .0) tt refl refl in
-    front-all (front-on (now (a .other-matrix)) 766 64 first (o .put-matrices-arg2 .given .0) tt refl (c .put-matrices .ensures))
+    let first = front-on (now (a .intra-matrix)) intraMatrixAt 64 (fixed laid) (i .put-matrices-arg .given .0) tt refl refl in
+    front-all (front-on (now (a .other-matrix)) otherMatrixAt 64 first (o .put-matrices-arg2 .given .0) tt refl (c .put-matrices .ensures))
 
 pub tables-with-spec : {M : Type 1} → statement M
 tables-with-spec = tie.close (tie.spec (λ c κs. search needs) (λ c κs. search needs) put-matrices-requires returns)

@@ -7,6 +7,7 @@ use mir.Syntax.{w32}
 use mir.ValLaws.{toZ-pos}
 use denote.Ref.{now}
 use borrow.Author.Needs.{needs}
+use Rattle.bits.specs.Bounds.{longestStream}
 use Rattle.bits.specs.Bits.{codeFrom}
 use Rattle.bits.proofs.Rules.{is-start, reading}
 use Rattle.bits.proofs.Start.{found-by, found-here, found-end, found-on-by-one}
@@ -14,7 +15,7 @@ use Rattle.bits.proofs.reader.Reader.next_start_code.Statement.{stateme
 use Rattle.bits.proofs.reader.Reader.next_start_code.Tie as tie
 
 abbrev Inv-loop : tie.InvT-loop
-Inv-loop s b₀ b = (b ≤ 16777216) × (codeFrom s b₀ (length s - 4 - b₀) ≡ codeFrom s b (length s - 4 - b))
+Inv-loop s b₀ b = (b ≤ longestStream) × (codeFrom s b₀ (length s - 4 - b₀) ≡ codeFrom s b (length s - 4 - b))
 
 abbrev μ-loop : tie.MeasureT-loop
 μ-loop s b₀ b = length s - b

@@ -5,13 +5,14 @@ use native.Mathlib.Omega.{arith}
 use lib.ListN.{length}
 use denote.Ref.{now}
 use borrow.Author.Needs.{needs}
+use Rattle.bits.specs.Bounds.{longestStream}
 use Rattle.bits.specs.Bits.{equalBytes, boundary}
 use Rattle.bits.proofs.WholeBytes.{equal-on, equal-off, equal-end}
 use Rattle.bits.proofs.reader.Reader.skip_bytes.Statement.{statement}
 use Rattle.bits.proofs.reader.Reader.skip_bytes.Tie as tie
 
 abbrev Inv-loop : tie.InvT-loop
-Inv-loop s v from b₀ b = (from ≤ b) × (b ≤ 16777216) × (equalBytes s v from (length s - from) ≡ b - from + equalBytes s v b (length s - b))
+Inv-loop s v from b₀ b = (from ≤ b) × (b ≤ longestStream) × (equalBytes s v from (length s - from) ≡ b - from + equalBytes s v b (length s - b))
 
 abbrev μ-loop : tie.MeasureT-loop
 μ-loop s v from b₀ b = length s - b
