@@ -88,8 +88,8 @@ fn rows(stream: &Value) -> Value {
 
 // A run of a picture from the beginning of a stream.
 fn run(given: &[Value], stream: &Value) -> Value {
-    let [sizes, matrices, state, store] = given else { panic!("a picture has sizes, matrices, state and store") };
-    let (stores, left, at) = picture(sizes, matrices, state, &store.bytes(), &stream.bytes());
+    let [sizes, matrices, frame] = given else { panic!("a picture has sizes, matrices and a frame") };
+    let (stores, left, at) = picture(sizes, matrices, frame, &stream.bytes());
     let stores = bytes(&stores);
     let value = if left == 0 { made("on", [record([("store", stores)])]) } else { made("out", [number(left), stores]) };
     record([("value", value), ("at", number(at))])
@@ -121,6 +121,7 @@ fn meaning(name: &str, given: Vec<Value>) -> Value {
         ("rows", [Value::Made(_, given)]) => rows(&given[0]),
         ("run", [Value::Made(_, given), stream, Value::Number(0)]) => run(given, stream),
         ("storeOf", [way]) => store_of(way),
+        ("P.frame", [picture, left, store]) => record([("picture", picture.clone()), ("block_data", left.clone()), ("store", store.clone())]),
         ("binary64" | "true" | "false" | "success" | "picture" | "number" | "line" | "out" | "P.picture" | "decoded", _) => made(name, given),
         _ => panic!("no meaning is known of {name}, applied to {} values", given.len()),
     }

@@ -57,10 +57,11 @@ fn numbers<T: TryFrom<i64>, const N: usize>(value: &Value) -> [T; N] {
 }
 
 // A decoder whose sizes, matrices and state are those of a theorem (records of crates/picture), before a picture's header.
-fn before_picture(sizes: &Value, matrices: &Value, state: &Value, store: &[u8], stream: &[u8]) -> Video {
+fn before_picture(sizes: &Value, matrices: &Value, frame: &Value, stream: &[u8]) -> Video {
     let place = Place { across: sizes.field("mb_width").number() as usize, down: sizes.field("mb_height").number() as usize, row: 0, column: 0 };
+    let state = frame.field("picture");
     let (stores, slice) = (state.field("stores"), state.field("slice"));
-    let mut video = video_at(place, store);
+    let mut video = video_at(place, &frame.field("store").bytes());
     video.buffer = Buffer::new(stream.to_vec());
     video.intra_quant_matrix = numbers(matrices.field("intra_quant_matrix"));
     video.non_intra_quant_matrix = numbers(matrices.field("non_intra_quant_matrix"));
@@ -72,13 +73,13 @@ fn before_picture(sizes: &Value, matrices: &Value, state: &Value, store: &[u8], 
     video.motion_forward = motion(slice.field("motion_forward"));
     video.motion_backward = motion(slice.field("motion_backward"));
     video.dc_predictor = numbers(slice.field("dc_predictor"));
-    video.block_data = numbers(slice.field("block_data"));
+    video.block_data = numbers(frame.field("block_data"));
     video
 }
 
 // The stores after a picture, the number 8 or 9 by which it was left or 0, and the place there in bits.
-pub fn picture(sizes: &Value, matrices: &Value, state: &Value, store: &[u8], stream: &[u8]) -> (Vec<u8>, u32, usize) {
-    let (video, number) = ended(|| before_picture(sizes, matrices, state, store, stream), |video| video.decode_picture());
+pub fn picture(sizes: &Value, matrices: &Value, frame: &Value, stream: &[u8]) -> (Vec<u8>, u32, usize) {
+    let (video, number) = ended(|| before_picture(sizes, matrices, frame, stream), |video| video.decode_picture());
     let left = (0..=stream.len() * 8).rev().find(|&n| video.buffer.has(n)).unwrap();
     (stores_of(&video), number, stream.len() * 8 - left)
 }

@@ -18,21 +18,20 @@ use Rattle.codes.specs.Lent.{matrixOf}
 use Rattle.coefficients.specs.declared.block.BlockEnd.{BlockEnd}
 use Rattle.coefficients.specs.declared.block.BlockEnd.the-variants.{Whole, Dropped, Outside}
 use Rattle.coefficients.specs.declared.quantiser.Quantiser.{Quantiser}
-use Rattle.coefficients.specs.Dequantise.{quantiser}
 use Rattle.coefficients.specs.Blocks.{Filled, Read, block, leftOver}
 use Rattle.coefficients.proofs.block.BlockEnd.{the-type}
 use Rattle.coefficients.proofs.Kept.{Kept, block-gives}
-use Rattle.picture.specs.declared.state.Setting.{Setting}
-use Rattle.picture.specs.declared.state.SliceState.{SliceState}
+use Rattle.picture.specs.declared.state.Context.{Context}
+use Rattle.picture.specs.declared.state.Slice.{Slice}
 use Rattle.picture.specs.State.{world}
 use Rattle.picture.specs.Ways.{on, out}
-use Rattle.picture.specs.Blocks.{predictorOf, behind, written, blockEnd, matrixFor, oneBlock}
-use Rattle.picture.specs.Views.{given, sliceOf, worldOf, blockOf, predictorAs, inStore, storeAfter, Ready, Went}
+use Rattle.picture.specs.Blocks.{predictorOf, predictorAs, quantiserOf, written, blockEnd, matrixFor, oneBlock}
+use Rattle.picture.specs.Views.{matricesIn, blockOf, storeAfter, Ready, Went}
 use Rattle.picture.proofs.Ways.{r-plain}
 use Rattle.picture.proofs.Ready.{ready-block, ready-outside}
 
 -- a block with an end other than the first of the three is not written, and leaves its coefficients over
-pub not-whole : (g : Setting) (q : Quantiser) (number address : ℕ) (f : Filled) (p : ℤ) (e : BlockEnd) (l : List ℕ)
+pub not-whole : (g : Context) (q : Quantiser) (number address : ℕ) (f : Filled) (p : ℤ) (e : BlockEnd) (l : List ℕ)
     → OneOf (1 ∷ 2 ∷ []) (tagOf the-type e) → let r : Read = record { filled = f; predictor = p; end = e } in
     (l ≡ storeAfter g q number address r l) × (f .coefficients ≡ leftOver q r)
 unfolding storeAfter leftOver
@@ -41,30 +40,30 @@ not-whole g q number address f p Dropped l k = (refl, refl)
 not-whole g q number address f p Outside l k = (refl, refl)
 
 -- the matrix of a kind of blocks is the one among the tables
-matrix-for : (g : Setting) (t : List ℕ) (intra : Bool) → matrixFor (given g t) intra ≡ matrixOf t intra
-matrix-for g t true = refl
-matrix-for g t false = refl
+matrix-for : (t : List ℕ) (intra : Bool) → matrixFor (matricesIn t) intra ≡ matrixOf t intra
+matrix-for t true = refl
+matrix-for t false = refl
 
-module _ (g : Setting) (t : List ℕ) (intra : Bool) (number : ℕ) (x : SliceState) (left : List ℤ) (store : List ℕ) where
+module _ (g : Context) (t : List ℕ) (intra : Bool) (number : ℕ) (x : Slice) (left : List ℤ) (store : List ℕ) where
   abbrev q : Quantiser
-  q = quantiser intra (x .«quantizer_scale»)
+  q = quantiserOf g intra x
 
   -- the end of a block other than one outside
   on-end : (r : Read) → OneOf (0 ∷ 1 ∷ []) (tagOf the-type (r .end))
-      → blockEnd (given g t) q number (worldOf x left store) r
-      ≡ on (world (behind q number r (sliceOf x left)) (storeAfter g q number (natAbs (x .«macroblock_address»)) r store))
-  unfolding blockEnd storeAfter written inStore
+      → blockEnd g q number (world x left store) r
+      ≡ on (world (predictorAs number (r .predictor) x) (leftOver q r) (storeAfter g q number (natAbs (x .«macroblock_address»)) r store))
+  unfolding blockEnd storeAfter written
   on-end r k = go (r .end) k
     where
       go : (e : BlockEnd) → OneOf (0 ∷ 1 ∷ []) (tagOf the-type e)
           → let r₁ : Read = record { filled = r .filled; predictor = r .predictor; end = e } in
-          blockEnd (given g t) q number (worldOf x left store) r₁
-          ≡ on (world (behind q number r₁ (sliceOf x left)) (storeAfter g q number (natAbs (x .«macroblock_address»)) r₁ store))
+          blockEnd g q number (world x left store) r₁
+          ≡ on (world (predictorAs number (r .predictor) x) (leftOver q r₁) (storeAfter g q number (natAbs (x .«macroblock_address»)) r₁ store))
       go Whole k = refl
       go Dropped k = refl
       go Outside k = let z : ⊥ = ⊎-elim (λ h. omega arith) (λ h. omega arith) k in absurd z
 
-  out-end : (r : Read) → r .end ≡ Outside → blockEnd (given g t) q number (worldOf x left store) r ≡ out 8 store
+  out-end : (r : Read) → r .end ≡ Outside → blockEnd g q number (world x left store) r ≡ out 8 store
   unfolding blockEnd
   out-end r k = rw k
 
@@ -76,22 +75,22 @@ module _ (g : Setting) (t : List ℕ) (intra : Bool) (number : ℕ) (x : SliceSt
     kept =
         let k = ready .reads .slice in
         given-by
-        (block-gives q₁ (matrixOf t (q₁ .intra)) p left (rw is (k .predictors (predictorOf number) (omega arith))) (k .block) (ltb number 4))
+        (block-gives q₁ (matrixOf t (q₁ .intra)) p left (rw is (k .predictors (predictorOf number) (omega arith))) (ready .reads .block) (ltb number 4))
         (reads .runs)
 
-    block-of : Runs (blockOf (given g t) intra number (sliceOf x left)) s (from .at .0) r (to .at .0)
-    block-of = rw (matrix-for g t intra, ← is) (rw same at (reads .runs))
+    block-of : Runs (blockOf g (matricesIn t) intra number x left) s (from .at .0) r (to .at .0)
+    block-of = rw (matrix-for t intra, ← is) (rw same at (reads .runs))
 
     pub block-out : r .end ≡ Outside
-        → Went (oneBlock (given g t) intra number (worldOf x left store)) g s from (record { reader = to; state = x; stop = 8 }) (r .filled .coefficients)
+        → Went (oneBlock g (matricesIn t) intra number (world x left store)) g s from (record { reader = to; state = x; stop = 8 }) (r .filled .coefficients)
         store
     unfolding oneBlock
     block-out k = record { runs = r-plain _ block-of (rw (out-end r k) r-done); ready = ready-outside ready (reads .inside) (kept .bounded) }
 
-    pub block-on : {store₁ : List ℕ} {left₁ : List ℤ} {y : SliceState} → OneOf (0 ∷ 1 ∷ []) (tagOf the-type (r .end))
+    pub block-on : {store₁ : List ℕ} {left₁ : List ℤ} {y : Slice} → OneOf (0 ∷ 1 ∷ []) (tagOf the-type (r .end))
         → store₁ ≡ storeAfter g q₁ number (natAbs (x .«macroblock_address»)) r store → left₁ ≡ leftOver q₁ r
         → y ≡ predictorAs number (r .predictor) x → length store₁ ≡ length store
-        → Went (oneBlock (given g t) intra number (worldOf x left store)) g s from (record { reader = to; state = y; stop = 0 }) left₁ store₁
+        → Went (oneBlock g (matricesIn t) intra number (world x left store)) g s from (record { reader = to; state = y; stop = 0 }) left₁ store₁
     unfolding oneBlock
     block-on k u l y e =
         record {

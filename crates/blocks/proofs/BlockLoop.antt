@@ -10,55 +10,55 @@ use Rattle.bits.specs.declared.reader.Reader.{Reader}
 use Rattle.bits.specs.Runs.{Runs}
 use Rattle.bits.specs.Programs.{Prog}
 use Rattle.bits.proofs.Rules.{r-yes, r-no, r-done}
-use Rattle.picture.specs.State.{World}
+use Rattle.picture.specs.State.{World, world}
 use Rattle.picture.specs.Ways.{Way, on, onward}
 use Rattle.picture.specs.Heads.{flag}
 use Rattle.picture.specs.Blocks.{oneBlock, lastBlocks, blocks}
-use Rattle.picture.specs.declared.state.SliceState.{SliceState}
+use Rattle.picture.specs.declared.state.Slice.{Slice}
 use Rattle.picture.specs.declared.state.Progress.{Progress}
-use Rattle.picture.specs.Views.{given, worldOf, patternBlock, Ready, Went}
+use Rattle.picture.specs.Views.{matricesIn, patternBlock, Ready, Went}
 use Rattle.picture.proofs.Ways.{Follows, f-start, f-end, f-onward, f-leave, way-out}
 use Rattle.blocks.specs.declared.blocks.CodedBlocks.{CodedBlocks}
 
 -- a macroblock's blocks, the last n of them, and the one with this number
 abbrev all : CodedBlocks → List ℕ → World → Prog (Way World)
-all c t w = blocks (given (c .setting) t) (c .intra) (c .pattern) w
+all c t w = blocks (c .context) (matricesIn t) (c .intra) (c .pattern) w
 
 abbrev last : CodedBlocks → List ℕ → ℕ → World → Prog (Way World)
-last c t n w = lastBlocks (given (c .setting) t) (c .intra) (c .pattern) n w
+last c t n w = lastBlocks (c .context) (matricesIn t) (c .intra) (c .pattern) n w
 
 abbrev numbered : CodedBlocks → List ℕ → ℕ → World → Prog (Way World)
-numbered c t number w = patternBlock (given (c .setting) t) (c .intra) (c .pattern) (2 ^ (5 - number)) number w
+numbered c t number w = patternBlock (c .context) (matricesIn t) (c .intra) (c .pattern) (2 ^ (5 - number)) number w
 
 -- a block whose bit is not in the pattern, and one whose bit is
-module _ (c : CodedBlocks) (t : List ℕ) (number : ℕ) (x : SliceState) (left : List ℤ) (store : List ℕ) {s : List ℕ} {from : Reader} where
-  pub bit-no : flag (c .pattern) (2 ^ (5 - number)) ≡ false → Ready (c .setting) s from x left store
-      → Went (numbered c t number (worldOf x left store)) (c .setting) s from (record { reader = from; state = x; stop = 0 }) left store
+module _ (c : CodedBlocks) (t : List ℕ) (number : ℕ) (x : Slice) (left : List ℤ) (store : List ℕ) {s : List ℕ} {from : Reader} where
+  pub bit-no : flag (c .pattern) (2 ^ (5 - number)) ≡ false → Ready (c .context) s from x left store
+      → Went (numbered c t number (world x left store)) (c .context) s from (record { reader = from; state = x; stop = 0 }) left store
   bit-no h k = record { runs = r-no _ h r-done; ready = k }
 
   pub bit-yes : {r : Progress} {left₁ : List ℤ} {store₁ : List ℕ} → flag (c .pattern) (2 ^ (5 - number)) ≡ true
-      → Went (oneBlock (given (c .setting) t) (c .intra) number (worldOf x left store)) (c .setting) s from r left₁ store₁
-      → Went (numbered c t number (worldOf x left store)) (c .setting) s from r left₁ store₁
+      → Went (oneBlock (c .context) (matricesIn t) (c .intra) number (world x left store)) (c .context) s from r left₁ store₁
+      → Went (numbered c t number (world x left store)) (c .context) s from r left₁ store₁
   bit-yes h w = record { runs = r-yes _ h (w .runs); ready = w .ready }
 
 -- before the block with this number, in the state x, `left`, `store` at `from`; the loop began in w₀ at from₀
 pub record AtBlock (c : CodedBlocks) (t : List ℕ) (s : List ℕ) (from₀ : Reader) (w₀ : World)
-    (from : Reader) (x : SliceState) (left : List ℤ) (store : List ℕ) (number : ℕ) : Type 0 where
+    (from : Reader) (x : Slice) (left : List ℤ) (store : List ℕ) (number : ℕ) : Type 0 where
   pub few : number ≤ 6
-  pub ready : Ready (c .setting) s from x left store
+  pub ready : Ready (c .context) s from x left store
   pub long : length store ≡ length (w₀ .store)
-  pub rest : Follows (all c t w₀) s (from₀ .at .0) (last c t (6 - number) (worldOf x left store)) (from .at .0)
+  pub rest : Follows (all c t w₀) s (from₀ .at .0) (last c t (6 - number) (world x left store)) (from .at .0)
 
-pub at-first : {c : CodedBlocks} {t : List ℕ} {s : List ℕ} {from : Reader} {x : SliceState} {left : List ℤ} {store : List ℕ}
-    → Ready (c .setting) s from x left store → AtBlock c t s from (worldOf x left store) from x left store 0
+pub at-first : {c : CodedBlocks} {t : List ℕ} {s : List ℕ} {from : Reader} {x : Slice} {left : List ℤ} {store : List ℕ}
+    → Ready (c .context) s from x left store → AtBlock c t s from (world x left store) from x left store 0
 unfolding blocks
 at-first k = record { few = omega arith; ready = k; long = refl; rest = f-start }
 
-module _ {c : CodedBlocks} {t : List ℕ} {s : List ℕ} {from₀ : Reader} {w₀ : World} {from : Reader} {x : SliceState} {left : List ℤ}
+module _ {c : CodedBlocks} {t : List ℕ} {s : List ℕ} {from₀ : Reader} {w₀ : World} {from : Reader} {x : Slice} {left : List ℤ}
     {store : List ℕ} {number : ℕ} (i : AtBlock c t s from₀ w₀ from x left store number) where
   -- the program's next block
   next : number < 6
-      → Follows (all c t w₀) s (from₀ .at .0) (onward (numbered c t number (worldOf x left store)) (last c t (5 - number))) (from .at .0)
+      → Follows (all c t w₀) s (from₀ .at .0) (onward (numbered c t number (world x left store)) (last c t (5 - number))) (from .at .0)
   unfolding lastBlocks
   next h =
       let e : 6 - number ≡ suc (5 - number) = omega arith in
@@ -66,7 +66,7 @@ module _ {c : CodedBlocks} {t : List ℕ} {s : List ℕ} {from₀ : Reader} {w�
       rw (e, n) at (i .rest)
 
   module _ (h : number < 6) {r : Progress} {left₁ : List ℤ} {store₁ : List ℕ}
-      (w : Went (numbered c t number (worldOf x left store)) (c .setting) s from r left₁ store₁) where
+      (w : Went (numbered c t number (world x left store)) (c .context) s from r left₁ store₁) where
     -- a turn that goes on
     pub at-next : r .stop ≡ 0 → length store₁ ≡ length store → AtBlock c t s from₀ w₀ (r .reader) (r .state) left₁ store₁ (number + 1)
     at-next z e =
@@ -74,12 +74,12 @@ module _ {c : CodedBlocks} {t : List ℕ} {s : List ℕ} {from₀ : Reader} {w�
         record { few = omega arith; ready = w .ready; long = e ∙ i .long; rest = rw n (f-onward _ (next h) (rw z at (w .runs))) }
 
     -- one that leaves
-    pub at-stop : (r .stop ≡ 0 → ⊥) → Went (all c t w₀) (c .setting) s from₀ r left₁ store₁
+    pub at-stop : (r .stop ≡ 0 → ⊥) → Went (all c t w₀) (c .context) s from₀ r left₁ store₁
     at-stop z =
-        let e = way-out (worldOf (r .state) left₁ store₁) store₁ z in
+        let e = way-out (world (r .state) left₁ store₁) store₁ z in
         record { runs = rw e (f-leave _ (next h) (rw e at (w .runs))); ready = w .ready }
 
   -- and the end
-  pub at-end : 6 ≤ number → Runs (all c t w₀) s (from₀ .at .0) (on (worldOf x left store)) (from .at .0)
+  pub at-end : 6 ≤ number → Runs (all c t w₀) s (from₀ .at .0) (on (world x left store)) (from .at .0)
   unfolding lastBlocks
   at-end h = let e : 6 - number ≡ 0 = omega arith in f-end (rw e at (i .rest)) r-done

@@ -16,16 +16,16 @@ use Rattle.prediction.specs.Predict.{macroblockAt}
 use Rattle.prediction.specs.Planes.{macroblocks, planeOf, planeLength, planeStart, storesBytes}
 use Rattle.prediction.specs.Writers.{blockWidth, blockPlace}
 use Rattle.prediction.proofs.Macroblocks.{store-most}
-use Rattle.picture.specs.Blocks.{results}
-use Rattle.picture.specs.declared.state.Setting.{Setting}
-use Rattle.picture.specs.Views.{Held, inStore}
+use Rattle.picture.specs.Blocks.{results, written}
+use Rattle.picture.specs.declared.state.Context.{Context}
+use Rattle.picture.specs.Views.{Held}
 
 plane-end : (k n : ℕ) (p : Plane) → k < 3 → planeStart k p n + planeLength p n ≤ storesBytes n
 plane-end k n Y h = omega (arith, store-most k n h)
 plane-end k n Cr h = omega (arith, store-most k n h)
 plane-end k n Cb h = omega (arith, store-most k n h)
 
-module _ {g : Setting} {l : List ℕ} (k : Held g l) where
+module _ {g : Context} {l : List ℕ} (k : Held g l) where
   pub size-most : g .sizes .«mb_size» ≤ 65536
   size-most = omega (arith, k .size, mul-le-mul (k .across) (k .down))
 
@@ -51,8 +51,8 @@ module _ {g : Setting} {l : List ℕ} (k : Held g l) where
 
     pub in-store : di ≡ blockPlace m number → (q : Quantiser) (f : Filled) {part : List ℕ}
         → part ≡ results q f di dw (midOf start (start + size - start) l)
-        → putMid start (start + size - start) l part ≡ inStore g q number address f l
-    unfolding inStore
+        → putMid start (start + size - start) l part ≡ written g q number address f l
+    unfolding written
     in-store is-place q f p =
         let e : start + size - start ≡ size = omega arith in
         rw (p, e, is-place, is-width, is-macroblock, is-start, is-size)

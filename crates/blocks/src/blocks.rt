@@ -6,19 +6,19 @@ use coefficients::block::BlockEnd;
 use coefficients::block::read_block;
 use coefficients::quantiser::Quantiser;
 use picture::flags::flag;
+use picture::state::Context;
 use picture::state::Progress;
-use picture::state::Setting;
-use picture::state::SliceState;
+use picture::state::Slice;
 ghost use mathlib.Core.Path.{_≡_};
 ghost use Prim.Native.Nat.{_-_, _^_, _<_};
 ghost use Rattle.codes.specs.Lent.{Lent};
-ghost use Rattle.coefficients.specs.Dequantise.{quantiser};
-ghost use Rattle.picture.specs.Blocks.{predictorOf, oneBlock, blocks};
-ghost use Rattle.picture.specs.Views.{given, worldOf, Ready, Went, patternBlock, predictorAs};
+ghost use Rattle.picture.specs.State.{world};
+ghost use Rattle.picture.specs.Blocks.{predictorOf, predictorAs, quantiserOf, oneBlock, blocks};
+ghost use Rattle.picture.specs.Views.{matricesIn, Ready, Went, patternBlock};
 
-// What the blocks of a macroblock have in common: the picture's setting, whether they are intra, and the pattern that names those there are.
+// What the blocks of a macroblock have in common: the picture's context, whether they are intra, and the pattern that names those there are.
 pub struct CodedBlocks {
-    pub setting: Setting,
+    pub context: Context,
     pub intra: bool,
     pub pattern: u32,
 }
@@ -34,7 +34,7 @@ fn predictor_of(number: usize) -> usize
 }
 
 // The state with another predictor of the block's plane.
-fn predicted(mut state: SliceState, number: usize, predictor: i32) -> SliceState
+fn predicted(mut state: Slice, number: usize, predictor: i32) -> Slice
     requires { ⌜ number < 6 ⌝ }
     ensures { λ r. ⌜ r ≡ predictorAs number predictor state ⌝ }
 {
@@ -46,11 +46,11 @@ fn predicted(mut state: SliceState, number: usize, predictor: i32) -> SliceState
 }
 
 // RULES 3.8: what makes coefficients of the levels of blocks that are intra or not.
-fn quantiser_of(intra: bool, state: SliceState) -> Quantiser
-    ensures { λ r. ⌜ r ≡ quantiser intra (state .«quantizer_scale») ⌝ }
+fn quantiser_of(coded: CodedBlocks, state: Slice) -> Quantiser
+    ensures { λ r. ⌜ r ≡ quantiserOf (coded .context) (coded .intra) state ⌝ }
 {
     Quantiser {
-        intra,
+        intra: coded.intra,
         scale: state.quantizer_scale,
     }
 }
@@ -63,18 +63,18 @@ fn one_block(
     values: &mut [i32; 64],
     tables: &Tables,
     coded: CodedBlocks,
-    state: SliceState,
+    state: Slice,
     number: usize,
 ) -> Progress
-    requires { ⌜ Ready (coded .setting) (now s) reader state (now values) (now store) ⌝ }
+    requires { ⌜ Ready (coded .context) (now s) reader state (now values) (now store) ⌝ }
     requires { ⌜ Lent (now tables) ⌝ }
     requires { ⌜ number < 6 ⌝ }
     ensures { λ r. ⌜
-        Went (oneBlock (given (coded .setting) (now (tables .entry))) (coded .intra) number (worldOf state (now (values .entry)) (now (store .entry))))
-        (coded .setting) (now (s .entry)) reader r (now (values .exit)) (now (store .exit))
+        Went (oneBlock (coded .context) (matricesIn (now (tables .entry))) (coded .intra) number (world state (now (values .entry)) (now (store .entry))))
+        (coded .context) (now (s .entry)) reader r (now (values .exit)) (now (store .exit))
         ⌝ }
 {
-    let q = quantiser_of(coded.intra, state);
+    let q = quantiser_of(coded, state);
     let dc = state.dc_predictor;
     let predictor = dc[predictor_of(number)];
     let r = read_block(s, reader, tables, values, q, number < 4, predictor);
@@ -87,7 +87,7 @@ fn one_block(
             stop: 8,
         };
     }
-    let g = coded.setting;
+    let g = coded.context;
     write_block(store, values, g, state.macroblock_address, number, q, r);
     let next = predicted(state, number, r.predictor);
     Progress {
@@ -114,16 +114,16 @@ fn block_of_pattern(
     values: &mut [i32; 64],
     tables: &Tables,
     coded: CodedBlocks,
-    state: SliceState,
+    state: Slice,
     number: usize,
 ) -> Progress
-    requires { ⌜ Ready (coded .setting) (now s) reader state (now values) (now store) ⌝ }
+    requires { ⌜ Ready (coded .context) (now s) reader state (now values) (now store) ⌝ }
     requires { ⌜ Lent (now tables) ⌝ }
     requires { ⌜ number < 6 ⌝ }
     ensures { λ r. ⌜
-        Went (patternBlock (given (coded .setting) (now (tables .entry))) (coded .intra) (coded .pattern) (2 ^ (5 - number)) number
-        (worldOf state (now (values .entry)) (now (store .entry))))
-        (coded .setting) (now (s .entry)) reader r (now (values .exit)) (now (store .exit))
+        Went (patternBlock (coded .context) (matricesIn (now (tables .entry))) (coded .intra) (coded .pattern) (2 ^ (5 - number)) number
+        (world state (now (values .entry)) (now (store .entry))))
+        (coded .context) (now (s .entry)) reader r (now (values .exit)) (now (store .exit))
         ⌝ }
 {
     if !flag(coded.pattern, weight_of(number)) {
@@ -144,14 +144,14 @@ pub fn read_blocks(
     values: &mut [i32; 64],
     tables: &Tables,
     coded: CodedBlocks,
-    before: SliceState,
+    before: Slice,
 ) -> Progress
-    requires { ⌜ Ready (coded .setting) (now s) reader before (now values) (now store) ⌝ }
+    requires { ⌜ Ready (coded .context) (now s) reader before (now values) (now store) ⌝ }
     requires { ⌜ Lent (now tables) ⌝ }
     ensures { λ r. ⌜
-        Went (blocks (given (coded .setting) (now (tables .entry))) (coded .intra) (coded .pattern)
-        (worldOf before (now (values .entry)) (now (store .entry))))
-        (coded .setting) (now (s .entry)) reader r (now (values .exit)) (now (store .exit))
+        Went (blocks (coded .context) (matricesIn (now (tables .entry))) (coded .intra) (coded .pattern)
+        (world before (now (values .entry)) (now (store .entry))))
+        (coded .context) (now (s .entry)) reader r (now (values .exit)) (now (store .exit))
         ⌝ }
 {
     let mut from = reader;

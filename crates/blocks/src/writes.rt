@@ -4,7 +4,7 @@ use coefficients::block::BlockEnd;
 use coefficients::block::left_over;
 use coefficients::quantiser::Quantiser;
 use laws::clamp_u8;
-use picture::state::Setting;
+use picture::state::Context;
 use prediction::place::macroblock_at;
 use prediction::planes::plane_length;
 use prediction::planes::plane_of;
@@ -23,8 +23,8 @@ ghost use lib.IntN.{natAbs};
 ghost use lib.ListN.{length};
 ghost use Rattle.codes.specs.Matrices.{Bounded};
 ghost use Rattle.coefficients.specs.Blocks.{filled, readOf, leftOver};
-ghost use Rattle.picture.specs.Blocks.{results};
-ghost use Rattle.picture.specs.Views.{Held, Here, inStore, storeAfter};
+ghost use Rattle.picture.specs.Blocks.{results, written};
+ghost use Rattle.picture.specs.Views.{Held, Here, storeAfter};
 
 // RULES 4.3, 6.13: the results of coefficients, n places of which are used, in a plane. The coefficients are used up.
 fn results(d: &mut [u8], di: usize, dw: usize, values: &mut [i32; 64], q: Quantiser, n: usize)
@@ -55,7 +55,7 @@ fn results(d: &mut [u8], di: usize, dw: usize, values: &mut [i32; 64], q: Quanti
 fn write_results(
     store: &mut [u8],
     values: &mut [i32; 64],
-    g: Setting,
+    g: Context,
     address: i32,
     number: usize,
     q: Quantiser,
@@ -65,7 +65,7 @@ fn write_results(
     requires { ⌜ Here g address ⌝ }
     requires { ⌜ Bounded (now values) ⌝ }
     ensures { λ _. ⌜
-        now (store .exit) ≡ inStore g q number (natAbs address) (filled (now (values .entry)) n) (now (store .entry))
+        now (store .exit) ≡ written g q number (natAbs address) (filled (now (values .entry)) n) (now (store .entry))
         ⌝ }
 {
     let m = macroblock_at(g.sizes.mb_width, g.sizes.mb_height, address as usize);
@@ -81,7 +81,7 @@ fn write_results(
 pub fn write_block(
     store: &mut [u8],
     values: &mut [i32; 64],
-    g: Setting,
+    g: Context,
     address: i32,
     number: usize,
     q: Quantiser,

@@ -68,4 +68,4 @@ scalarSum d =
     summed timed (flag (d .«has_reference_frame») ∷ d .«frames_decoded» ∷ d .stop ∷ [])
 
 unfoldable pub recordSum : Decoder → ℕ
-recordSum d = matrixSum (summedBelow (scalarSum d) (signedAt (d .picture .slice .«block_data»)) 64) (d .sequence .matrices)
+recordSum d = matrixSum (summedBelow (scalarSum d) (signedAt (d .«block_data»)) 64) (d .sequence .matrices)

@@ -46,7 +46,6 @@ sliceOf l = record {
   «motion_forward» = motionOf (part l 56 20);
   «motion_backward» = motionOf (part l 76 20);
   «dc_predictor» = integerAt l 96 ∷ integerAt l 100 ∷ integerAt l 104 ∷ [];
-  «block_data» = blockOf (part l 152 256);
 }
 
 unfoldable pub pictureOf : List ℕ → Picture
@@ -70,6 +69,7 @@ recordOf l = record {
   reader = record { at = record { 0 = numberAt l 0 } };
   sequence = sequenceOf l;
   picture = pictureOf l;
+  «block_data» = blockOf (part l 152 256);
   clock = clockOf l;
   «has_reference_frame» = flagAt l 140;
   «frames_decoded» = numberAt l 144;

@@ -161,9 +161,7 @@ fn sum_matrices(before: u64, m: Matrices) -> u64
 pub fn sum_record(d: Decoder) -> u64
     ensures { λ r. ⌜ r ≡ R.recordSum d ⌝ }
 {
-    let picture = d.picture;
-    let slice = picture.slice;
-    let left = slice.block_data;
+    let left = d.block_data;
     let sequence = d.sequence;
     let matrices = sequence.matrices;
     sum_matrices(sum_left(sum_scalars(d), &left), matrices)

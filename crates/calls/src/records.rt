@@ -96,14 +96,12 @@ fn slice_of(list: &[u8]) -> Slice
         signed_at(list, 100),
         signed_at(list, 104),
     ];
-    let block_data = block_of(part(list, 152, 256));
     Slice {
         quantizer_scale,
         macroblock_address,
         motion_forward,
         motion_backward,
         dc_predictor,
-        block_data,
     }
 }
 
@@ -149,6 +147,7 @@ pub fn record_of(list: &[u8]) -> Decoder
     let reader = Reader { at };
     let sequence = sequence_of(list);
     let picture = picture_of(list);
+    let block_data = block_of(part(list, 152, 256));
     let clock = clock_of(list);
     let has_reference_frame = flag_at(list, 140);
     let frames_decoded = number_at(list, 144);
@@ -157,6 +156,7 @@ pub fn record_of(list: &[u8]) -> Decoder
         reader,
         sequence,
         picture,
+        block_data,
         clock,
         has_reference_frame,
         frames_decoded,

@@ -13,10 +13,9 @@ use Rattle.bits.specs.declared.reader.Reader.{Reader}
 use Rattle.bits.specs.Programs.{Out, findStartCode}
 use Rattle.bits.specs.Runs.{Reading}
 use Rattle.codes.specs.Matrices.{bounded}
+use Rattle.codes.proofs.Bounds.{bounded-of}
 use Rattle.picture.specs.declared.state.Matrices.{Matrices}
-use Rattle.picture.specs.declared.state.PictureState.{PictureState}
 use Rattle.picture.specs.Possible.{between, possiblePicture}
-use Rattle.picture.specs.Views.{pictureOf}
 use Rattle.picture.proofs.Possible.{picture-of}
 use Rattle.header.specs.Possible.{possibleSequence}
 use Rattle.header.specs.Sequences.{Size, Rest}
@@ -26,7 +25,7 @@ use Rattle.decoder.specs.Record.{place, fresh, searchedAs, mostPictures}
 use Rattle.decoder.specs.Possible.{possible}
 use Rattle.decoder.specs.Headers.{sized, accepted}
 use Rattle.decoder.specs.Fit.{Fit}
-use Rattle.decoder.specs.State.{stateOf, stateOfPicture, FitState}
+use Rattle.decoder.specs.State.{stateOf, FitState}
 use Rattle.decoder.proofs.Searches.{Sought, hit, miss, sought}
 use Rattle.decoder.proofs.Starts.{fresh-starts}
 
@@ -34,26 +33,25 @@ use Rattle.decoder.proofs.Starts.{fresh-starts}
 
 -- its parts
 pub possible-parts : (d : Decoder) → possible d ≡ true
-    → (place d ≤ lastPosition) × (possibleSequence (d .sequence) ≡ true) × (possiblePicture (d .picture) ≡ true) × (d .«frames_decoded» ≤ mostPictures)
+    → (place d ≤ lastPosition) × (possibleSequence (d .sequence) ≡ true) × (possiblePicture (d .picture) ≡ true)
+    × (bounded (d .«block_data») ≡ true) × (d .«frames_decoded» ≤ mostPictures)
 unfolding possible
 possible-parts d e =
     let h = each (leb (place d) lastPosition)
-    (possibleSequence (d .sequence) ∷ possiblePicture (d .picture) ∷ leb (d .«frames_decoded») mostPictures ∷
+    (possibleSequence (d .sequence) ∷ possiblePicture (d .picture) ∷ bounded (d .«block_data») ∷ leb (d .«frames_decoded») mostPictures ∷
     (eqb (d .stop) 0 || eqb (d .stop) 8 || eqb (d .stop) 9) ∷ []) e in
-    (leb-true _ _ (h 0), h 1, h 2, leb-true _ _ (h 3))
+    (leb-true _ _ (h 0), h 1, h 2, h 3, leb-true _ _ (h 4))
 
--- the same, as the code joins them: the numbers before the rest, and the state of a picture apart from its coefficients
-numbers-first : (a f m q p : Bool) → (a && f && m && q && p) ≡ (a && q && p && f && m)
-numbers-first true f m q p = rw (and-assoc (f && m) q p, and-comm (f && m) (q && p), ← and-assoc (q && p) f m)
-numbers-first false f m q p = refl
+-- the same, as the code joins them: the numbers before the rest
+numbers-first : (a f m q p b : Bool) → (a && f && m && q && p && b) ≡ (a && q && p && b && f && m)
+numbers-first true f m q p b = rw (and-assoc (f && m) q p, and-assoc (f && m) (q && p) b, and-comm (f && m) (q && p && b), ← and-assoc (q && p && b) f m)
+numbers-first false f m q p b = refl
 
-pub possible-by : (d : Decoder) (p : Bool) {n q l : Bool} {x : PictureState}
+pub possible-by : (d : Decoder) {n q p b : Bool}
     → n ≡ (leb (place d) lastPosition && leb (d .«frames_decoded») mostPictures && (eqb (d .stop) 0 || eqb (d .stop) 8 || eqb (d .stop) 9))
-    → q ≡ possibleSequence (d .sequence) → x ≡ stateOfPicture (d .picture) → ((left : List ℤ) → (p && bounded left) ≡ possiblePicture (pictureOf x left))
-    → l ≡ bounded (d .picture .slice .«block_data») → (n && q && (p && l)) ≡ possible d
+    → q ≡ possibleSequence (d .sequence) → p ≡ possiblePicture (d .picture) → b ≡ bounded (d .«block_data») → (n && q && p && b) ≡ possible d
 unfolding possible
-possible-by d p numbers sequence is state left =
-    rw (numbers, sequence, left, state (d .picture .slice .«block_data»), is, numbers-first (leb (place d) lastPosition))
+possible-by d numbers sequence picture block = rw (numbers, sequence, picture, block, numbers-first (leb (place d) lastPosition))
 
 pub fit-of : {d : Decoder} → possible d ≡ true → Fit d
 fit-of {d} e =
@@ -68,11 +66,12 @@ fit-of {d} e =
       down = z .down;
       size = z .size;
       picture = picture-of (d .picture) (p .2);
-      count = p .3;
+      block = bounded-of (d .«block_data») (p .3);
+      count = p .4;
     }
 
 -- what pictures ask of it
-pub fit-state : {d : Decoder} (m : Matrices) → Fit d → FitState (d .sequence .sizes) m (stateOf d) (d .picture .slice .«block_data»)
+pub fit-state : {d : Decoder} (m : Matrices) → Fit d → FitState (d .sequence .sizes) m (stateOf d) (d .«block_data»)
 fit-state m f = record {
   place = f .place;
   wide = omega arith;
@@ -81,6 +80,7 @@ fit-state m f = record {
   down = f .down;
   size = f .size;
   picture = f .picture;
+  block = f .block;
   count = f .count;
 }
 
@@ -96,6 +96,7 @@ fit-fresh = record {
   down = omega arith;
   size = refl;
   picture = picture-of _ (fresh-starts .picture);
+  block = bounded-of _ (fresh-starts .block);
   count = omega arith;
 }
 
@@ -110,6 +111,7 @@ fit-sized z f e w h = record {
   down = f .down;
   size = f .size;
   picture = f .picture;
+  block = f .block;
   count = f .count;
 }
 
@@ -138,6 +140,7 @@ fit-accepted {d} v f e =
         };
         slice = f .picture .slice;
       };
+      block = f .block;
       count = f .count;
     }
 
@@ -152,6 +155,7 @@ module _ {d : Decoder} (c : ℤ) (b : between (negℤ (pos 1)) (pos 255) c ≡ t
     down = f .down;
     size = f .size;
     picture = record { type = f .picture .type; code = q; stores = f .picture .stores; slice = f .picture .slice };
+    block = f .block;
     count = f .count;
   }
 

@@ -77,12 +77,12 @@ begun-had b l h = rw h
 
 -- the turns from the record d on, its state taken out
 pub played : (s : List ℕ) (b d : Decoder) (l : List ℕ) {x : DecoderState} {l₁ : List ℕ} {e : Ended}
-    → e ≡ pictures s (going (decoderOf (d .sequence) (d .stop) x (d .picture .slice .«block_data»)) l₁) → x ≡ stateOf d → going d l₁ ≡ begun b d l
+    → e ≡ pictures s (going (decoderOf (d .sequence) (d .stop) x (d .«block_data»)) l₁) → x ≡ stateOf d → going d l₁ ≡ begun b d l
     → ended b e ≡ ended b (pictures s (begun b d l))
 played s b d l {x} {l₁} p q r =
     ap (ended b)
     (p
-    ∙ ap (λ (y : DecoderState). pictures s (going (decoderOf (d .sequence) (d .stop) y (d .picture .slice .«block_data»)) l₁)) q
+    ∙ ap (λ (y : DecoderState). pictures s (going (decoderOf (d .sequence) (d .stop) y (d .«block_data»)) l₁)) q
     ∙ ap (pictures s) r)
 
 -- RULES 8.14

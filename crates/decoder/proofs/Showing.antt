@@ -10,10 +10,10 @@ use Rattle.header.specs.declared.state.Sequence.{Sequence}
 use Rattle.decoder.specs.declared.record.Decoder.{Decoder}
 use Rattle.decoder.specs.declared.state.DecoderState.{DecoderState}
 use Rattle.decoder.specs.declared.turns.Turned.{Turned}
-use Rattle.decoder.specs.declared.answers.Outcome.the-variants.{Refused}
+use Rattle.decoder.specs.declared.answers.Outcome.the-variants.{Picture, Refused}
 use Rattle.decoder.specs.Record.{place, heldAs}
 use Rattle.decoder.specs.State.{decoderOf}
-use Rattle.decoder.specs.Turns.{Going, going, Ended, gave, hasEnded, isReference, pictureAt, handed, shown, flushed}
+use Rattle.decoder.specs.Turns.{Going, going, Ended, gave, hasEnded, isReference, told, handed, shown, flushed}
 use Rattle.decoder.specs.Turned.{Shows}
 
 -- an end of the turns
@@ -43,7 +43,7 @@ module _ (s : List ℕ) (d : Decoder) where
   flushes = d .«has_reference_frame» && hasEnded s (place d) && isReference d
 
   pub flush-yes : flushes ≡ true → (l : List ℕ)
-      → ends (gave (pictureAt (d .picture .stores .bwd) (d .clock .«last_frame_time»)) (heldAs false d) l) ≡ ends (flushed s d l)
+      → ends (gave (Picture (told (d .picture .stores .bwd) (heldAs false d))) (heldAs false d) l) ≡ ends (flushed s d l)
   unfolding flushed
   flush-yes e l = rw e
 

@@ -13,9 +13,10 @@ pub record Starts (d : Decoder) : Type 0 where
   pub unread : place d ≡ 0
   pub code : startCode d ≡ negsuc 0
   pub picture : possiblePicture (d .picture) ≡ true
+  pub block : bounded (d .«block_data») ≡ true
   pub none : d .«frames_decoded» ≡ 0
   pub mark : d .stop ≡ 0
 
 pub fresh-starts : Starts fresh
 unfolding fresh allBelow premultiplierMatrix bounded
-fresh-starts = record { unread = refl; code = refl; picture = refl; none = refl; mark = refl }
+fresh-starts = record { unread = refl; code = refl; picture = refl; block = refl; none = refl; mark = refl }

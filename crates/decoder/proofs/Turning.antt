@@ -4,7 +4,7 @@ use mathlib.Core.Bool.{true, false}
 use mathlib.Core.List.{List}
 use Prim.Native.Nat.{ℕ, zero, suc, _≤_, _<_}
 use lib.Dec.{eqb}
-use lib.IntN.{pos, negsuc}
+use lib.IntN.{ℤ, pos, negsuc}
 use lib.ListN.{length, getD}
 use Rattle.laws.specs.Turns.{Turn, again, stop}
 use Rattle.laws.proofs.Tests.{by-case}
@@ -12,6 +12,7 @@ use Rattle.bits.specs.Bounds.{longestStream, lastPosition}
 use Rattle.bits.specs.Programs.{Prog, run, eqZ, findStartCode}
 use Rattle.bits.specs.Runs.{Runs}
 use Rattle.bits.proofs.Programs.{run-most}
+use Rattle.codes.specs.Matrices.{Bounded}
 use Rattle.picture.specs.declared.state.Matrices.{Matrices}
 use Rattle.picture.specs.declared.state.Picture.{Picture}
 use Rattle.picture.specs.declared.state.Sizes.{Sizes}
@@ -25,7 +26,7 @@ use Rattle.header.specs.declared.state.Sequence.{Sequence}
 use Rattle.decoder.specs.declared.record.Decoder.{Decoder}
 use Rattle.decoder.specs.declared.turns.Turned.{Turned}
 use Rattle.decoder.specs.declared.answers.Outcome.the-variants.{Refused}
-use Rattle.decoder.specs.Record.{place, startCode, placeAs, pictureAs, heldAs}
+use Rattle.decoder.specs.Record.{place, startCode, pastFrame, frameOf, heldAs}
 use Rattle.decoder.specs.Fit.{Fit}
 use Rattle.decoder.specs.Turns.{Going, going, Ended, gave, isFollowed, nextPicture, shown, flushed, pastPicture, decoded, searched, pictureTurn}
 use Rattle.decoder.specs.Turned.{endOf}
@@ -34,8 +35,9 @@ use Rattle.decoder.proofs.Fits.{fit-found}
 
 -- ---- the picture
 
-fit-behind : {d : Decoder} {q : Picture} {e : ℕ} → Fit d → PossiblePicture q → e ≤ lastPosition → Fit (placeAs e (pictureAs q d))
-fit-behind f k h = record {
+fit-behind : {d : Decoder} (x : Frame) {e : ℕ} → Fit d → PossiblePicture (x .picture) → Bounded (x .«block_data») → e ≤ lastPosition
+    → Fit (pastFrame x e d)
+fit-behind x f k b h = record {
   place = h;
   wide = f .wide;
   high = f .high;
@@ -43,30 +45,31 @@ fit-behind f k h = record {
   down = f .down;
   size = f .size;
   picture = k;
+  block = b;
   count = f .count;
 }
 
 -- a picture of a sequence with these sizes and matrices
-pub runs-of : (q : Sequence) {z : Sizes} {m : Matrices} (p : Picture) (l : List ℕ) {s : List ℕ} {a e : ℕ} {v : Way Frame}
-    → q .sizes ≡ z → q .matrices ≡ m → Runs (picture z m p l) s a v e → Runs (picture (q .sizes) (q .matrices) p l) s a v e
-runs-of q p l f g r = rw (f, g) r
+pub runs-of : (q : Sequence) {z : Sizes} {m : Matrices} (x : Frame) {s : List ℕ} {a e : ℕ} {v : Way Frame}
+    → q .sizes ≡ z → q .matrices ≡ m → Runs (picture z m x) s a v e → Runs (picture (q .sizes) (q .matrices) x) s a v e
+runs-of q x f g r = rw (f, g) r
 
 -- the picture at the place of d, and the way that its run takes
 abbrev pictureAt : Decoder → List ℕ → Prog (Way Frame)
-pictureAt d l = picture (d .sequence .sizes) (d .sequence .matrices) (d .picture) l
+pictureAt d l = picture (d .sequence .sizes) (d .sequence .matrices) (frameOf d l)
 
-module _ (s : List ℕ) (d : Decoder) (l : List ℕ) (q : Picture) (m : List ℕ) {e : ℕ} (n : ℕ)
-    (r : Runs (pictureAt d l) s (place d) (way n (frame q m) m) e) where
+module _ (s : List ℕ) (d : Decoder) (l : List ℕ) (q : Picture) (c : List ℤ) (m : List ℕ) {e : ℕ} (n : ℕ)
+    (r : Runs (pictureAt d l) s (place d) (way n (frame q c m) m) e) where
   pub decoded-out : (n ≡ 0 → ⊥) → (t : Turned) (x : Decoder) → _≡_ {A = Turn Going Ended} (stop (endOf n t x m)) (decoded s d l)
   unfolding decoded pastPicture
   decoded-out g t x = go n g r
     where
-      go : (n : ℕ) → (n ≡ 0 → ⊥) → Runs (pictureAt d l) s (place d) (way n (frame q m) m) e
+      go : (n : ℕ) → (n ≡ 0 → ⊥) → Runs (pictureAt d l) s (place d) (way n (frame q c m) m) e
           → _≡_ {A = Turn Going Ended} (stop (endOf n t x m)) (pastPicture d (run (pictureAt d l) s (place d)))
       go zero g r = absurd (g refl)
       go (suc n) g r = rw (r .is)
 
-  pub decoded-on : n ≡ 0 → shown (placeAs e (pictureAs q d)) m ≡ decoded s d l
+  pub decoded-on : n ≡ 0 → shown (pastFrame (frame q c m) e d) m ≡ decoded s d l
   unfolding decoded pastPicture
   decoded-on h = let x = rw h at (r .is) in rw x
 
@@ -101,6 +104,7 @@ fit-held f = record {
   down = f .down;
   size = f .size;
   picture = f .picture;
+  block = f .block;
   count = f .count;
 }
 
@@ -113,7 +117,7 @@ shown-fits d l f =
 past-fits : (d : Decoder) (l : List ℕ) (w : Way Frame) (e : ℕ) → Fit d → Ends (length l) (StaysPossible l) w → e ≤ lastPosition
     → Follows (pastPicture d (record { value = w; at = e }))
 unfolding pastPicture
-past-fits d l (on x) e f k h = shown-fits (placeAs e (pictureAs (x .picture) d)) (x .store) (fit-behind f (picture-of (x .picture) (k .picture)) h)
+past-fits d l (on x) e f k h = shown-fits (pastFrame x e d) (x .store) (fit-behind x f (picture-of (x .picture) (k .picture)) (k .block) h)
 past-fits d l (out n m) e f k h = tt
 
 module _ (s : List ℕ) (short : length s ≤ longestStream) (bytes : (k : ℕ) → getD s k 0 < 256) where
@@ -122,8 +126,8 @@ module _ (s : List ℕ) (short : length s ≤ longestStream) (bytes : (k : ℕ) 
   decoded-fits d l f =
       let z = d .sequence .sizes in
       let m = d .sequence .matrices in
-      past-fits d l _ _ f (picture-kept z m (d .picture) l s (place d) (f .across) (f .down) (f .size) (picture-by (f .picture)) short bytes)
-      (run-most (picture z m (d .picture) l) s (place d) longestStream (f .place) short)
+      past-fits d l _ _ f (picture-kept z m (frameOf d l) s (place d) (f .across) (f .down) (f .size) (picture-by (f .picture)) (f .block) short bytes)
+      (run-most (picture z m (frameOf d l)) s (place d) longestStream (f .place) short)
 
   searched-fits : (d : Decoder) (l : List ℕ) → Fit d → Follows (searched s d l)
   unfolding searched

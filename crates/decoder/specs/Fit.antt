@@ -1,6 +1,7 @@
 -- What the internal functions ask of a record and give back: bounds that follow from question 2 (RULES Q2).
 use mathlib.Core.Path.{_≡_}
 use Prim.Native.Nat.{_*_, _≤_}
+use Rattle.codes.specs.Matrices.{Bounded}
 use Rattle.picture.specs.Possible.{PossiblePicture}
 use Rattle.decoder.specs.declared.record.Decoder.{Decoder}
 use Rattle.decoder.specs.Record.{place, mostPictures}
@@ -15,4 +16,5 @@ pub record Fit (d : Decoder) : Type 0 where
   pub down : d .sequence .sizes .«mb_height» ≤ 256
   pub size : d .sequence .sizes .«mb_size» ≡ d .sequence .sizes .«mb_width» * d .sequence .sizes .«mb_height»
   pub picture : PossiblePicture (d .picture)
+  pub block : Bounded (d .«block_data»)
   pub count : d .«frames_decoded» ≤ mostPictures

@@ -4,7 +4,8 @@ use mathlib.Core.List.{List}
 use Prim.Native.Nat.{ℕ, _*_}
 use lib.IntN.{ℤ}
 use Rattle.picture.specs.declared.state.Picture.{Picture}
-use Rattle.picture.specs.State.{startCodeAs, freshPicture}
+use Rattle.picture.specs.State.{startCodeAs, freshPicture, freshBlock}
+use Rattle.picture.specs.Pictures.{Frame, frame}
 use Rattle.header.specs.declared.state.Sequence.{Sequence}
 use Rattle.header.specs.State.{freshSequence, noTime}
 use Rattle.prediction.specs.Planes.{storesBytes}
@@ -28,6 +29,7 @@ fresh = record {
   reader = record { at = record { 0 = 0 } };
   sequence = freshSequence;
   picture = freshPicture;
+  «block_data» = freshBlock;
   clock = record { framerate = noTime; «pixel_aspect_ratio» = noTime; time = noTime; «last_frame_time» = noTime };
   «has_reference_frame» = false;
   «frames_decoded» = 0;
@@ -40,6 +42,7 @@ placeAs a d = record {
   reader = record { at = record { 0 = a } };
   sequence = d .sequence;
   picture = d .picture;
+  «block_data» = d .«block_data»;
   clock = d .clock;
   «has_reference_frame» = d .«has_reference_frame»;
   «frames_decoded» = d .«frames_decoded»;
@@ -51,17 +54,36 @@ pictureAs p d = record {
   reader = d .reader;
   sequence = d .sequence;
   picture = p;
+  «block_data» = d .«block_data»;
   clock = d .clock;
   «has_reference_frame» = d .«has_reference_frame»;
   «frames_decoded» = d .«frames_decoded»;
   stop = d .stop;
 }
 
+-- the left-over coefficients
+abbrev pub blockAs : List ℤ → Decoder → Decoder
+blockAs c d = record {
+  reader = d .reader;
+  sequence = d .sequence;
+  picture = d .picture;
+  «block_data» = c;
+  clock = d .clock;
+  «has_reference_frame» = d .«has_reference_frame»;
+  «frames_decoded» = d .«frames_decoded»;
+  stop = d .stop;
+}
+
+-- behind a picture that was read up to the place a
+abbrev pub pastFrame : Frame → ℕ → Decoder → Decoder
+pastFrame f a d = placeAs a (blockAs (f .«block_data») (pictureAs (f .picture) d))
+
 abbrev pub sequenceAs : Sequence → Decoder → Decoder
 sequenceAs q d = record {
   reader = d .reader;
   sequence = q;
   picture = d .picture;
+  «block_data» = d .«block_data»;
   clock = d .clock;
   «has_reference_frame» = d .«has_reference_frame»;
   «frames_decoded» = d .«frames_decoded»;
@@ -74,6 +96,7 @@ clockAs c n d = record {
   reader = d .reader;
   sequence = d .sequence;
   picture = d .picture;
+  «block_data» = d .«block_data»;
   clock = c;
   «has_reference_frame» = d .«has_reference_frame»;
   «frames_decoded» = n;
@@ -86,6 +109,7 @@ heldAs b d = record {
   reader = d .reader;
   sequence = d .sequence;
   picture = d .picture;
+  «block_data» = d .«block_data»;
   clock = d .clock;
   «has_reference_frame» = b;
   «frames_decoded» = d .«frames_decoded»;
@@ -98,6 +122,7 @@ stopAs n d = record {
   reader = d .reader;
   sequence = d .sequence;
   picture = d .picture;
+  «block_data» = d .«block_data»;
   clock = d .clock;
   «has_reference_frame» = d .«has_reference_frame»;
   «frames_decoded» = d .«frames_decoded»;
@@ -120,3 +145,7 @@ left x d l = record { answer = x; decoder = d; store = l }
 -- RULES 6.11: bytes of the three stores
 abbrev pub storeBytes : Decoder → ℕ
 storeBytes d = storesBytes (d .sequence .sizes .«mb_size»)
+
+-- what a picture changes: its state, the left-over coefficients and the store
+abbrev pub frameOf : Decoder → List ℕ → Frame
+frameOf d l = frame (d .picture) (d .«block_data») l

@@ -5,10 +5,7 @@ use mathlib.Core.List.{List}
 use Prim.Native.Nat.{ℕ}
 use lib.IntN.{ℤ}
 use Rattle.picture.specs.declared.state.Matrices.{Matrices}
-use Rattle.picture.specs.declared.state.Picture.{Picture}
-use Rattle.picture.specs.declared.state.PictureState.{PictureState}
 use Rattle.picture.specs.declared.state.Sizes.{Sizes}
-use Rattle.picture.specs.Views as Views
 use Rattle.header.specs.declared.state.Sequence.{Sequence}
 use Rattle.decoder.specs.declared.record.Decoder.{Decoder}
 use Rattle.decoder.specs.declared.state.DecoderState.{DecoderState}
@@ -19,26 +16,19 @@ abbrev pub decoderOf : Sequence → ℕ → DecoderState → List ℤ → Decode
 decoderOf q mark x left = record {
   reader = x .reader;
   sequence = q;
-  picture = Views.pictureOf (x .picture) left;
+  picture = x .picture;
+  «block_data» = left;
   clock = x .clock;
   «has_reference_frame» = x .«has_reference_frame»;
   «frames_decoded» = x .«frames_decoded»;
   stop = mark;
 }
 
--- the other way: the state of a picture, and of the record's pictures
-abbrev pub stateOfPicture : Picture → PictureState
-stateOfPicture p = record {
-  «picture_type» = p .«picture_type»;
-  «start_code» = p .«start_code»;
-  stores = p .stores;
-  slice = Views.stateOf (p .slice);
-}
-
+-- the other way
 abbrev pub stateOf : Decoder → DecoderState
 stateOf d = record {
   reader = d .reader;
-  picture = stateOfPicture (d .picture);
+  picture = d .picture;
   clock = d .clock;
   «has_reference_frame» = d .«has_reference_frame»;
   «frames_decoded» = d .«frames_decoded»;

@@ -11,9 +11,10 @@ use Rattle.bits.specs.Programs.{Out, run, eqZ, findStartCode, if_then_else_}
 use Rattle.picture.specs.Ways.{Way, on, out}
 use Rattle.picture.specs.Pictures.{Frame, picture}
 use Rattle.decoder.specs.declared.record.Decoder.{Decoder}
+use Rattle.decoder.specs.declared.answers.Shown.{Shown}
 use Rattle.decoder.specs.declared.answers.Outcome.{Outcome}
 use Rattle.decoder.specs.declared.answers.Outcome.the-variants.{Picture, Refused}
-use Rattle.decoder.specs.Record.{place, startCode, placeAs, pictureAs, clockAs, heldAs, searchedAs}
+use Rattle.decoder.specs.Record.{place, startCode, pastFrame, frameOf, clockAs, heldAs, searchedAs}
 
 -- between turns: the record and the store
 pub record Going : Type 0 where
@@ -57,13 +58,13 @@ counted d =
       «last_frame_time» = d .clock .time;
     }) n d
 
--- RULES F.12: the picture in the store number k, with the time shown
-abbrev pub pictureAt : ℕ → Float → Outcome
-pictureAt k time = Picture (record { store = k; time = time })
+-- RULES F.12: what is told of the picture in the store number k, with the record d as the call leaves it: the store, and the time shown
+abbrev pub told : ℕ → Decoder → Shown
+told k d = record { store = k; time = d .clock .«last_frame_time» }
 
 -- the store number k is handed out with the time that is then shown
 unfoldable pub handed : ℕ → Decoder → List ℕ → Ended
-handed k d l = gave (pictureAt k (counted d .clock .«last_frame_time»)) (counted d) l
+handed k d l = gave (Picture (told k (counted d))) (counted d) l
 
 -- RULES 8.5: after a picture, decoded or not
 unfoldable pub shown : Decoder → List ℕ → Turn Going Ended
@@ -80,19 +81,19 @@ isReference d = eqb (d .picture .«picture_type») 1 || eqb (d .picture .«pictu
 unfoldable pub flushed : List ℕ → Decoder → List ℕ → Ended
 flushed s d l =
     if d .«has_reference_frame» && hasEnded s (place d) && isReference d then
-    gave (pictureAt (d .picture .stores .bwd) (d .clock .«last_frame_time»)) (heldAs false d) l
+    gave (Picture (told (d .picture .stores .bwd) (heldAs false d))) (heldAs false d) l
     else gave (Refused 7) d l
 
 -- RULES Q8, Q9, 8.5: what a picture's run gives
 unfoldable pub pastPicture : Decoder → Out (Way Frame) → Turn Going Ended
 pastPicture d o = elim (o .value) [
-  | on f ↦ shown (placeAs (o .at) (pictureAs (f .picture) d)) (f .store)
+  | on f ↦ shown (pastFrame f (o .at) d) (f .store)
   | out n l ↦ stop (stopped n l)
 ]
 
 -- the picture at the record's place
 unfoldable pub decoded : List ℕ → Decoder → List ℕ → Turn Going Ended
-decoded s d l = pastPicture d (run (picture (d .sequence .sizes) (d .sequence .matrices) (d .picture) l) s (place d))
+decoded s d l = pastPicture d (run (picture (d .sequence .sizes) (d .sequence .matrices) (frameOf d l)) s (place d))
 
 -- behind the search
 unfoldable pub searched : List ℕ → Decoder → List ℕ → Turn Going Ended

@@ -96,7 +96,7 @@ fn with_header(s: &[u8], store: &mut [u8], before: Decoder) -> Handed
         return refused(before, 6);
     }
     clear(store, bytes);
-    let mut values = d.picture.slice.block_data;
+    let mut values = d.block_data;
     let intra = d.sequence.matrices.intra_quant_matrix;
     let other = d.sequence.matrices.non_intra_quant_matrix;
     let sizes = d.sequence.sizes;
@@ -125,7 +125,7 @@ impl Decoder {
         if store.len() < store_bytes(self) {
             return refused(self, 6);
         }
-        let mut values = self.picture.slice.block_data;
+        let mut values = self.block_data;
         let intra = self.sequence.matrices.intra_quant_matrix;
         let other = self.sequence.matrices.non_intra_quant_matrix;
         let sizes = self.sequence.sizes;

@@ -3,11 +3,10 @@
 // copies no record for it.
 use crate::record::Decoder;
 use crate::record::MOST_PICTURES;
-use crate::state::picture_state;
 use bits::position::LAST_POSITION;
 use codes::matrices::bounded;
 use header::possible::possible_sequence;
-use picture::limits::possible_state;
+use picture::limits::possible_picture;
 ghost use mathlib.Core.Path.{_≡_};
 ghost use mathlib.Core.Bool.{_&&_, _||_};
 ghost use lib.Dec.{eqb, leb};
@@ -27,22 +26,22 @@ fn possible_numbers(at: usize, frames_decoded: u32, stop: u32) -> bool
 pub fn possible(d: Decoder) -> bool
     ensures { λ r. ⌜ r ≡ possible d ⌝ }
 {
-    let values = d.picture.slice.block_data;
+    let values = d.block_data;
     let left = bounded(&values);
     let numbers = possible_numbers(d.reader.at.0, d.frames_decoded, d.stop);
     let sequence = possible_sequence(d.sequence);
-    let state = possible_state(picture_state(d.picture));
-    numbers & sequence & (state & left)
+    let picture = possible_picture(d.picture);
+    numbers & sequence & picture & left
 }
 
 // As a hand-out asks it, which has a stream.
 pub fn possible_with(s: &[u8], d: Decoder) -> bool
     ensures { λ r. ⌜ r ≡ possibleWith (now (s .entry)) d ⌝ }
 {
-    let values = d.picture.slice.block_data;
+    let values = d.block_data;
     let left = bounded(&values);
     let numbers = possible_numbers(d.reader.at.0, d.frames_decoded, d.stop);
     let sequence = possible_sequence(d.sequence);
-    let state = possible_state(picture_state(d.picture));
-    numbers & sequence & (state & left)
+    let picture = possible_picture(d.picture);
+    numbers & sequence & picture & left
 }

@@ -22,11 +22,12 @@ pub struct Clock {
     pub last_frame_time: f64,
 }
 
-// `stop` is the stop mark: 0, 8 or 9.
+// `block_data` are the left-over coefficients, `stop` is the stop mark: 0, 8 or 9.
 pub struct Decoder {
     pub reader: Reader,
     pub sequence: Sequence,
     pub picture: Picture,
+    pub block_data: [i32; 64],
     pub clock: Clock,
     pub has_reference_frame: bool,
     pub frames_decoded: u32,
@@ -67,6 +68,7 @@ pub fn fresh() -> Decoder
 {
     let sequence = fresh_sequence();
     let picture = fresh_picture();
+    let block_data = [0i32; 64];
     let at = BitPosition(0);
     let reader = Reader { at };
     let clock = Clock {
@@ -79,6 +81,7 @@ pub fn fresh() -> Decoder
         reader,
         sequence,
         picture,
+        block_data,
         clock,
         has_reference_frame: false,
         frames_decoded: 0,

@@ -4,52 +4,25 @@ use crate::record::Clock;
 use crate::record::Decoder;
 use bits::reader::Reader;
 use picture::state::Picture;
-use picture::state::PictureState;
-use picture::state::Slice;
-use picture::state::SliceState;
 ghost use mathlib.Core.Path.{_≡_};
 ghost use Prim.Native.Nat.{_≤_};
-ghost use Rattle.picture.specs.Views.{pictureOf};
 ghost use Rattle.decoder.specs.Turns.{timeOf, counted};
-ghost use Rattle.decoder.specs.State.{decoderOf, stateOf, stateOfPicture, Becomes};
+ghost use Rattle.decoder.specs.State.{decoderOf, stateOf, Becomes};
 ghost use Rattle.decoder.specs.Record.{mostPictures};
 
 pub struct DecoderState {
     pub reader: Reader,
-    pub picture: PictureState,
+    pub picture: Picture,
     pub clock: Clock,
     pub has_reference_frame: bool,
     pub frames_decoded: u32,
-}
-
-pub fn picture_state(p: Picture) -> PictureState
-    ensures { λ r. ⌜ r ≡ stateOfPicture p ⌝ }
-{
-    let x = p.slice;
-    let forward = x.motion_forward;
-    let backward = x.motion_backward;
-    let predictors = x.dc_predictor;
-    let slice = SliceState {
-        quantizer_scale: x.quantizer_scale,
-        macroblock_address: x.macroblock_address,
-        motion_forward: forward,
-        motion_backward: backward,
-        dc_predictor: predictors,
-    };
-    let stores = p.stores;
-    PictureState {
-        picture_type: p.picture_type,
-        start_code: p.start_code,
-        stores,
-        slice,
-    }
 }
 
 pub fn state_of(d: Decoder) -> DecoderState
     ensures { λ r. ⌜ r ≡ stateOf d ⌝ }
 {
     let reader = d.reader;
-    let picture = picture_state(d.picture);
+    let picture = d.picture;
     let clock = d.clock;
     DecoderState {
         reader,
@@ -60,42 +33,19 @@ pub fn state_of(d: Decoder) -> DecoderState
     }
 }
 
-fn picture_of(p: PictureState, left: [i32; 64]) -> Picture
-    ensures { λ r. ⌜ r ≡ pictureOf p left ⌝ }
-{
-    let x = p.slice;
-    let forward = x.motion_forward;
-    let backward = x.motion_backward;
-    let predictors = x.dc_predictor;
-    let slice = Slice {
-        quantizer_scale: x.quantizer_scale,
-        macroblock_address: x.macroblock_address,
-        motion_forward: forward,
-        motion_backward: backward,
-        dc_predictor: predictors,
-        block_data: left,
-    };
-    let stores = p.stores;
-    Picture {
-        picture_type: p.picture_type,
-        start_code: p.start_code,
-        stores,
-        slice,
-    }
-}
-
 // The record with this state, and with these coefficients left over.
 pub fn with_state(d: Decoder, x: DecoderState, left: [i32; 64]) -> Decoder
     ensures { λ r. ⌜ r ≡ decoderOf (d .sequence) (d .stop) x left ⌝ }
 {
     let reader = x.reader;
     let sequence = d.sequence;
-    let picture = picture_of(x.picture, left);
+    let picture = x.picture;
     let clock = x.clock;
     Decoder {
         reader,
         sequence,
         picture,
+        block_data: left,
         clock,
         has_reference_frame: x.has_reference_frame,
         frames_decoded: x.frames_decoded,

@@ -1,22 +1,24 @@
 // RULES 8.2 to 8.11: one turn of the loop in `decode`: the search, the picture, the clock, the flush.
 use crate::answers::Outcome;
 use crate::answers::Shown;
+use crate::record::has_code;
 use crate::state::DecoderState;
 use crate::state::counted;
 use bits::reader::Reader;
-use picture::state::PictureState;
 use picture::state::Sizes;
 use slices::whole::read_picture;
 ghost use mathlib.Core.Path.{_≡_};
-ghost use Prim.Native.Nat.{_*_, _≤_};
+ghost use mathlib.Core.List.{List};
+ghost use Prim.Native.Nat.{ℕ, _≤_};
+ghost use lib.IntN.{ℤ};
 ghost use lib.ListN.{length};
 ghost use Rattle.laws.specs.Turns.{stop};
 ghost use Rattle.bits.specs.Bounds.{longestStream};
-ghost use Rattle.bits.specs.Programs.{eqZ};
 ghost use Rattle.bits.specs.Runs.{Inside};
 ghost use Rattle.picture.specs.Views.{matrices};
 ghost use Rattle.prediction.specs.Planes.{storesBytes};
-ghost use Rattle.decoder.specs.State.{Becomes, FitState};
+ghost use Rattle.header.specs.declared.state.Sequence.{Sequence};
+ghost use Rattle.decoder.specs.State.{decoderOf, Becomes, FitState};
 ghost use Rattle.decoder.specs.Record.{searchedAs, mostPictures};
 ghost use Rattle.decoder.specs.Turns as Turns;
 ghost use Rattle.decoder.specs.Turned.{Shows, Makes};
@@ -38,14 +40,6 @@ fn gave(state: DecoderState, outcome: Outcome) -> Turned
         again: false,
         stop: 0,
     }
-}
-
-// Whether the start code that was found last is this one.
-fn has_code(p: PictureState, code: i32) -> bool
-    ensures { λ r. ⌜ r ≡ eqZ (p .«start_code») code ⌝ }
-{
-    let last = p.start_code;
-    last == code
 }
 
 // A search that ended at a place with a start code.
@@ -84,14 +78,21 @@ fn is_followed(s: &[u8], reader: Reader) -> bool
     reader.has_ended(s).value
 }
 
+// What is told of the picture in the store number k, with the record as the call leaves it.
+fn told(d: DecoderState, k: usize) -> Shown
+    ensures { λ r. ⌜ ((q : Sequence) (mark : ℕ) (left : List ℤ) → r ≡ Turns.told k (decoderOf q mark d left)) ⌝ }
+{
+    let time = d.clock.last_frame_time;
+    Shown { store: k, time }
+}
+
 // The store number k is handed out with the time that is then shown.
 fn handed(d: DecoderState, k: usize) -> Turned
     requires { ⌜ d .«frames_decoded» ≤ mostPictures ⌝ }
     ensures { λ r. ⌜ Shows d r (λ x l. stop (Turns.handed k x l)) ⌝ }
 {
     let x = counted(d);
-    let time = x.clock.last_frame_time;
-    gave(x, Outcome::Picture(Shown { store: k, time }))
+    gave(x, Outcome::Picture(told(x, k)))
 }
 
 // RULES 8.5: after a picture, decoded or not.
@@ -126,9 +127,7 @@ fn flushed(s: &[u8], mut d: DecoderState) -> Turned
     let ended = d.reader.has_ended(s).value;
     if held & ended & ((picture_type == 1) | (picture_type == 2)) {
         d.has_reference_frame = false;
-        let time = d.clock.last_frame_time;
-        let store = d.picture.stores.bwd;
-        return gave(d, Outcome::Picture(Shown { store, time }));
+        return gave(d, Outcome::Picture(told(d, d.picture.stores.bwd)));
     }
     gave(d, Outcome::Refused(7))
 }

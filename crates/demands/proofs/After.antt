@@ -9,6 +9,7 @@ use lib.Dec.{eqb, leb}
 use lib.ListN.{length, getD}
 use borrow.Author.Tests.{eqb-true, leb-true, leb-false}
 use Rattle.laws.proofs.Tests.{by-case, each}
+use Rattle.codes.specs.Matrices.{bounded}
 use Rattle.picture.specs.Possible.{possiblePicture}
 use Rattle.picture.proofs.Possible.{stores-of, picture-of}
 use Rattle.picture.specs.State.{firstStores}
@@ -71,14 +72,15 @@ opening-ready s l e = subst (λ (o : Opening). OpeningRow s l o (opening s l .de
 pub record Parts (d : Decoder) : Type 0 where
   pub sequence : possibleSequence (d .sequence) ≡ true
   pub picture : possiblePicture (d .picture) ≡ true
+  pub block : bounded (d .«block_data») ≡ true
   pub mark : (eqb (d .stop) 0 || eqb (d .stop) 8 || eqb (d .stop) 9) ≡ true
 
 pub parts : (d : Decoder) → possible d ≡ true → Parts d
 unfolding possible
 parts d p =
-    let x = each (leb (place d) lastPosition) (possibleSequence (d .sequence) ∷ possiblePicture (d .picture) ∷ leb (d .«frames_decoded») mostPictures ∷
-    (eqb (d .stop) 0 || eqb (d .stop) 8 || eqb (d .stop) 9) ∷ []) p in
-    record { sequence = x 1; picture = x 2; mark = x 4 }
+    let x = each (leb (place d) lastPosition) (possibleSequence (d .sequence) ∷ possiblePicture (d .picture) ∷ bounded (d .«block_data») ∷
+    leb (d .«frames_decoded») mostPictures ∷ (eqb (d .stop) 0 || eqb (d .stop) 8 || eqb (d .stop) 9) ∷ []) p in
+    record { sequence = x 1; picture = x 2; block = x 3; mark = x 5 }
 
 -- RULES QA: a stop mark other than 0 is 8 or 9
 marks : (n : ℕ) → (eqb n 0 || eqb n 8 || eqb n 9) ≡ true → eqb n 0 ≡ false → (n ≡ 8) ⊎ (n ≡ 9)

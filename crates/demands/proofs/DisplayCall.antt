@@ -61,7 +61,8 @@ module _ (s : List ℕ) (short : length s ≤ longestStream) where
   keeps-reads : (d : Decoder) (l : List ℕ) → Keeps s d l → handOutReads d s l ≡ picturesRead s (going d l)
   unfolding handOutReads askFirst askStore begun
   keeps-reads d l k =
-      rw (le-leb (length s) longestStream short, keeps-possible s short k, eq-eqb (d .stop) 0 (k .mark), k .header, le-leb (storeBytes d) (length l) (k .long)) refl
+      let room = le-leb (storeBytes d) (length l) (k .long) in
+      rw (le-leb (length s) longestStream short, keeps-possible s short k, eq-eqb (d .stop) 0 (k .mark), k .header, room) refl
 
   waits-reads : (d : Decoder) (l : List ℕ) → Waits s d → handOutReads d s l ≡ askedReads s d l (askStore d l (askHeader s d))
   unfolding handOutReads askFirst

@@ -10,6 +10,7 @@ use lib.ListN.{length}
 use borrow.Author.Tests.{eqb-true, leb-true}
 use Rattle.laws.specs.Turns.{stop}
 use Rattle.laws.proofs.Tests.{both, each}
+use Rattle.codes.specs.Matrices.{bounded}
 use Rattle.picture.specs.declared.state.Sizes.{Sizes}
 use Rattle.picture.specs.declared.state.Picture.{Picture}
 use Rattle.picture.specs.State.{startCodeAs}
@@ -28,6 +29,7 @@ pub record Keeps (s : List ℕ) (d : Decoder) (l : List ℕ) : Type 0 where
   pub header : d .sequence .«has_sequence_header» ≡ true
   pub sequence : possibleSequence (d .sequence) ≡ true
   pub picture : possiblePicture (d .picture) ≡ true
+  pub block : bounded (d .«block_data») ≡ true
   pub mark : d .stop ≡ 0
   pub long : storeBytes d ≤ length l
   pub inside : place d ≤ length s * 8
@@ -49,6 +51,7 @@ module _ {s : List ℕ} {d : Decoder} {l : List ℕ} (k : Keeps s d l) where
     header = k .header;
     sequence = k .sequence;
     picture = k .picture;
+    block = k .block;
     mark = k .mark;
     long = k .long;
     inside = k .inside;
@@ -62,6 +65,7 @@ module _ {s : List ℕ} {d : Decoder} {l : List ℕ} (k : Keeps s d l) where
     header = k .header;
     sequence = k .sequence;
     picture = k .picture;
+    block = k .block;
     mark = k .mark;
     long = k .long;
     inside = k .inside;
@@ -76,6 +80,7 @@ module _ {s : List ℕ} {d : Decoder} {l : List ℕ} (k : Keeps s d l) where
     header = k .header;
     sequence = k .sequence;
     picture = code-possible c (d .picture) h (k .picture);
+    block = k .block;
     mark = k .mark;
     long = k .long;
     inside = m;

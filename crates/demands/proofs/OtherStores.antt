@@ -12,7 +12,7 @@ use lib.ListN.{length}
 use Rattle.laws.proofs.Lists.{length-mid, put-before, put-after, length-rows}
 use Rattle.laws.proofs.Tests.{by-case}
 use Rattle.coefficients.specs.declared.quantiser.Quantiser.{Quantiser}
-use Rattle.coefficients.specs.Blocks.{Filled, Read, firstOnly}
+use Rattle.coefficients.specs.Blocks.{Filled, firstOnly}
 use Rattle.prediction.specs.declared.place.Place.{Place}
 use Rattle.prediction.specs.declared.place.Fetch.{Fetch}
 use Rattle.prediction.specs.declared.place.Fetch.the-variants.{Alone, Past, Copied}
@@ -23,7 +23,7 @@ use Rattle.prediction.specs.declared.predict.Predicted.the-variants.{Done, Refu
 use Rattle.prediction.specs.Predict.{macroblockAt, blockOf, bytes, fetch, predicted, address, width, chroma}
 use Rattle.prediction.specs.Planes.{After, blockSize, planeOf, planeLength, planeStart, offset, follow, next, predictedPlanes, storesBytes}
 use Rattle.prediction.specs.Writers.{setConst, overwrite, addConst, addBlock, blockWidth, blockPlace}
-use Rattle.picture.specs.State.{Given}
+use Rattle.picture.specs.declared.state.Context.{Context}
 use Rattle.picture.specs.Blocks.{results, written}
 use Rattle.picture.specs.Predictions.{unlessRefused}
 use Rattle.demands.specs.Causes.{Cause, dc, prediction}
@@ -81,7 +81,7 @@ module _ (S : List ℕ → Type 0) (O : ℕ → List ℕ → Type 0) where
       go Done e = k (o .store) (rw e at h)
       go Refused e = h
 
-module _ (s : List ℕ) (g : Given) (l : List ℕ) (area : g .sizes .«mb_size» ≡ g .sizes .«mb_width» * g .sizes .«mb_height»)
+module _ (s : List ℕ) (g : Context) (l : List ℕ) (area : g .sizes .«mb_size» ≡ g .sizes .«mb_width» * g .sizes .«mb_height»)
     (cur : g .stores .cur ≤ 2) (long : storesBytes (g .sizes .«mb_size») ≤ length l) where
   abbrev S : List ℕ → Type 0
   S = SameBut (g .sizes .«mb_size») (g .stores .cur) l
@@ -121,18 +121,18 @@ module _ (s : List ℕ) (g : Given) (l : List ℕ) (area : g .sizes .«mb_size»
           let target = midOf (begins (g .stores .cur) q) (bytes (blockIn a q)) m in
           copied-same a q m (predicted (blockIn a q) source target h v interpolate i) (predicted-length (blockIn a q) source target h v interpolate i) e
 
-  written-same : (q : Quantiser) (number a : ℕ) (r : Read) (m : List ℕ) → S m → S (written g q number a r m)
+  written-same : (q : Quantiser) (number a : ℕ) (f : Filled) (m : List ℕ) → S m → S (written g q number a f m)
   unfolding written
-  written-same q number a r m e =
+  written-same q number a f m e =
       let p = planeOf number in
       let b = macroblockAt (g .sizes .«mb_width») (g .sizes .«mb_height») a in
       let at = planeStart (g .stores .cur) p (g .sizes .«mb_size») in
       let size = planeLength p (g .sizes .«mb_size») in
       let end = plane-ends p (g .sizes .«mb_size») in
       let fit : at + size ≤ length m = omega (arith, e .long, stores-end) in
-      let ys = results q (r .filled) (blockPlace b number) (blockWidth b number) (midOf at size m) in
+      let ys = results q f (blockPlace b number) (blockWidth b number) (midOf at size m) in
       put-same-but (g .sizes .«mb_size») (g .stores .cur) at size l m ys (omega arith) (omega arith) fit
-      (results-length q (r .filled) (blockPlace b number) (blockWidth b number) (midOf at size m) ∙ length-mid at size m fit) e
+      (results-length q f (blockPlace b number) (blockWidth b number) (midOf at size m) ∙ length-mid at size m fit) e
 
   pub keeping : Keeping s g S O
   unfolding predictedPlanes

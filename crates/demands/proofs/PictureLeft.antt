@@ -44,61 +44,62 @@ module _ {s : List ℕ} where
       g-bind _ (g-any (skips 10)) (λ u i. g-bind _ (g-any (bits 3)) (λ t i. g-bind _ (g-any (skips 16)) (λ u i.
       g-if (eqb t 0 || ltb 3 t) (λ e. g-done refl) (λ e. g-if (eqb t 1) (λ e. g-done refl) (λ e. forward-stores _)))))
 
--- what the picture of the state p, coded in the store l, leaves
-pub record Left (z : Sizes) (p : Picture) (l : List ℕ) (decoded : Bool) (f : P.Frame) : Type 0 where
-  pub store : SameBut (z .«mb_size») (p .stores .cur) l (f .store)
-  pub stores : decoded ≡ true → f .picture .stores ≡ turned (f .picture .«picture_type») (p .stores)
-  pub others : decoded ≡ false → f .picture .stores ≡ p .stores
+-- what a picture leaves, from the state and the store f₀ on
+pub record Left (z : Sizes) (f₀ : P.Frame) (decoded : Bool) (f : P.Frame) : Type 0 where
+  pub store : SameBut (z .«mb_size») (f₀ .picture .stores .cur) (f₀ .store) (f .store)
+  pub stores : decoded ≡ true → f .picture .stores ≡ turned (f .picture .«picture_type») (f₀ .picture .stores)
+  pub others : decoded ≡ false → f .picture .stores ≡ f₀ .picture .stores
 
 module _ (s : List ℕ) (z : Sizes) (m : Matrices) (area : z .«mb_size» ≡ z .«mb_width» * z .«mb_height») where
   -- a picture that leaves early
-  abbrev pub Stopped : Picture → List ℕ → ℕ → List ℕ → Type 0
-  Stopped p l n x = SameBut (z .«mb_size») (p .stores .cur) l x × Cause s z n
+  abbrev pub Stopped : P.Frame → ℕ → List ℕ → Type 0
+  Stopped f n x = SameBut (z .«mb_size») (f .picture .stores .cur) (f .store) x × Cause s z n
 
-  coded-left : (p : Picture) (l : List ℕ) → p .stores .cur ≤ 2 → storesBytes (z .«mb_size») ≤ length l
-      → Gives s (Ways (Left z p l true) (Stopped p l)) (P.coded z m p l)
+  coded-left : (f : P.Frame) → f .picture .stores .cur ≤ 2 → storesBytes (z .«mb_size») ≤ length (f .store)
+      → Gives s (Ways (Left z f true) (Stopped f)) (P.coded z m f)
   unfolding P.coded
-  coded-left p l cur long =
+  coded-left f cur long =
+      let p = f .picture in
       let q = storesAs (P.before (p .stores)) p in
-      let c = keeping s (P.given z m p) l area cur long in
-      let d = keeping s (P.given z m q) l area cur long in
+      let c = keeping s (P.contextOf z p) (f .store) area cur long in
+      let d = keeping s (P.contextOf z q) (f .store) area cur long in
       g-if (eqb (p .«picture_type») 3)
-      (λ b. g-as (ways-as (Stopped p l) {P = Framed c p} {Q = Left z p l true}
-      (λ f k. record {
+      (λ b. g-as (ways-as (Stopped f) {P = Framed c m p} {Q = Left z f true}
+      (λ x k. record {
         store = k .store;
         stores = λ e. k .stores ∙ sym (ap (λ (t : ℕ). turned t (p .stores)) (k .type) ∙ three (p .«picture_type») b);
         others = λ e. absurd (true≢false e);
       }))
-      (slices-ways c p l same-but))
-      (λ b. onward-ways (Stopped p l) {P = Framed d q} _ (slices-ways d q l same-but)
-      (λ f k. g-done (record {
+      (slices-ways c m f same-but))
+      (λ b. onward-ways (Stopped f) {P = Framed d m q} _ (slices-ways d m (P.inPicture q f) same-but)
+      (λ x k. g-done (record {
         store = k .store;
         stores = λ e. sym (ap (λ (t : ℕ). turned t (p .stores)) (k .type) ∙ other (p .«picture_type») b);
         others = λ e. absurd (true≢false e);
       })))
     where
-      three : (t : ℕ) → eqb t 3 ≡ true → turned t (p .stores) ≡ p .stores
+      three : (t : ℕ) → eqb t 3 ≡ true → turned t (f .picture .stores) ≡ f .picture .stores
       three t h = rw h refl
 
-      other : (t : ℕ) → eqb t 3 ≡ false → turned t (p .stores) ≡ P.after (p .stores)
+      other : (t : ℕ) → eqb t 3 ≡ false → turned t (f .picture .stores) ≡ P.after (f .picture .stores)
       other t h = rw h refl
 
-  -- the stores' roles of x are those of p
-  as-before : (p x : Picture) (l : List ℕ) → x .stores ≡ p .stores → {b : Bool} → b ≡ true → (w : Way P.Frame)
-      → Ways (Left z x l true) (Stopped x l) w → Ways (Left z p l b) (Stopped p l) w
-  as-before p x l e t (on f) k =
+  -- the stores' roles of x are those of f
+  as-before : (f : P.Frame) (x : Picture) → x .stores ≡ f .picture .stores → {b : Bool} → b ≡ true → (w : Way P.Frame)
+      → Ways (Left z (P.inPicture x f) true) (Stopped (P.inPicture x f)) w → Ways (Left z f b) (Stopped f) w
+  as-before f x e t (on y) k =
       record { store = rw e at k .store; stores = λ d. rw e at k .stores refl; others = λ d. absurd (true≢false (sym t ∙ d)) }
-  as-before p x l e t (out n y) k = (rw e at k .0, k .1)
+  as-before f x e t (out n y) k = (rw e at k .0, k .1)
 
   -- RULES 7.1 to 7.4, 8.4
-  pub picture-left : (p : Picture) (l : List ℕ) → p .stores .cur ≤ 2 → storesBytes (z .«mb_size») ≤ length l → (a : ℕ)
-      → Ways (Left z p l (run (P.pictureHeader p) s a .value .decoded)) (Stopped p l) (run (P.picture z m p l) s a .value)
+  pub picture-left : (f : P.Frame) → f .picture .stores .cur ≤ 2 → storesBytes (z .«mb_size») ≤ length (f .store) → (a : ℕ)
+      → Ways (Left z f (run (P.pictureHeader (f .picture)) s a .value .decoded)) (Stopped f) (run (P.picture z m f) s a .value)
   unfolding P.picture run
-  picture-left p l cur long a =
-      let h = run (P.pictureHeader p) s a in
-      let e = header-stores {s = s} p .value a in
-      rw (run-bind (P.pictureHeader p) _ s a)
-      (by-case (λ (q : Prog (Way P.Frame)). Ways (Left z p l (h .value .decoded)) (Stopped p l) (run q s (h .at) .value)) (h .value .decoded)
-      (λ d. as-before p (h .value .picture) l e d (run (P.coded z m (h .value .picture) l) s (h .at) .value)
-      (coded-left (h .value .picture) l (rw e cur) long .value (h .at)))
+  picture-left f cur long a =
+      let h = run (P.pictureHeader (f .picture)) s a in
+      let e = header-stores {s = s} (f .picture) .value a in
+      rw (run-bind (P.pictureHeader (f .picture)) _ s a)
+      (by-case (λ (q : Prog (Way P.Frame)). Ways (Left z f (h .value .decoded)) (Stopped f) (run q s (h .at) .value)) (h .value .decoded)
+      (λ d. as-before f (h .value .picture) e d (run (P.coded z m (P.inPicture (h .value .picture) f)) s (h .at) .value)
+      (coded-left (P.inPicture (h .value .picture) f) (rw e cur) long .value (h .at)))
       (λ d. record { store = same-but; stores = λ k. absurd (true≢false (sym k ∙ d)); others = λ k. e }))

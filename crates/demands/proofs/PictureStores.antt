@@ -10,20 +10,21 @@ use Rattle.bits.specs.Programs.{Prog, nonZero, many, nextStartCode, bits}
 use Rattle.bits.proofs.Gives.{Gives, Turned, g-done, g-any, g-bind, g-if, g-loop}
 use Rattle.laws.proofs.Tests.{by-case}
 use Rattle.coefficients.specs.declared.quantiser.Quantiser.{Quantiser}
-use Rattle.coefficients.specs.Dequantise.{quantiser}
-use Rattle.coefficients.specs.Blocks.{Read}
+use Rattle.coefficients.specs.Blocks.{Filled, Read, leftOver}
 use Rattle.coefficients.specs.declared.block.BlockEnd.{BlockEnd}
 use Rattle.coefficients.specs.declared.block.BlockEnd.the-variants.{Whole, Dropped, Outside}
 use Rattle.prediction.specs.Predict.{macroblockAt}
 use Rattle.prediction.specs.Planes.{predictedPlanes}
+use Rattle.picture.specs.declared.state.Context.{Context}
+use Rattle.picture.specs.declared.state.Matrices.{Matrices}
 use Rattle.picture.specs.declared.state.Motion.{Motion}
 use Rattle.picture.specs.declared.state.Slice.{Slice}
 use Rattle.picture.specs.declared.state.Picture.{Picture}
-use Rattle.picture.specs.State.{Given, World, world, startCodeAs, sliceAs}
+use Rattle.picture.specs.State.{World, world, startCodeAs, sliceAs}
 use Rattle.picture.specs.Ways.{Way, on, out, also, leave, onward, plain}
 use Rattle.picture.specs.Predictions.{unlessRefused, predictFrom, predictBoth, predict, predictSkipped}
 use Rattle.picture.specs.Heads.{flag, isIntra, macroblockType, head, pattern}
-use Rattle.picture.specs.Blocks.{behind, written, blockEnd, oneBlock, lastBlocks, blocks}
+use Rattle.picture.specs.Blocks.{predictorAs, quantiserOf, written, blockEnd, oneBlock, lastBlocks, blocks}
 use Rattle.picture.specs.Increments.{increment}
 use Rattle.picture.specs.Macroblocks.{nowhere, further, advance, predictUnlessIntra, body, firstOf, laterOf, macroblock}
 use Rattle.picture.specs.Slices.{Slicing, isLast, extra, pastMacroblock, sliceTurn, slice}
@@ -62,18 +63,18 @@ module _ (O : ℕ → List ℕ → Type 0) where
   plain-ways {P = P} f g k = onward-ways {P = P} f (g-bind _ g (λ x h. g-done h)) k
 
 -- what the writes and the predictions of a picture do with a store of which S holds
-pub record Keeping (s : List ℕ) (g : Given) (S : List ℕ → Type 0) (O : ℕ → List ℕ → Type 0) : Type 0 where
-  pub writes : (q : Quantiser) (number address : ℕ) (r : Read) (l : List ℕ) → S l → S (written g q number address r l)
+pub record Keeping (s : List ℕ) (g : Context) (S : List ℕ → Type 0) (O : ℕ → List ℕ → Type 0) : Type 0 where
+  pub writes : (q : Quantiser) (number address : ℕ) (f : Filled) (l : List ℕ) → S l → S (written g q number address f l)
   pub predicts : (address k : ℕ) (h v : ℤ) (interpolate : Bool) (l : List ℕ) → S l → Ways S O (unlessRefused
       (predictedPlanes (macroblockAt (g .sizes .«mb_width») (g .sizes .«mb_height») address) k (g .stores .cur) h v interpolate l))
   pub stops : DcOutside s → (l : List ℕ) → S l → O 8 l
 
-module _ {s : List ℕ} {g : Given} {S : List ℕ → Type 0} {O : ℕ → List ℕ → Type 0} (c : Keeping s g S O) where
+module _ {s : List ℕ} {g : Context} {S : List ℕ → Type 0} {O : ℕ → List ℕ → Type 0} (c : Keeping s g S O) (m : Matrices) where
   -- ---- predictions
 
-  from-ways : (address k : ℕ) (m : Motion) (interpolate : Bool) (l : List ℕ) → S l → Ways S O (predictFrom g address k m interpolate l)
+  from-ways : (address k : ℕ) (x : Motion) (interpolate : Bool) (l : List ℕ) → S l → Ways S O (predictFrom g address k x interpolate l)
   unfolding predictFrom
-  from-ways address k m interpolate l e = c .predicts address k _ _ interpolate l e
+  from-ways address k x interpolate l e = c .predicts address k _ _ interpolate l e
 
   both-ways : (address : ℕ) (x : Slice) (l : List ℕ) → S l → Ways S O (predictBoth g address x l)
   unfolding predictBoth
@@ -84,8 +85,8 @@ module _ {s : List ℕ} {g : Given} {S : List ℕ → Type 0} {O : ℕ → List 
   predict-ways : (address : ℕ) (x : Slice) (l : List ℕ) → S l → Ways S O (predict g address x l)
   unfolding predict
   predict-ways address x l e =
-      by-case (Ways S O) (eqb (g .type) 3 && x .«motion_forward» .«is_set») (λ b. both-ways address x l e) (λ b.
-      by-case (Ways S O) (eqb (g .type) 3) (λ b. from-ways address (g .stores .bwd) (x .«motion_backward») false l e)
+      by-case (Ways S O) (eqb (g .«picture_type») 3 && x .«motion_forward» .«is_set») (λ b. both-ways address x l e) (λ b.
+      by-case (Ways S O) (eqb (g .«picture_type») 3) (λ b. from-ways address (g .stores .bwd) (x .«motion_backward») false l e)
       (λ b. from-ways address (g .stores .fwd) (x .«motion_forward») false l e))
 
   skipped-ways : (x : Slice) (address k : ℕ) (l : List ℕ) → S l → Ways S O (predictSkipped g x address k l)
@@ -103,46 +104,47 @@ module _ {s : List ℕ} {g : Given} {S : List ℕ → Type 0} {O : ℕ → List 
   end-ways q number w r k i = go (r .end) i
     where
       go : (e : BlockEnd) → Caused s e → Ways Worlds O (elim e as (λ x. Way World) [
-        | Whole ↦ on (world (behind q number r (w .slice)) (written g q number (natAbs (w .slice .«macroblock_address»)) r (w .store)))
-        | Dropped ↦ on (world (behind q number r (w .slice)) (w .store))
+        | Whole ↦ on (world (predictorAs number (r .predictor) (w .slice)) (leftOver q r)
+            (written g q number (natAbs (w .slice .«macroblock_address»)) (r .filled) (w .store)))
+        | Dropped ↦ on (world (predictorAs number (r .predictor) (w .slice)) (leftOver q r) (w .store))
         | Outside ↦ out 8 (w .store)
       ])
-      go Whole i = c .writes q number _ r (w .store) k
+      go Whole i = c .writes q number _ (r .filled) (w .store) k
       go Dropped i = k
       go Outside i = c .stops (i refl) (w .store) k
 
-  block-ways : (intra : Bool) (number : ℕ) (w : World) → Worlds w → Gives s (Ways Worlds O) (oneBlock g intra number w)
+  block-ways : (intra : Bool) (number : ℕ) (w : World) → Worlds w → Gives s (Ways Worlds O) (oneBlock g m intra number w)
   unfolding oneBlock
   block-ways intra number w k =
       plain-ways O {P = λ r. Caused s (r .end)} _ (block-caused _ _ _ _ _)
-      (λ r i. g-done (end-ways (quantiser intra (w .slice .«quantizer_scale»)) number w r k i))
+      (λ r i. g-done (end-ways (quantiserOf g intra (w .slice)) number w r k i))
 
-  last-ways : (intra : Bool) (pattern m : ℕ) (w : World) → Worlds w → Gives s (Ways Worlds O) (lastBlocks g intra pattern m w)
+  last-ways : (intra : Bool) (pattern j : ℕ) (w : World) → Worlds w → Gives s (Ways Worlds O) (lastBlocks g m intra pattern j w)
   unfolding lastBlocks
   last-ways intra pattern zero w k = g-done k
-  last-ways intra pattern (suc m) w k =
-      onward-ways O {P = Worlds} _ (g-if (flag pattern (2 ^ m)) (λ e. block-ways intra (5 - m) w k) (λ e. g-done k)) (λ x i. last-ways intra pattern m x i)
+  last-ways intra pattern (suc j) w k =
+      onward-ways O {P = Worlds} _ (g-if (flag pattern (2 ^ j)) (λ e. block-ways intra (5 - j) w k) (λ e. g-done k)) (λ x i. last-ways intra pattern j x i)
 
   advance-ways : (i : ℕ) (w : World) → Worlds w → Ways Worlds O (advance g i w)
   unfolding advance
   advance-ways i w k = by-case (Ways Worlds O) (ltb i 2) (λ e. k) (λ e. also-ways O S Worlds _ _ (skipped-ways _ _ _ _ k) (λ l j. j))
 
-  unless-ways : (t : ℕ) (w : World) → Worlds w → Ways S O (predictUnlessIntra g t w)
+  unless-ways : (t : ℕ) (x : Slice) (l : List ℕ) → S l → Ways S O (predictUnlessIntra g t x l)
   unfolding predictUnlessIntra
-  unless-ways t w e = by-case (Ways S O) (isIntra t) (λ b. e) (λ b. predict-ways _ _ _ e)
+  unless-ways t x l e = by-case (Ways S O) (isIntra t) (λ b. e) (λ b. predict-ways _ _ _ e)
 
-  body-ways : (w : World) → Worlds w → Gives s (Ways Worlds O) (body g w)
+  body-ways : (w : World) → Worlds w → Gives s (Ways Worlds O) (body g m w)
   unfolding body blocks
   body-ways w k =
-      plain-ways O _ (g-any (macroblockType (g .type))) (λ t u.
-      plain-ways O _ (g-any (head (g .type) t (w .slice))) (λ x i.
-      onward-ways O {P = S} _ (g-done (unless-ways t (world x (w .store)) k)) (λ l e.
-      plain-ways O _ (g-any (pattern t)) (λ q u. last-ways (isIntra t) q 6 (world x l) e))))
+      plain-ways O _ (g-any (macroblockType (g .«picture_type»))) (λ t u.
+      plain-ways O _ (g-any (head (g .«picture_type») t (w .slice))) (λ x i.
+      onward-ways O {P = S} _ (g-done (unless-ways t x (w .store) k)) (λ l e.
+      plain-ways O _ (g-any (pattern t)) (λ q u. last-ways (isIntra t) q 6 (world x (w .«block_data») l) e))))
 
-  macroblock-ways : (first : Bool) (w : World) → Worlds w → Gives s (Ways Worlds O) (macroblock g first w)
+  macroblock-ways : (first : Bool) (w : World) → Worlds w → Gives s (Ways Worlds O) (macroblock g m first w)
   unfolding macroblock firstOf laterOf
   macroblock-ways first w k =
-      plain-ways O _ (g-any increment) (λ i m.
+      plain-ways O _ (g-any increment) (λ i j.
       g-if first (λ e. g-if (nowhere g (further i w)) (λ e. g-done k) (λ e. body-ways (further i w) k))
       (λ e. g-if (leZ (pos (g .sizes .«mb_size»)) (w .slice .«macroblock_address» +ℤ pos i)) (λ e. g-done k)
       (λ e. onward-ways O {P = Worlds} _ (g-done (advance-ways i w k)) (λ x j. body-ways x j))))
@@ -155,7 +157,7 @@ module _ {s : List ℕ} {g : Given} {S : List ℕ → Type 0} {O : ℕ → List 
   past-ways (on w) h =
       g-if (isLast g w) (λ e. g-done h) (λ e. g-bind _ (g-any (nonZero 23)) (λ more u. g-if more (λ e. g-done h) (λ e. g-done h)))
 
-  slice-ways : (number : ℕ) (w : World) → Worlds w → Gives s (Ways Worlds O) (slice g number w)
+  slice-ways : (number : ℕ) (w : World) → Worlds w → Gives s (Ways Worlds O) (slice g m number w)
   unfolding slice sliceTurn
   slice-ways number w k =
       g-bind _ (g-any (bits 5)) (λ q j. g-bind _ (g-any extra) (λ u i.
@@ -172,21 +174,23 @@ module _ {s : List ℕ} {g : Given} {S : List ℕ → Type 0} {O : ℕ → List 
   unfolding P.pastSlice
   slice-past p f (out m l) k h = g-done h
   slice-past p f (on w) k h =
-      let next : Framed p (P.frame (sliceAs (w .slice) (f .picture)) (w .store)) = record { type = k .type; stores = k .stores; store = h } in
+      let next : Framed p (P.frame (sliceAs (w .slice) (f .picture)) (w .«block_data») (w .store)) = record { type = k .type; stores = k .stores; store = h } in
       g-if (isLast g w) (λ e. g-done next) (λ e. g-done next)
 
   turn-ways : (p : Picture) (x : P.Slices) → Framed p (x .frame)
-      → Gives s (Turned (λ (x : P.Slices). Framed p (x .frame)) (Ways (Framed p) O)) (P.slicesTurn g x)
+      → Gives s (Turned (λ (x : P.Slices). Framed p (x .frame)) (Ways (Framed p) O)) (P.slicesTurn g m x)
   unfolding P.slicesTurn
   turn-ways p x i =
       g-bind _ (g-any nextStartCode) (λ k j.
-      let f = P.frame (startCodeAs k (x .frame .picture)) (x .frame .store) in
+      let f = P.inPicture (startCodeAs k (x .frame .picture)) (x .frame) in
       let next : Framed p f = record { type = i .type; stores = i .stores; store = i .store } in
-      g-if (P.isSlice k) (λ e. g-bind _ (slice-ways (natAbs k) (world (f .picture .slice) (f .store)) (i .store)) (λ w h. slice-past p f w next h))
+      g-if (P.isSlice k)
+      (λ e. g-bind _ (slice-ways (natAbs k) (world (f .picture .slice) (f .«block_data») (f .store)) (i .store)) (λ w h. slice-past p f w next h))
       (λ e. g-if (P.isExtra k && not (x .begun)) (λ e. g-done next) (λ e. g-done next)))
 
-  pub slices-ways : (p : Picture) (l : List ℕ) → S l → Gives s (Ways (Framed p) O) (P.slices g (P.frame p l))
+  pub slices-ways : (f : P.Frame) → S (f .store) → Gives s (Ways (Framed (f .picture)) O) (P.slices g m f)
   unfolding P.slices
-  slices-ways p l e =
-      let i : Framed p (P.frame p l) = record { type = refl; stores = refl; store = e } in
+  slices-ways f e =
+      let p = f .picture in
+      let i : Framed p f = record { type = refl; stores = refl; store = e } in
       g-loop (λ (x : P.Slices). Framed p (x .frame)) many _ _ (turn-ways p) i _ i

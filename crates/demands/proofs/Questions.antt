@@ -21,7 +21,7 @@ use Rattle.decoder.specs.declared.record.Decoder.{Decoder}
 use Rattle.decoder.specs.declared.answers.Opening.{Opening}
 use Rattle.decoder.specs.declared.answers.Outcome.{Outcome}
 use Rattle.decoder.specs.declared.answers.Outcome.the-variants as H
-use Rattle.decoder.specs.Record.{Left, fresh, place, startCode, storeBytes}
+use Rattle.decoder.specs.Record.{Left, fresh, place, startCode, storeBytes, frameOf}
 use Rattle.decoder.specs.Possible.{possible, possibleWith}
 use Rattle.decoder.specs.Headers.{Asked, refused, passed, findSequence, askSize, askHeader, askStore}
 use Rattle.decoder.specs.Opening.{opened, openingFrom, opening}
@@ -127,7 +127,7 @@ turn-says s x =
     let d = nextPicture s (x .decoder) in
     let l = x .store in
     choice-says (eqZ (startCode d) (negsuc 0)) (isFollowed s (place d)) (d .«has_reference_frame» && hasEnded s (place d) && isReference d) _ _ d l _ _ _ refl
-    (past-says d l _ _ (picture-leaves _ _ _ l s (place d)))
+    (past-says d l _ _ (picture-leaves _ _ (frameOf d l) s (place d)))
 
 -- RULES 8.7: with a reference held the second turn ends the call
 second-says : (qs : List Question) (t : Turn Going Ended) → isStop t ≡ true → TurnSays qs t

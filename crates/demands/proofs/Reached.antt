@@ -19,7 +19,7 @@ use Rattle.picture.proofs.Kept.{after-kept}
 use Rattle.decoder.specs.declared.record.Decoder.{Decoder}
 use Rattle.decoder.specs.declared.answers.Shown.{Shown}
 use Rattle.decoder.specs.declared.answers.Outcome.the-variants as H
-use Rattle.decoder.specs.Record.{place, startCode, storeBytes}
+use Rattle.decoder.specs.Record.{place, startCode, storeBytes, frameOf}
 use Rattle.decoder.specs.Turns.{Going, Ended, gave, stopped, nextPicture, pictureTurn}
 use Rattle.decoder.specs.HandOut.{pictures}
 use Rattle.decoder.proofs.TwoTurns.{Holds, isStop, goes-held, held-stops}
@@ -62,12 +62,12 @@ next-sequence s d = by-case (λ (x : Decoder). x .sequence ≡ d .sequence) (eqZ
 
 -- a picture that is read to its end, or leaves early
 module _ (s : List ℕ) {d : Decoder} {l : List ℕ} (k : Fit d l) where
-  pub run-left : Ways (Left (d .sequence .sizes) (d .picture) l (run (P.pictureHeader (d .picture)) s (place d) .value .decoded))
-      (Stopped s (d .sequence .sizes) (d .sequence .matrices) (k .area) (d .picture) l) (pictureRun s d l .value)
-  run-left = picture-left s (d .sequence .sizes) (d .sequence .matrices) (k .area) (d .picture) l (k .stores .cur) (k .long) (place d)
+  pub run-left : Ways (Left (d .sequence .sizes) (frameOf d l) (run (P.pictureHeader (d .picture)) s (place d) .value .decoded))
+      (Stopped s (d .sequence .sizes) (d .sequence .matrices) (k .area) (frameOf d l)) (pictureRun s d l .value)
+  run-left = picture-left s (d .sequence .sizes) (d .sequence .matrices) (k .area) (frameOf d l) (k .stores .cur) (k .long) (place d)
 
   pub frame-left : {f : P.Frame} {a : ℕ} → Reads s d l f a
-      → Left (d .sequence .sizes) (d .picture) l (run (P.pictureHeader (d .picture)) s (place d) .value .decoded) f
+      → Left (d .sequence .sizes) (frameOf d l) (run (P.pictureHeader (d .picture)) s (place d) .value .decoded) f
   frame-left r = rw r at run-left
 
   pub stopped-left : {n a : ℕ} {m : List ℕ} → pictureRun s d l ≡ record { value = out n m; at = a }
@@ -84,7 +84,7 @@ module _ (s : List ℕ) {d : Decoder} {l : List ℕ} (k : Fit d l) where
       }
     where
       go : (b : Bool) → run (P.pictureHeader (d .picture)) s (place d) .value .decoded ≡ b
-          → Left (d .sequence .sizes) (d .picture) l (run (P.pictureHeader (d .picture)) s (place d) .value .decoded) f → PossibleStores (f .picture .stores)
+          → Left (d .sequence .sizes) (frameOf d l) (run (P.pictureHeader (d .picture)) s (place d) .value .decoded) f → PossibleStores (f .picture .stores)
       go true e j =
           rw (j .stores e) (by-case PossibleStores (eqb (f .picture .«picture_type») 3) (λ b. k .stores) (λ b. after-kept (k .stores)))
       go false e j = rw (j .others e) (k .stores)

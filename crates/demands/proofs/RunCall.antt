@@ -33,8 +33,8 @@ use Rattle.bits.specs.Bounds.{longestStream, lastPosition}
 
 -- ---- question 2
 
-all-true : {a b c d e : Bool} → a ≡ true → b ≡ true → c ≡ true → d ≡ true → e ≡ true → (a && b && c && d && e) ≡ true
-all-true p q r t u = rw (p, q, r, t, u)
+all-true : {a b c d e f : Bool} → a ≡ true → b ≡ true → c ≡ true → d ≡ true → e ≡ true → f ≡ true → (a && b && c && d && e && f) ≡ true
+all-true p q r t u v = rw (p, q, r, t, u, v)
 
 -- ---- a call that is given a record with a header
 
@@ -42,13 +42,13 @@ module _ (s : List ℕ) (short : length s ≤ longestStream) where
   pub keeps-possible : {d : Decoder} {l : List ℕ} → Keeps s d l → possibleWith s d ≡ true
   unfolding possible
   keeps-possible {d} {l} k =
-      all-true (le-leb (place d) lastPosition (omega arith)) (k .sequence) (k .picture) (le-leb (d .«frames_decoded») mostPictures (omega arith))
+      all-true (le-leb (place d) lastPosition (omega arith)) (k .sequence) (k .picture) (k .block) (le-leb (d .«frames_decoded») mostPictures (omega arith))
       (rw (k .mark) refl)
 
   pub keeps-marked : {d : Decoder} {l : List ℕ} (n : ℕ) → Keeps s d l → (n ≡ 8) ⊎ (n ≡ 9) → possibleWith s (stopAs n d) ≡ true
   unfolding possible
   keeps-marked {d} {l} n k m =
-      all-true (le-leb (place d) lastPosition (omega arith)) (k .sequence) (k .picture) (le-leb (d .«frames_decoded») mostPictures (omega arith))
+      all-true (le-leb (place d) lastPosition (omega arith)) (k .sequence) (k .picture) (k .block) (le-leb (d .«frames_decoded») mostPictures (omega arith))
       (⊎-elim (λ (e : n ≡ 8). rw e refl) (λ (e : n ≡ 9). rw e refl) m)
 
   -- the questions 3 to 6 are passed, and the turns follow
@@ -73,13 +73,13 @@ module _ (s : List ℕ) (short : length s ≤ longestStream) where
   pub waits-possible : {d : Decoder} → Waits s d → possibleWith s d ≡ true
   unfolding possible
   waits-possible {d} k =
-      all-true (le-leb (place d) lastPosition (omega (arith, k .inside))) (waits-sequence k) (k .picture)
+      all-true (le-leb (place d) lastPosition (omega (arith, k .inside))) (waits-sequence k) (k .picture) (k .block)
       (le-leb (d .«frames_decoded») mostPictures (omega (arith, k .count))) (rw (k .mark) refl)
 
   pub waits-marked : {d : Decoder} (n : ℕ) → Waits s d → (n ≡ 8) ⊎ (n ≡ 9) → possibleWith s (stopAs n d) ≡ true
   unfolding possible
   waits-marked {d} n k m =
-      all-true (le-leb (place d) lastPosition (omega (arith, k .inside))) (waits-sequence k) (k .picture)
+      all-true (le-leb (place d) lastPosition (omega (arith, k .inside))) (waits-sequence k) (k .picture) (k .block)
       (le-leb (d .«frames_decoded») mostPictures (omega (arith, k .count))) (⊎-elim (λ (e : n ≡ 8). rw e refl) (λ (e : n ≡ 9). rw e refl) m)
 
   pub waits-call : (d : Decoder) (l : List ℕ) → Waits s d → handOut d s l ≡ goOn s d l (askStore d l (askHeader s d))

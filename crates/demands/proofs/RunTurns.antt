@@ -15,6 +15,7 @@ use Rattle.bits.specs.Programs.{Out, run, eqZ, findStartCode}
 use Rattle.bits.proofs.Start.{isCode}
 use Rattle.bits.proofs.Programs.{run-on, run-most}
 use Rattle.laws.proofs.Tests.{by-case}
+use Rattle.codes.proofs.Bounds.{bounded-of, bounded-by}
 use Rattle.picture.specs.Ways.{Way, on, out}
 use Rattle.picture.specs.declared.state.Picture.{Picture}
 use Rattle.picture.specs.Pictures.{Frame, picture}
@@ -23,7 +24,7 @@ use Rattle.picture.proofs.Places.{Ahead, picture-past, picture-ahead}
 use Rattle.decoder.specs.declared.record.Decoder.{Decoder}
 use Rattle.decoder.specs.declared.answers.Shown.{Shown}
 use Rattle.decoder.specs.declared.answers.Outcome.the-variants as H
-use Rattle.decoder.specs.Record.{place, startCode, placeAs, pictureAs, heldAs, searchedAs}
+use Rattle.decoder.specs.Record.{place, startCode, pastFrame, frameOf, heldAs, searchedAs}
 use Rattle.decoder.specs.Turns.{Going, going, Ended, gave, stopped, nextPicture, hasEnded, isFollowed, isReference}
 use Rattle.decoder.specs.Turns.{counted, handed, shown, flushed, pastPicture, decoded, searched, pictureTurn}
 use Rattle.decoder.specs.HandOut.{pictures}
@@ -109,10 +110,11 @@ module _ (s : List ℕ) (short : length s ≤ longestStream) (bytes : (k : ℕ) 
   past-row : (d : Decoder) (l : List ℕ) (w : Way Frame) (e : ℕ) → Keeps s d l → Kept.Ends (length l) (Kept.StaysPossible l) w → Ahead s e w
       → place d + 29 ≤ e → e ≤ length s * 8 → Turns s (d .«frames_decoded») (pastPicture d (record { value = w; at = e }))
   unfolding pastPicture
-  past-row d l (on f) e k h a p m = shown-row s (placeAs e (pictureAs (f .picture) d)) (f .store) (record {
+  past-row d l (on f) e k h a p m = shown-row s (pastFrame f e d) (f .store) (record {
     header = k .header;
     sequence = k .sequence;
     picture = h .picture;
+    block = bounded-by (h .block);
     mark = k .mark;
     long = omega arith;
     inside = m;
@@ -126,11 +128,12 @@ module _ (s : List ℕ) (short : length s ≤ longestStream) (bytes : (k : ℕ) 
   decoded-row d l k h =
       let z = d .sequence .sizes in
       let y = sized (d .sequence) (k .header) (k .sequence) in
-      let p = picture z (d .sequence .matrices) (d .picture) l in
+      let p = picture z (d .sequence .matrices) (frameOf d l) in
       past-row d l (run p s (place d) .value) (run p s (place d) .at) k
-      (Kept.picture-kept z (d .sequence .matrices) (d .picture) l s (place d) (y .wide) (y .high) (y .area) (k .picture) short bytes)
-      (picture-ahead z (d .sequence .matrices) (d .picture) l s (place d) short h)
-      (picture-past z (d .sequence .matrices) (d .picture) l s (place d) (omega arith))
+      (Kept.picture-kept z (d .sequence .matrices) (frameOf d l) s (place d) (y .wide) (y .high) (y .area) (k .picture)
+      (bounded-of (d .«block_data») (k .block)) short bytes)
+      (picture-ahead z (d .sequence .matrices) (frameOf d l) s (place d) short h)
+      (picture-past z (d .sequence .matrices) (frameOf d l) s (place d) (omega arith))
       (run-most p s (place d) (length s) (k .inside) (omega arith))
 
   -- RULES 8.3: before a picture start code bits are left, so a second one is found

@@ -13,7 +13,7 @@ use Rattle.decoder.specs.declared.answers.Shown.{Shown}
 use Rattle.decoder.specs.declared.answers.Outcome.the-variants as H
 use Rattle.decoder.specs.Record.{place, startCode, heldAs}
 use Rattle.decoder.specs.Turns.{Going, going, Ended, gave, stopped, nextPicture, hasEnded, isFollowed, isReference}
-use Rattle.decoder.specs.Turns.{pictureAt, counted, handed, shown, flushed, pastPicture, decoded, searched, pictureTurn}
+use Rattle.decoder.specs.Turns.{told, counted, handed, shown, flushed, pastPicture, decoded, searched, pictureTurn}
 use Rattle.demands.specs.Questions.{isThere, isFlush}
 use Rattle.demands.specs.Handing.{pictureRun, Reads, past, isB, Handing, b-picture, held-picture, flushed-picture}
 
@@ -54,7 +54,7 @@ module _ (s : List ℕ) (d : Decoder) (l : List ℕ) where
       go : (t : Bool) → eqZ (startCode d) (negsuc 0) ≡ t → (f : Bool) → isFollowed s (place d) ≡ f → (u : Bool)
           → (d .«has_reference_frame» && hasEnded s (place d) && isReference d) ≡ u → (isThere s d ≡ true → TurnIs s d l (decoded s d l))
           → TurnIs s d l (cond t
-          (stop (cond u (gave (pictureAt (d .picture .stores .bwd) (d .clock .«last_frame_time»)) (heldAs false d) l) (gave (H.Refused 7) d l)))
+          (stop (cond u (gave (H.Picture (told (d .picture .stores .bwd) (heldAs false d))) (heldAs false d) l) (gave (H.Refused 7) d l)))
           (cond f (decoded s d l) (stop (gave (H.Refused 7) d l))))
       go true a f b true c k = gives (flushed-picture (rw a refl) (rw a c))
       go true a f b false c k = is-seven (rw a refl) (rw a c)

@@ -17,6 +17,7 @@ use Rattle.laws.proofs.Tests.{by-case}
 use Rattle.picture.specs.declared.state.Sizes.{Sizes}
 use Rattle.picture.specs.declared.state.Picture.{Picture}
 use Rattle.picture.specs.State.{storesAs, firstStores}
+use Rattle.codes.specs.Matrices.{bounded}
 use Rattle.picture.specs.Possible.{possiblePicture}
 use Rattle.picture.proofs.Possible.{stores-of, picture-of, picture-by}
 use Rattle.header.specs.Possible.{across, sizesOf, sameSizes, possibleSequence}
@@ -39,6 +40,7 @@ pub record Waits (s : List ℕ) (d : Decoder) : Type 0 where
   pub height : d .sequence .height ≤ 4095
   pub sizes : sameSizes (d .sequence .sizes) noSizes ≡ true
   pub picture : possiblePicture (d .picture) ≡ true
+  pub block : bounded (d .«block_data») ≡ true
   pub mark : d .stop ≡ 0
   pub inside : place d ≤ length s * 8
   pub count : d .«frames_decoded» ≡ 0
@@ -52,6 +54,7 @@ fresh-waits s = record {
   height = omega arith;
   sizes = refl;
   picture = fresh-starts .picture;
+  block = fresh-starts .block;
   mark = refl;
   inside = omega arith;
   count = refl;
@@ -71,6 +74,7 @@ module _ {s : List ℕ} {d : Decoder} (k : Waits s d) where
     height = k .height;
     sizes = k .sizes;
     picture = h;
+    block = k .block;
     mark = k .mark;
     inside = m;
     count = k .count;
@@ -141,6 +145,7 @@ size-accepts {s} {d} k c =
       height = small .1;
       sizes = k .sizes;
       picture = k .picture;
+      block = k .block;
       mark = k .mark;
       inside = there;
       count = k .count;
@@ -152,6 +157,7 @@ size-accepts {s} {d} k c =
         header = refl;
         sequence = sequence-first w v (small .0) (small .1) (above w (q .0)) (above v (q .1));
         picture = first-stores (d .picture) (k .picture);
+        block = k .block;
         mark = k .mark;
         long = long;
         inside = run-most rest s (run size s (place d) .at) (length s) there (omega arith);

@@ -11,8 +11,8 @@ use Rattle.picture.specs.Pictures.{Frame, picture}
 use Rattle.header.specs.Store.{cleared}
 use Rattle.decoder.specs.declared.record.Decoder.{Decoder}
 use Rattle.decoder.specs.declared.answers.Shown.{Shown}
-use Rattle.decoder.specs.Record.{fresh, place, placeAs, pictureAs, heldAs, storeBytes}
-use Rattle.decoder.specs.Turns.{Going, nextPicture, counted}
+use Rattle.decoder.specs.Record.{fresh, place, pastFrame, frameOf, heldAs, storeBytes}
+use Rattle.decoder.specs.Turns.{Going, nextPicture, counted, told}
 use Rattle.decoder.specs.HandOut.{begun}
 use Rattle.demands.specs.Questions.{withHeader, headed, isThere, isFlush}
 use Rattle.demands.specs.After.{InTurn}
@@ -25,7 +25,7 @@ pub record Opened (s l : List ℕ) (x : Decoder) (m : List ℕ) : Type 0 where
 
 -- the run of the picture at the record's place, decoded in the store l
 abbrev pub pictureRun : List ℕ → Decoder → List ℕ → Out (Way Frame)
-pictureRun s d l = run (picture (d .sequence .sizes) (d .sequence .matrices) (d .picture) l) s (place d)
+pictureRun s d l = run (picture (d .sequence .sizes) (d .sequence .matrices) (frameOf d l)) s (place d)
 
 -- it is read to its end, leaves f and ends at the place a
 abbrev pub Reads : List ℕ → Decoder → List ℕ → Frame → ℕ → Type 0
@@ -33,26 +33,22 @@ Reads s d l f a = pictureRun s d l ≡ record { value = on f; at = a }
 
 -- the record behind it
 abbrev pub past : Decoder → Frame → ℕ → Decoder
-past d f a = placeAs a (pictureAs (f .picture) d)
+past d f a = pastFrame f a d
 
 abbrev pub isB : Frame → Bool
 isB f = eqb (f .picture .«picture_type») 3
-
--- RULES 8.10: the picture number k, with the record's next time
-abbrev pub withTime : ℕ → Decoder → Shown
-withTime k d = record { store = k; time = d .clock .time }
 
 -- RULES 8.5, 8.8: a turn with the record d behind its search and the store l: what it gives out, and record and store then
 pub data Handing (s : List ℕ) (d : Decoder) (l : List ℕ) : Shown → Decoder → List ℕ → Type 0 where
   -- a B picture, at once
   b-picture : {f : Frame} {a : ℕ} → isThere s d ≡ true → Reads s d l f a → isB f ≡ true
-      → Handing s d l (withTime (f .picture .stores .cur) d) (counted (past d f a)) (f .store)
+      → Handing s d l (told (f .picture .stores .cur) (counted (past d f a))) (counted (past d f a)) (f .store)
   -- the reference picture that was held, once the next one is read
   held-picture : {f : Frame} {a : ℕ} → isThere s d ≡ true → Reads s d l f a → isB f ≡ false → d .«has_reference_frame» ≡ true
-      → Handing s d l (withTime (f .picture .stores .fwd) d) (counted (past d f a)) (f .store)
+      → Handing s d l (told (f .picture .stores .fwd) (counted (past d f a))) (counted (past d f a)) (f .store)
   -- the one that is held at the end of the bits, with the time shown before
   flushed-picture : isThere s d ≡ false → isFlush s d ≡ true
-      → Handing s d l (record { store = d .picture .stores .bwd; time = d .clock .«last_frame_time» }) (heldAs false d) l
+      → Handing s d l (told (d .picture .stores .bwd) (heldAs false d)) (heldAs false d) l
 
 -- a hand-out with the record d, the stream s and the store l gives out i, in one of its turns, and leaves x and m
 pub record HandsOut (d : Decoder) (s l : List ℕ) (i : Shown) (x : Decoder) (m : List ℕ) : Type 0 where

@@ -14,7 +14,7 @@ use Rattle.picture.specs.Pictures.{Frame, picture}
 use Rattle.header.specs.Sequences.{size, rest}
 use Rattle.conversion.specs.Pictures.{fits}
 use Rattle.decoder.specs.declared.record.Decoder.{Decoder}
-use Rattle.decoder.specs.Record.{fresh, place, startCode, storeBytes}
+use Rattle.decoder.specs.Record.{fresh, place, startCode, storeBytes, frameOf}
 use Rattle.decoder.specs.Possible.{possible, possibleWith}
 use Rattle.decoder.specs.Headers.{findSequence, sized, accepted}
 use Rattle.decoder.specs.Turns.{Going, nextPicture, hasEnded, isFollowed, isReference, pictureTurn}
@@ -89,7 +89,7 @@ leavesWith (out n l) = n
 
 -- how the picture at the record's place ends, in the store l
 abbrev pub pictureEnd : List ℕ → Decoder → List ℕ → Way Frame
-pictureEnd s d l = run (picture (d .sequence .sizes) (d .sequence .matrices) (d .picture) l) s (place d) .value
+pictureEnd s d l = run (picture (d .sequence .sizes) (d .sequence .matrices) (frameOf d l)) s (place d) .value
 
 -- RULES QB, Q8, Q9: the picture ends at the first value that is outside, and says which question that was
 abbrev pub isInside : ℕ → Way Frame → Question

@@ -18,11 +18,11 @@ use Rattle.prediction.specs.Planes.{After, predictedPlanes}
 use Rattle.prediction.specs.declared.place.Macroblock.{Macroblock}
 use Rattle.prediction.specs.Predict.{macroblockAt, inHalves}
 use Rattle.picture.specs.declared.state.Motion.{Motion}
-use Rattle.picture.specs.declared.state.Setting.{Setting}
-use Rattle.picture.specs.declared.state.SliceState.{SliceState}
+use Rattle.picture.specs.declared.state.Context.{Context}
+use Rattle.picture.specs.declared.state.Slice.{Slice}
 use Rattle.picture.specs.Ways.{Way, on, out, also}
 use Rattle.picture.specs.Predictions.{unlessRefused, predictFrom, predictBoth, predict}
-use Rattle.picture.specs.Views.{setting, motions, answered, Foretold}
+use Rattle.picture.specs.Views.{answered, Foretold}
 
 -- a component in half samples, as the code reads it
 pub still-small : (z : ℤ) → natAbs z ≤ 2048 → natAbs (toZ w32 (ofZ w32 z)) ≤ 2048
@@ -37,23 +37,23 @@ foretold o p q = rw (p, q) (record { is = go (o .answer) })
     go Refused = refl
 
 -- the planes of one direction, from the numbers that the code has
-pub from-planes : (g : Setting) (address k : ℕ) (m : Motion) (interpolate : Bool) (l : List ℕ) {place : Macroblock} {h v : ℤ} {r : Predicted} {l₁ : List ℕ}
+pub from-planes : (g : Context) (address k : ℕ) (m : Motion) (interpolate : Bool) (l : List ℕ) {place : Macroblock} {h v : ℤ} {r : Predicted} {l₁ : List ℕ}
     → place ≡ macroblockAt (g .sizes .«mb_width») (g .sizes .«mb_height») address
     → h ≡ inHalves (m .«full_px») (m .h) → v ≡ inHalves (m .«full_px») (m .v)
     → let o = predictedPlanes place k (g .stores .cur) h v interpolate l in (r ≡ o .answer) × (l₁ ≡ o .store)
-    → Foretold (predictFrom (setting g) address k m interpolate l) r l₁
+    → Foretold (predictFrom g address k m interpolate l) r l₁
 unfolding predictFrom
 from-planes g address k m interpolate l p eh ev q = let o = rw (p, eh, ev) at q in foretold _ (o .0) (o .1)
 
-module _ (g : Setting) (address : ℕ) (x : SliceState) (l : List ℕ) where
+module _ (g : Context) (address : ℕ) (x : Slice) (l : List ℕ) where
   abbrev Forward : Predicted → List ℕ → Type 0
-  Forward = Foretold (predictFrom (setting g) address (g .stores .fwd) (x .«motion_forward») false l)
+  Forward = Foretold (predictFrom g address (g .stores .fwd) (x .«motion_forward») false l)
 
   abbrev Both : Predicted → List ℕ → Type 0
-  Both = Foretold (predictBoth (setting g) address (motions x) l)
+  Both = Foretold (predictBoth g address x l)
 
   abbrev Any : Predicted → List ℕ → Type 0
-  Any = Foretold (predict (setting g) address (motions x) l)
+  Any = Foretold (predict g address x l)
 
   module _ {l₁ : List ℕ} {r : Predicted} (h : Forward r l₁) where
     pub both-refused : r ≡ Refused → Both Refused l₁
@@ -65,7 +65,7 @@ module _ (g : Setting) (address : ℕ) (x : SliceState) (l : List ℕ) where
     both-forward e b = record { is = rw (h .is, e) (if-no _ b refl) }
 
     pub both-both : r ≡ Done → x .«motion_backward» .«is_set» ≡ true → {l₂ : List ℕ} {q : Predicted}
-        → Foretold (predictFrom (setting g) address (g .stores .bwd) (x .«motion_backward») true l₁) q l₂ → Both q l₂
+        → Foretold (predictFrom g address (g .stores .bwd) (x .«motion_backward») true l₁) q l₂ → Both q l₂
     unfolding predictBoth also
     both-both e b k = record { is = rw (h .is, e) (if-yes _ b (k .is)) }
 
@@ -83,7 +83,7 @@ module _ (g : Setting) (address : ℕ) (x : SliceState) (l : List ℕ) where
         record { is = if-yes _ (and-yes (eqb (g .«picture_type») 3) (x .«motion_forward» .«is_set») e f) (h .is) }
 
     pub predict-backward : x .«motion_forward» .«is_set» ≡ false
-        → Foretold (predictFrom (setting g) address (g .stores .bwd) (x .«motion_backward») false l) r l₁ → Any r l₁
+        → Foretold (predictFrom g address (g .stores .bwd) (x .«motion_backward») false l) r l₁ → Any r l₁
     unfolding predict
     predict-backward f h =
         let e = eq-eqb (g .«picture_type») 3 t in

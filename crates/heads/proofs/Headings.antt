@@ -1,7 +1,7 @@
 -- What a macroblock has before its blocks, as the code reads it. Assumes nothing.
 use mathlib.Core.Path.{_≡_}
 use mathlib.Core.Bool.{true, false}
-use mathlib.Core.List.{List, []}
+use mathlib.Core.List.{List}
 use Prim.Native.Nat.{ℕ, _≤_}
 use native.Mathlib.Omega.{arith}
 use borrow.Author.Tests.{eq-eqb}
@@ -18,11 +18,10 @@ use Rattle.motion.specs.Displacement.{InRange}
 use Rattle.motion.specs.Vector.{motionVector}
 use Rattle.motion.proofs.OneStep.{component-in}
 use Rattle.picture.specs.declared.state.Motion.{Motion}
-use Rattle.picture.specs.declared.state.SliceState.{SliceState}
+use Rattle.picture.specs.declared.state.Slice.{Slice}
 use Rattle.picture.specs.Possible.{PossibleMotion, PossibleSlice}
-use Rattle.picture.specs.State.{zeroed, vectorAs}
-use Rattle.picture.specs.Heads.{isIntra, scale, vector, forward, vectors, head}
-use Rattle.picture.specs.Views.{sliceOf, motions, flaggedOf, stillOf, resetOf, Leads}
+use Rattle.picture.specs.State.{zeroed, vectorAs, dcReset}
+use Rattle.picture.specs.Heads.{isIntra, scale, vector, forward, vectors, flagged, still, head}
 use Rattle.picture.proofs.Syntax.{flagged-kept, scale-gives}
 
 -- ---- components
@@ -56,17 +55,15 @@ forward-zero type m i f t e = rw e (record { runs = r-no _ f (r-yes _ (eq-eqb ty
 
 -- ---- the head
 
-module _ (t : ℕ) (x : SliceState) {f q : SliceState} {s : List ℕ} {from to : Reader} (is : f ≡ flaggedOf t x)
-    (l : Leads (λ left. scale t (sliceOf f left)) s from to q) where
-  pub scaled-possible : PossibleSlice (motions x) → PossibleSlice (motions q)
-  scaled-possible k = given-by (scale-gives t (flagged-kept k t)) (rw is at (l .runs []))
+module _ (t : ℕ) (x : Slice) {f q : Slice} {s : List ℕ} {from to : Reader} (is : f ≡ flagged t x) (l : Reading (scale t f) s from q to) where
+  pub scaled-possible : PossibleSlice x → PossibleSlice q
+  scaled-possible k = given-by (scale-gives t (flagged-kept k t)) (rw is at (l .runs))
 
-  pub head-still : (type : ℕ) {y : SliceState} → isIntra t ≡ true → y ≡ stillOf q → Leads (λ left. head type t (sliceOf x left)) s from to y
+  pub head-still : (type : ℕ) {y : Slice} → isIntra t ≡ true → y ≡ still q → Reading (head type t x) s from y to
   unfolding head
-  head-still type e w = rw w (record { runs = λ left. r-call _ (rw is at (l .runs left)) (r-yes _ e r-done); inside = l .inside })
+  head-still type e w = rw w (record { runs = r-call _ (rw is at (l .runs)) (r-yes _ e r-done); inside = l .inside })
 
-  pub head-vectors : (type : ℕ) {r : SliceState} {end : Reader} {y : SliceState} → isIntra t ≡ false → r ≡ resetOf q
-      → Leads (λ left. vectors type (sliceOf r left)) s to end y → Leads (λ left. head type t (sliceOf x left)) s from end y
+  pub head-vectors : (type : ℕ) {r : Slice} {end : Reader} {y : Slice} → isIntra t ≡ false → r ≡ dcReset q → Reading (vectors type r) s to y end
+      → Reading (head type t x) s from y end
   unfolding head
-  head-vectors type e w k =
-      record { runs = λ left. r-call _ (rw is at (l .runs left)) (r-no _ e (rw w at (k .runs left))); inside = k .inside }
+  head-vectors type e w k = record { runs = r-call _ (rw is at (l .runs)) (r-no _ e (rw w at (k .runs))); inside = k .inside }

@@ -8,29 +8,29 @@ use Rattle.prediction.specs.declared.predict.Predicted.{Predicted}
 use Rattle.prediction.specs.declared.predict.Predicted.the-variants.{Done, Refused}
 use Rattle.picture.specs.Ways.{also}
 use Rattle.picture.specs.Predictions.{predict, predictSkipped}
-use Rattle.picture.specs.declared.state.Setting.{Setting}
-use Rattle.picture.specs.declared.state.SliceState.{SliceState}
-use Rattle.picture.specs.Views.{setting, motions, Foretold}
+use Rattle.picture.specs.declared.state.Context.{Context}
+use Rattle.picture.specs.declared.state.Slice.{Slice}
+use Rattle.picture.specs.Views.{Foretold}
 
 -- before the macroblock k of the n that are skipped from this address on
-pub record AtSkip (g : Setting) (x : SliceState) (address n : ℕ) (l₀ l : List ℕ) (k : ℕ) : Type 0 where
+pub record AtSkip (g : Context) (x : Slice) (address n : ℕ) (l₀ l : List ℕ) (k : ℕ) : Type 0 where
   pub few : k ≤ n
   pub long : length l ≡ length l₀
-  pub rest : predictSkipped (setting g) (motions x) address n l₀ ≡ predictSkipped (setting g) (motions x) (address + k) (n - k) l
+  pub rest : predictSkipped g x address n l₀ ≡ predictSkipped g x (address + k) (n - k) l
 
-pub at-skip : {g : Setting} {x : SliceState} {address n : ℕ} {l : List ℕ} → AtSkip g x address n l l 0
+pub at-skip : {g : Context} {x : Slice} {address n : ℕ} {l : List ℕ} → AtSkip g x address n l l 0
 at-skip {g} {x} {address} {n} {l} =
     let a : address + 0 ≡ address = omega arith in
     let m : n - 0 ≡ n = omega arith in
     record { few = omega arith; long = refl; rest = rw (a, m) }
 
-module _ {g : Setting} {x : SliceState} {address n : ℕ} {l₀ l : List ℕ} {k : ℕ} (i : AtSkip g x address n l₀ l k) where
-  pub skip-end : n ≤ k → Foretold (predictSkipped (setting g) (motions x) address n l₀) Done l
+module _ {g : Context} {x : Slice} {address n : ℕ} {l₀ l : List ℕ} {k : ℕ} (i : AtSkip g x address n l₀ l k) where
+  pub skip-end : n ≤ k → Foretold (predictSkipped g x address n l₀) Done l
   unfolding predictSkipped
   skip-end h = let e : n - k ≡ 0 = omega arith in record { is = rw e at (i .rest) }
 
-  module _ (h : k < n) {r : Predicted} {l₁ : List ℕ} (t : Foretold (predict (setting g) (address + k) (motions x) l) r l₁) where
-    pub skip-refused : r ≡ Refused → Foretold (predictSkipped (setting g) (motions x) address n l₀) Refused l₁
+  module _ (h : k < n) {r : Predicted} {l₁ : List ℕ} (t : Foretold (predict g (address + k) x l) r l₁) where
+    pub skip-refused : r ≡ Refused → Foretold (predictSkipped g x address n l₀) Refused l₁
     unfolding predictSkipped also
     skip-refused e = let m : n - k ≡ suc (n - (k + 1)) = omega arith in record { is = rw (m, t .is, e) at (i .rest) }
 

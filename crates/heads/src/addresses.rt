@@ -1,15 +1,16 @@
 // RULES 7.8 to 7.11: the address of a macroblock.
-use picture::state::Setting;
-use picture::state::SliceState;
+use picture::state::Context;
+use picture::state::Slice;
 ghost use mathlib.Core.Path.{_≡_};
 ghost use mathlib.Core.Bool.{_||_};
 ghost use Prim.Native.Nat.{_≤_};
 ghost use lib.IntN.{pos, _+ℤ_};
 ghost use lib.Signed.{ltZ, leZ};
-ghost use Rattle.picture.specs.Views.{addressAs, Reaches, Adds};
+ghost use Rattle.picture.specs.State.{addressAs};
+ghost use Rattle.picture.specs.Views.{Reaches, Adds};
 
 // On by n.
-pub fn further(mut state: SliceState, n: usize) -> SliceState
+pub fn further(mut state: Slice, n: usize) -> Slice
     requires { ⌜ Reaches (state .«macroblock_address») n ⌝ }
     ensures { λ r. ⌜ r ≡ addressAs (state .«macroblock_address» +ℤ pos n) state ⌝ }
 {
@@ -19,7 +20,7 @@ pub fn further(mut state: SliceState, n: usize) -> SliceState
 }
 
 // RULES 7.8: no macroblock has the address.
-pub fn nowhere(g: Setting, address: i32) -> bool
+pub fn nowhere(g: Context, address: i32) -> bool
     requires { ⌜ g .sizes .«mb_size» ≤ 65536 ⌝ }
     ensures { λ r. ⌜ r ≡ (ltZ address (pos 0) || leZ (pos (g .sizes .«mb_size»)) address) ⌝ }
 {
@@ -30,7 +31,7 @@ pub fn nowhere(g: Setting, address: i32) -> bool
 }
 
 // RULES 7.9, 7.6: n more leads past the last macroblock.
-pub fn past(g: Setting, address: i32, n: usize) -> bool
+pub fn past(g: Context, address: i32, n: usize) -> bool
     requires { ⌜ g .sizes .«mb_size» ≤ 65536 ⌝ }
     requires { ⌜ Adds address n ⌝ }
     ensures { λ r. ⌜ r ≡ leZ (pos (g .sizes .«mb_size»)) (address +ℤ pos n) ⌝ }

@@ -9,18 +9,18 @@ use codes::walk::VlcUint;
 use motion::vector::decode_motion_vector;
 use picture::flags::flag;
 use picture::state::Motion;
-use picture::state::SliceState;
+use picture::state::Slice;
 ghost use mathlib.Core.Path.{_≡_};
 ghost use Rattle.bits.specs.Runs.{Inside, Reading};
 ghost use Rattle.codes.specs.Lent.{Lent};
 ghost use Rattle.picture.specs.Possible.{PossibleMotion, PossibleSlice};
-ghost use Rattle.picture.specs.State.{zeroed, isSetAs};
-ghost use Rattle.picture.specs.Heads.{macroblockType, scale, vector, forward, backward, vectors, head, pattern};
-ghost use Rattle.picture.specs.Views.{PossibleMotions, Leads, sliceOf, motions, flaggedOf, stillOf, resetOf};
+ghost use Rattle.picture.specs.State.{zeroed, isSetAs, dcReset};
+ghost use Rattle.picture.specs.Heads.{macroblockType, scale, vector, forward, backward, vectors, flagged, still, head, pattern};
+ghost use Rattle.picture.specs.Views.{PossibleMotions};
 
 pub struct Headed {
     pub reader: Reader,
-    pub state: SliceState,
+    pub state: Slice,
 }
 
 struct MotionRead {
@@ -133,12 +133,12 @@ fn read_vectors(
     reader: Reader,
     tables: &Tables,
     picture_type: u32,
-    before: SliceState,
+    before: Slice,
 ) -> Headed
     requires { ⌜ Inside (now s) reader ⌝ }
     requires { ⌜ Lent (now tables) ⌝ }
     requires { ⌜ PossibleMotions before ⌝ }
-    ensures { λ r. ⌜ Leads (λ left. vectors «picture_type» (sliceOf before left)) (now (s .entry)) reader (r .reader) (r .state) ⌝ }
+    ensures { λ r. ⌜ Reading (vectors «picture_type» before) (now (s .entry)) reader (r .state) (r .reader) ⌝ }
 {
     let f = read_forward(s, reader, tables, picture_type, before.motion_forward);
     let b = read_backward(s, f.reader, tables, before.motion_backward);
@@ -155,9 +155,9 @@ fn read_vectors(
 }
 
 // RULES 7.13: 5 bits of scale with flag 16.
-fn read_scale(s: &[u8], reader: Reader, t: u32, before: SliceState) -> Headed
+fn read_scale(s: &[u8], reader: Reader, t: u32, before: Slice) -> Headed
     requires { ⌜ Inside (now s) reader ⌝ }
-    ensures { λ r. ⌜ Leads (λ left. scale t (sliceOf before left)) (now (s .entry)) reader (r .reader) (r .state) ⌝ }
+    ensures { λ r. ⌜ Reading (scale t before) (now (s .entry)) reader (r .state) (r .reader) ⌝ }
 {
     if flag(t, 16) {
         let q = reader.read(s, 5);
@@ -176,8 +176,8 @@ fn read_scale(s: &[u8], reader: Reader, t: u32, before: SliceState) -> Headed
 }
 
 // RULES 7.13: the flags "forward vector" and "backward vector".
-fn flagged(t: u32, before: SliceState) -> SliceState
-    ensures { λ r. ⌜ r ≡ flaggedOf t before ⌝ }
+fn flagged(t: u32, before: Slice) -> Slice
+    ensures { λ r. ⌜ r ≡ flagged t before ⌝ }
 {
     let forward = is_set_as(before.motion_forward, flag(t, 8));
     let backward = is_set_as(before.motion_backward, flag(t, 4));
@@ -188,8 +188,8 @@ fn flagged(t: u32, before: SliceState) -> SliceState
 }
 
 // RULES 7.14: an intra macroblock sets both vectors to 0.
-fn stilled(before: SliceState) -> SliceState
-    ensures { λ r. ⌜ r ≡ stillOf before ⌝ }
+fn stilled(before: Slice) -> Slice
+    ensures { λ r. ⌜ r ≡ still before ⌝ }
 {
     let forward = zeroed(before.motion_forward);
     let backward = zeroed(before.motion_backward);
@@ -200,8 +200,8 @@ fn stilled(before: SliceState) -> SliceState
 }
 
 // RULES 7.20: the DC predictors go back to 128.
-pub fn reset(before: SliceState) -> SliceState
-    ensures { λ r. ⌜ r ≡ resetOf before ⌝ }
+pub fn reset(before: Slice) -> Slice
+    ensures { λ r. ⌜ r ≡ dcReset before ⌝ }
 {
     let mut state = before;
     state.dc_predictor = [128; 3];
@@ -215,12 +215,12 @@ pub fn read_head(
     tables: &Tables,
     picture_type: u32,
     t: u32,
-    before: SliceState,
+    before: Slice,
 ) -> Headed
     requires { ⌜ Inside (now s) reader ⌝ }
     requires { ⌜ Lent (now tables) ⌝ }
-    requires { ⌜ PossibleSlice (motions before) ⌝ }
-    ensures { λ r. ⌜ Leads (λ left. head «picture_type» t (sliceOf before left)) (now (s .entry)) reader (r .reader) (r .state) ⌝ }
+    requires { ⌜ PossibleSlice before ⌝ }
+    ensures { λ r. ⌜ Reading (head «picture_type» t before) (now (s .entry)) reader (r .state) (r .reader) ⌝ }
 {
     let q = read_scale(s, reader, t, flagged(t, before));
     let after = q.reader;

@@ -1,7 +1,7 @@
 // RULES 7.17, 7.18, 6.10: the prediction of a macroblock, and of those that are skipped. Nothing is read.
+use picture::state::Context;
 use picture::state::Motion;
-use picture::state::Setting;
-use picture::state::SliceState;
+use picture::state::Slice;
 use prediction::place::macroblock_at;
 use prediction::predict::Predicted;
 use prediction::predict::predict_macroblock_planes;
@@ -12,7 +12,7 @@ ghost use Rattle.motion.specs.Displacement.{InRange};
 ghost use Rattle.prediction.specs.Predict.{inHalves};
 ghost use Rattle.picture.specs.Possible.{PossibleMotion};
 ghost use Rattle.picture.specs.Predictions.{predictFrom, predictBoth, predict, predictSkipped};
-ghost use Rattle.picture.specs.Views.{Held, PossibleMotions, Foretold, setting, motions};
+ghost use Rattle.picture.specs.Views.{Held, PossibleMotions, Foretold};
 
 // RULES 6.2: in half samples.
 fn in_halves(full: bool, x: i32) -> i32
@@ -28,7 +28,7 @@ fn in_halves(full: bool, x: i32) -> i32
 // The planes of the current store, from the store number k by the vector m.
 fn predict_from(
     store: &mut [u8],
-    g: Setting,
+    g: Context,
     address: usize,
     k: usize,
     m: Motion,
@@ -37,7 +37,7 @@ fn predict_from(
     requires { ⌜ Held g (now store) ⌝ }
     requires { ⌜ (address < g .sizes .«mb_width» * g .sizes .«mb_height») × (k < 3) × (g .stores .cur ≡ k → ⊥) ⌝ }
     requires { ⌜ PossibleMotion m ⌝ }
-    ensures { λ r. ⌜ Foretold (predictFrom (setting g) address k m interpolate (now (store .entry))) r (now (store .exit)) ⌝ }
+    ensures { λ r. ⌜ Foretold (predictFrom g address k m interpolate (now (store .entry))) r (now (store .exit)) ⌝ }
 {
     let h = in_halves(m.full_px, m.h);
     let v = in_halves(m.full_px, m.v);
@@ -46,11 +46,11 @@ fn predict_from(
 }
 
 // Both directions of a B picture, where the forward flag is set.
-fn predict_both(store: &mut [u8], g: Setting, address: usize, state: SliceState) -> Predicted
+fn predict_both(store: &mut [u8], g: Context, address: usize, state: Slice) -> Predicted
     requires { ⌜ Held g (now store) ⌝ }
     requires { ⌜ address < g .sizes .«mb_width» * g .sizes .«mb_height» ⌝ }
     requires { ⌜ PossibleMotions state ⌝ }
-    ensures { λ r. ⌜ Foretold (predictBoth (setting g) address (motions state) (now (store .entry))) r (now (store .exit)) ⌝ }
+    ensures { λ r. ⌜ Foretold (predictBoth g address state (now (store .entry))) r (now (store .exit)) ⌝ }
 {
     let Predicted::Done = predict_from(store, g, address, g.stores.fwd, state.motion_forward, false)
     else {
@@ -63,11 +63,11 @@ fn predict_both(store: &mut [u8], g: Setting, address: usize, state: SliceState)
 }
 
 // By the picture's type and the two flags.
-pub fn predict(store: &mut [u8], g: Setting, address: usize, state: SliceState) -> Predicted
+pub fn predict(store: &mut [u8], g: Context, address: usize, state: Slice) -> Predicted
     requires { ⌜ Held g (now store) ⌝ }
     requires { ⌜ address < g .sizes .«mb_width» * g .sizes .«mb_height» ⌝ }
     requires { ⌜ PossibleMotions state ⌝ }
-    ensures { λ r. ⌜ Foretold (predict (setting g) address (motions state) (now (store .entry))) r (now (store .exit)) ⌝ }
+    ensures { λ r. ⌜ Foretold (predict g address state (now (store .entry))) r (now (store .exit)) ⌝ }
 {
     if g.picture_type != 3 {
         return predict_from(store, g, address, g.stores.fwd, state.motion_forward, false);
@@ -88,15 +88,15 @@ pub fn predict(store: &mut [u8], g: Setting, address: usize, state: SliceState) 
 // RULES 7.11: n skipped macroblocks, the first at this address.
 pub fn predict_skipped(
     store: &mut [u8],
-    g: Setting,
+    g: Context,
     address: usize,
     n: usize,
-    state: SliceState,
+    state: Slice,
 ) -> Predicted
     requires { ⌜ Held g (now store) ⌝ }
     requires { ⌜ address + n ≤ g .sizes .«mb_width» * g .sizes .«mb_height» ⌝ }
     requires { ⌜ PossibleMotions state ⌝ }
-    ensures { λ r. ⌜ Foretold (predictSkipped (setting g) (motions state) address n (now (store .entry))) r (now (store .exit)) ⌝ }
+    ensures { λ r. ⌜ Foretold (predictSkipped g state address n (now (store .entry))) r (now (store .exit)) ⌝ }
 {
     let mut k: usize = 0;
     while k < n {

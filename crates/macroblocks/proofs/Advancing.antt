@@ -2,7 +2,7 @@
 use mathlib.Core.Path.{_≡_, refl, ap}
 use mathlib.Core.Bool.{false}
 use mathlib.Core.List.{List}
-use Prim.Native.Nat.{ℕ, zero, suc, _+_, _-_, _*_, _≤_, _<_}
+use Prim.Native.Nat.{ℕ, _+_, _-_, _*_, _≤_, _<_}
 use native.Mathlib.Omega.{arith}
 use borrow.Author.Tests.{lt-ltb, le-ltb}
 use lib.Dec.{T, eqb}
@@ -12,65 +12,45 @@ use mir.Syntax.{w32, w64}
 use mir.Val.{Fits, toZ, ofZ}
 use mir.Facts.{toZ-ofZ}
 use Rattle.laws.proofs.Ints.{Dif, up, dn, v, lit, neg, _⊕_, le-no, yes-le, fits-by, cast-by, cast-is}
-use Rattle.laws.proofs.Tests.{by-case, if-yes, if-no}
+use Rattle.laws.proofs.Tests.{by-case}
 use Rattle.prediction.specs.declared.predict.Predicted.{Predicted}
 use Rattle.prediction.specs.declared.predict.Predicted.the-variants.{Done, Refused}
-use Rattle.picture.specs.declared.state.Setting.{Setting}
-use Rattle.picture.specs.declared.state.SliceState.{SliceState}
+use Rattle.picture.specs.declared.state.Context.{Context}
+use Rattle.picture.specs.declared.state.Slice.{Slice}
 use Rattle.picture.specs.Possible.{PossibleSlice}
-use Rattle.picture.specs.Ways.{Way, on, out, also}
-use Rattle.picture.specs.Predictions.{predictFrom, predictBoth, predict, predictSkipped}
+use Rattle.picture.specs.Ways.{also}
+use Rattle.picture.specs.Predictions.{predictSkipped}
 use Rattle.picture.specs.Macroblocks.{skipReset, advance}
-use Rattle.picture.specs.Views.{given, setting, sliceOf, motions, addressAs, skipOf, Held, Here, PossibleMotions, Reaches, Foretold, Advances}
+use Rattle.picture.specs.State.{addressAs}
+use Rattle.picture.specs.Views.{Held, Here, PossibleMotions, Reaches, Foretold, Advances}
 use Rattle.picture.proofs.Possible.{between-of, between-by}
 use Rattle.picture.proofs.Syntax.{motions-kept, reset-kept, still-kept}
 use Rattle.blocks.proofs.Stores.{size-most}
 
 -- ---- what a skip resets
 
-module _ (g : Setting) (x : SliceState) where
-  -- the definition's reset is the code's
-  skip-is : (tables : List ℕ) (left : List ℤ) → skipReset (given g tables) (sliceOf x left) ≡ sliceOf (skipOf g x) left
-  unfolding skipReset skipOf
-  skip-is tables left =
-      by-case (λ y. skipReset (given g tables) (sliceOf x left) ≡ sliceOf y left) (eqb (g .«picture_type») 2)
-      (λ e. if-yes _ e refl) (λ e. if-no _ e refl)
+module _ (g : Context) (x : Slice) where
+  pub skip-address : skipReset g x .«macroblock_address» ≡ x .«macroblock_address»
+  unfolding skipReset
+  skip-address = by-case (λ (y : Slice). y .«macroblock_address» ≡ x .«macroblock_address») (eqb (g .«picture_type») 2) (λ e. refl) (λ e. refl)
 
-  pub skip-address : skipOf g x .«macroblock_address» ≡ x .«macroblock_address»
-  unfolding skipOf
-  skip-address = by-case (λ (y : SliceState). y .«macroblock_address» ≡ x .«macroblock_address») (eqb (g .«picture_type») 2) (λ e. refl) (λ e. refl)
-
-  skip-possible : {left : List ℤ} → PossibleSlice (sliceOf x left) → PossibleSlice (sliceOf (skipOf g x) left)
-  unfolding skipOf
-  skip-possible {left} k =
-      by-case (λ y. PossibleSlice (sliceOf y left)) (eqb (g .«picture_type») 2)
+  skip-possible : PossibleSlice x → PossibleSlice (skipReset g x)
+  unfolding skipReset
+  skip-possible k =
+      by-case PossibleSlice (eqb (g .«picture_type») 2)
       (λ e. motions-kept (reset-kept k) (still-kept k .forward) (k .backward)) (λ e. reset-kept k)
 
-  pub skip-motions : PossibleSlice (motions x) → PossibleMotions (skipOf g x)
+  pub skip-motions : PossibleSlice x → PossibleMotions (skipReset g x)
   skip-motions k = let p = skip-possible k in record { forward = p .forward; backward = p .backward }
-
--- ---- predictions do not see matrices and coefficients
-
-also-same : {A B : Type 0} (w : Way A) {f h : A → Way B} → ((x : A) → f x ≡ h x) → also w f ≡ also w h
-unfolding also
-also-same (on x) e = e x
-also-same (out n l) e = refl
-
-skipped-same : (g : Setting) (x : SliceState) (tables : List ℕ) (left : List ℤ) (address n : ℕ) (l : List ℕ)
-    → predictSkipped (given g tables) (sliceOf x left) address n l ≡ predictSkipped (setting g) (motions x) address n l
-unfolding predictSkipped predict predictBoth predictFrom
-skipped-same g x tables left address zero l = refl
-skipped-same g x tables left address (suc n) l =
-    also-same (predict (setting g) address (motions x) l) (λ m. skipped-same g x tables left (address + 1) n m)
 
 -- ---- the address that is reached
 
-here-at : {g : Setting} {store : List ℕ} → Held g store → {a : ℤ} {p m : ℕ} → Dif a p m → m ≤ p → p < m + g .sizes .«mb_size» → Here g a
+here-at : {g : Context} {store : List ℕ} → Held g store → {a : ℤ} {p m : ℕ} → Dif a p m → m ≤ p → p < m + g .sizes .«mb_size» → Here g a
 here-at k d low high =
     record { natural = cast-by {w = w64} d low (omega (arith, size-most k)) .0; below = omega (arith, cast-is d low, k .size) }
 
-moved-possible : {x : SliceState} {left : List ℤ} → PossibleSlice (sliceOf x left) → {a : ℤ} {p m : ℕ} → Dif a p m → m ≤ p + 1
-    → p ≤ m + 402700000 → PossibleSlice (sliceOf (addressAs a x) left)
+moved-possible : {x : Slice} → PossibleSlice x → {a : ℤ} {p m : ℕ} → Dif a p m → m ≤ p + 1
+    → p ≤ m + 402700000 → PossibleSlice (addressAs a x)
 moved-possible k d low high =
     record {
       scale = k .scale;
@@ -78,10 +58,9 @@ moved-possible k d low high =
       forward = k .forward;
       backward = k .backward;
       predictors = k .predictors;
-      block = k .block;
     }
 
-module _ (g : Setting) (n : ℕ) (x : SliceState) {store : List ℕ} (k : Held g store) (p : PossibleSlice (motions x))
+module _ (g : Context) (n : ℕ) (x : Slice) {store : List ℕ} (k : Held g store) (p : PossibleSlice x)
     (h : leZ (pos (g .sizes .«mb_size»)) (x .«macroblock_address» +ℤ pos n) ≡ false) where
   abbrev a : ℤ
   a = x .«macroblock_address»
@@ -97,7 +76,7 @@ module _ (g : Setting) (n : ℕ) (x : SliceState) {store : List ℕ} (k : Held g
   next-low : dn a + 0 ≤ up a + 1
   next-low = omega (arith, bounds)
 
-  pub next-read : {y : SliceState} → y ≡ addressAs (a +ℤ pos 1) x → toZ w32 (ofZ w32 (y .«macroblock_address»)) ≡ a +ℤ pos 1
+  pub next-read : {y : Slice} → y ≡ addressAs (a +ℤ pos 1) x → toZ w32 (ofZ w32 (y .«macroblock_address»)) ≡ a +ℤ pos 1
   next-read e = rw e (toZ-ofZ (fits-by {w = w32} (v a ⊕ lit 1) (omega (arith, bounds)) (omega (arith, bounds))))
 
   pub next-cast : T (nonNeg (a +ℤ pos 1)) × Fits w64 (natAbs (a +ℤ pos 1))
@@ -108,38 +87,36 @@ module _ (g : Setting) (n : ℕ) (x : SliceState) {store : List ℕ} (k : Held g
 
   -- ---- on by 1
 
-  pub advance-one : n < 2 → {y : SliceState} → y ≡ addressAs (a +ℤ pos 1) x → Advances g n x store y 0 store
+  pub advance-one : n < 2 → {y : Slice} → y ≡ addressAs (a +ℤ pos 1) x → Advances g n x store y 0 store
   unfolding advance
   advance-one l e =
       record {
-        is = λ tables left. rw (lt-ltb n 2 l, e);
-        possible = λ {left} q. rw e (moved-possible q (v a ⊕ lit 1) (omega (arith, bounds)) (omega (arith, bounds)));
+        is = λ left. rw (lt-ltb n 2 l, e);
+        possible = λ q. rw e (moved-possible q (v a ⊕ lit 1) (omega (arith, bounds)) (omega (arith, bounds)));
         here = λ z m. rw e (here-at k (v a ⊕ lit 1) (omega (arith, bounds)) (omega (arith, le-no (lit (g .sizes .«mb_size»)) (v a ⊕ lit 1) m)));
       }
 
   -- ---- over skipped macroblocks
 
-  module _ (l : 2 ≤ n) {s : SliceState} (is : s ≡ skipOf g x) {first : ℕ} (at : first ≡ natAbs (a +ℤ pos 1)) {r : Predicted} {store₁ : List ℕ}
-      (told : Foretold (predictSkipped (setting g) (motions s) first (n - 1) store) r store₁) where
+  module _ (l : 2 ≤ n) {s : Slice} (is : s ≡ skipReset g x) {first : ℕ} (at : first ≡ natAbs (a +ℤ pos 1)) {r : Predicted} {store₁ : List ℕ}
+      (told : Foretold (predictSkipped g s first (n - 1) store) r store₁) where
     pub advance-refused : r ≡ Refused → Advances g n x store s 9 store₁
     unfolding advance also
     advance-refused e =
         let t = rw (is, at) at (told .is) in
         record {
-          is = λ tables left.
-              rw (le-ltb n 2 l, skip-is g x tables left, skipped-same g (skipOf g x) tables left (natAbs (a +ℤ pos 1)) (n - 1) store, t, e);
-          possible = λ {left} q. rw is (skip-possible g x q);
+          is = λ left. rw (le-ltb n 2 l, t, e);
+          possible = λ q. rw is (skip-possible g x q);
           here = λ z m. let w : _≡_ {A = ℕ} 9 0 = z in let o : ⊥ = omega arith in absurd o;
         }
 
-    pub advance-on : r ≡ Done → {y : SliceState} → y ≡ addressAs (s .«macroblock_address» +ℤ pos n) s → Advances g n x store y 0 store₁
+    pub advance-on : r ≡ Done → {y : Slice} → y ≡ addressAs (s .«macroblock_address» +ℤ pos n) s → Advances g n x store y 0 store₁
     unfolding advance also
     advance-on e q =
         let t = rw (is, at) at (told .is) in
-        let y-is : _ ≡ addressAs (a +ℤ pos n) (skipOf g x) = rw (is, skip-address g x) at q in
+        let y-is : _ ≡ addressAs (a +ℤ pos n) (skipReset g x) = rw (is, skip-address g x) at q in
         record {
-          is = λ tables left.
-              rw (le-ltb n 2 l, skip-is g x tables left, skipped-same g (skipOf g x) tables left (natAbs (a +ℤ pos 1)) (n - 1) store, t, e, q, is);
-          possible = λ {left} q. rw y-is (moved-possible (skip-possible g x q) (v a ⊕ lit n) (omega (arith, bounds)) (omega (arith, bounds)));
+          is = λ left. rw (le-ltb n 2 l, t, e, q, is);
+          possible = λ q. rw y-is (moved-possible (skip-possible g x q) (v a ⊕ lit n) (omega (arith, bounds)) (omega (arith, bounds)));
           here = λ z m. rw y-is (here-at k (v a ⊕ lit n) (omega (arith, bounds)) (omega (arith, bounds)));
         }

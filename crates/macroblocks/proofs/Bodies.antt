@@ -1,8 +1,8 @@
 -- A macroblock's body, from what its parts say. Assumes nothing.
 use mathlib.Core.Path.{_≡_, refl}
 use mathlib.Core.Bool.{true, false}
-use mathlib.Core.List.{List, []}
-use Prim.Native.Nat.{ℕ, zero-le}
+use mathlib.Core.List.{List}
+use Prim.Native.Nat.{ℕ}
 use lib.IntN.{ℤ, natAbs}
 use lib.ListN.{length}
 use Rattle.bits.specs.declared.reader.Reader.{Reader}
@@ -12,39 +12,30 @@ use Rattle.bits.proofs.Gives.{Gives, given-by, g-done, g-any, g-bind, g-if}
 use Rattle.bits.proofs.Rules.{r-done}
 use Rattle.prediction.specs.declared.predict.Predicted.{Predicted}
 use Rattle.prediction.specs.declared.predict.Predicted.the-variants.{Done, Refused}
+use Rattle.picture.specs.declared.state.Context.{Context}
+use Rattle.picture.specs.declared.state.Matrices.{Matrices}
 use Rattle.picture.specs.declared.state.Slice.{Slice}
-use Rattle.picture.specs.declared.state.Setting.{Setting}
-use Rattle.picture.specs.declared.state.SliceState.{SliceState}
 use Rattle.picture.specs.declared.state.Progress.{Progress}
 use Rattle.picture.specs.Possible.{PossibleSlice}
 use Rattle.picture.specs.State.{world}
 use Rattle.picture.specs.Heads.{flag, isIntra, macroblockType, scale, forward, backward, vectors, head, pattern}
-use Rattle.picture.specs.Predictions.{predictFrom, predictBoth, predict}
+use Rattle.picture.specs.Predictions.{predict}
 use Rattle.picture.specs.Blocks.{blocks}
 use Rattle.picture.specs.Macroblocks.{predictUnlessIntra, body}
-use Rattle.picture.specs.Views.{given, setting, sliceOf, motions, worldOf, Here, Ready, Went, Leads, Foretold}
-use Rattle.picture.proofs.Syntax.{block-kept, head-gives}
+use Rattle.picture.specs.Views.{Here, Ready, Went, Foretold}
+use Rattle.picture.proofs.Syntax.{head-gives}
 use Rattle.picture.proofs.Ways.{r-plain, r-onward, r-leave}
 use Rattle.picture.proofs.Ready.{ready-on}
 
--- without the left-over coefficients
-pub motions-possible : {x : SliceState} {left : List ℤ} → PossibleSlice (sliceOf x left) → PossibleSlice (motions x)
-motions-possible k = block-kept k (k .predictors) (record { each = λ i h. zero-le })
+-- ---- prediction
 
--- ---- prediction: neither the matrices nor the coefficients matter
-
-unless-same : (g : Setting) (t : ℕ) (x : SliceState) (tables : List ℕ) (left : List ℤ) (l : List ℕ)
-    → predictUnlessIntra (given g tables) t (worldOf x left l) ≡ predictUnlessIntra (setting g) t (world (motions x) l)
-unfolding predictUnlessIntra predict predictBoth predictFrom
-unless-same g t x tables left l = refl
-
-module _ (g : Setting) (t : ℕ) (x : SliceState) (l : List ℕ) where
-  pub unless-intra : isIntra t ≡ true → Foretold (predictUnlessIntra (setting g) t (world (motions x) l)) Done l
+module _ (g : Context) (t : ℕ) (x : Slice) (l : List ℕ) where
+  pub unless-intra : isIntra t ≡ true → Foretold (predictUnlessIntra g t x l) Done l
   unfolding predictUnlessIntra
   unless-intra e = record { is = rw e }
 
   pub unless-predicted : isIntra t ≡ false → (address : ℕ) → address ≡ natAbs (x .«macroblock_address») → {r : Predicted} {l₁ : List ℕ}
-      → Foretold (predict (setting g) address (motions x) l) r l₁ → Foretold (predictUnlessIntra (setting g) t (world (motions x) l)) r l₁
+      → Foretold (predict g address x l) r l₁ → Foretold (predictUnlessIntra g t x l) r l₁
   unfolding predictUnlessIntra
   unless-predicted e address p k = record { is = rw (e, ← p) (k .is) }
 
@@ -60,41 +51,41 @@ head-address type t x =
 
 -- ---- the body, behind the type and the head
 
-module _ {g : Setting} {x y : SliceState} {left : List ℤ} {store s : List ℕ} {from typed headed : Reader} {t : ℕ}
+module _ {g : Context} {x y : Slice} {left : List ℤ} {store s : List ℕ} {from typed headed : Reader} {t : ℕ}
     (ready : Ready g s from x left store) (type : Reading (macroblockType (g .«picture_type»)) s from t typed)
-    (leads : Leads (λ left. head (g .«picture_type») t (sliceOf x left)) s typed headed y) where
-  pub headed-possible : PossibleSlice (sliceOf y left)
-  headed-possible = given-by (head-gives (g .«picture_type») t (ready .reads .slice)) (leads .runs left)
+    (leads : Reading (head (g .«picture_type») t x) s typed y headed) where
+  pub headed-possible : PossibleSlice y
+  headed-possible = given-by (head-gives (g .«picture_type») t (ready .reads .slice)) (leads .runs)
 
   headed-address : y .«macroblock_address» ≡ x .«macroblock_address»
-  headed-address = given-by (head-address (g .«picture_type») t (sliceOf x [])) (leads .runs [])
+  headed-address = given-by (head-address (g .«picture_type») t x) (leads .runs)
 
   pub headed-here : Here g (y .«macroblock_address»)
   headed-here = rw headed-address (ready .here)
 
-  module _ {q : Predicted} {store₁ : List ℕ} (told : Foretold (predictUnlessIntra (setting g) t (world (motions y) store)) q store₁)
+  module _ {q : Predicted} {store₁ : List ℕ} (told : Foretold (predictUnlessIntra g t y store) q store₁)
       (long : length store₁ ≡ length store) where
-    pub body-refused : (tables : List ℕ) → q ≡ Refused
-        → Went (body (given g tables) (worldOf x left store)) g s from (record { reader = headed; state = y; stop = 9 }) left store₁
+    pub body-refused : (m : Matrices) → q ≡ Refused
+        → Went (body g m (world x left store)) g s from (record { reader = headed; state = y; stop = 9 }) left store₁
     unfolding body
-    body-refused tables e =
+    body-refused m e =
         record {
-          runs = r-plain _ (type .runs) (r-plain _ (leads .runs left) (r-leave _ (rw (unless-same g t y tables left store, told .is, e) r-done)));
-          ready = ready-on ready (leads .inside) headed-possible headed-address long;
+          runs = r-plain _ (type .runs) (r-plain _ (leads .runs) (r-leave _ (rw (told .is, e) r-done)));
+          ready = ready-on ready (leads .inside) headed-possible (ready .reads .block) headed-address long;
         }
 
     -- with the pattern
     module _ {c : ℕ} {patterned : Reader} (p : Reading (pattern t) s headed c patterned) where
       pub blocks-ready : Ready g s patterned y left store₁
-      blocks-ready = ready-on ready (p .inside) headed-possible headed-address long
+      blocks-ready = ready-on ready (p .inside) headed-possible (ready .reads .block) headed-address long
 
-      pub body-on : (tables : List ℕ) → q ≡ Done → {r : Progress} {left₁ : List ℤ} {store₂ : List ℕ}
-          → Went (blocks (given g tables) (isIntra t) c (worldOf y left store₁)) g s patterned r left₁ store₂
-          → Went (body (given g tables) (worldOf x left store)) g s from r left₁ store₂
+      pub body-on : (m : Matrices) → q ≡ Done → {r : Progress} {left₁ : List ℤ} {store₂ : List ℕ}
+          → Went (blocks g m (isIntra t) c (world y left store₁)) g s patterned r left₁ store₂
+          → Went (body g m (world x left store)) g s from r left₁ store₂
       unfolding body
-      body-on tables e w =
+      body-on m e w =
           record {
-            runs = r-plain _ (type .runs) (r-plain _ (leads .runs left)
-                (r-onward _ (rw (unless-same g t y tables left store, told .is, e) r-done) (r-plain _ (p .runs) (w .runs))));
+            runs = r-plain _ (type .runs) (r-plain _ (leads .runs)
+                (r-onward _ (rw (told .is, e) r-done) (r-plain _ (p .runs) (w .runs))));
             ready = w .ready;
           }

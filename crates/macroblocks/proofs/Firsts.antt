@@ -10,17 +10,19 @@ use mir.Syntax.{w64}
 use Rattle.laws.proofs.Ints.{up, dn, v, lit, neg, _⊕_, lt-no, le-no, le-yes, cast-by, cast-is}
 use Rattle.bits.specs.declared.reader.Reader.{Reader}
 use Rattle.bits.proofs.Rules.{r-yes, r-no, r-done}
-use Rattle.picture.specs.declared.state.Setting.{Setting}
-use Rattle.picture.specs.declared.state.SliceState.{SliceState}
+use Rattle.picture.specs.declared.state.Context.{Context}
+use Rattle.picture.specs.declared.state.Matrices.{Matrices}
+use Rattle.picture.specs.declared.state.Slice.{Slice}
 use Rattle.picture.specs.declared.state.Progress.{Progress}
 use Rattle.picture.specs.Possible.{PossibleSlice}
 use Rattle.picture.specs.Macroblocks.{body, firstOf}
-use Rattle.picture.specs.Views.{given, sliceOf, worldOf, addressAs, Held, Here, Reads, Ready, Begun, Went, Passed}
+use Rattle.picture.specs.State.{world, addressAs}
+use Rattle.picture.specs.Views.{Held, Here, Reads, Ready, Begun, Went, Passed}
 use Rattle.picture.proofs.Possible.{between-by}
 use Rattle.blocks.proofs.Stores.{size-most}
 
 -- neither before the first nor past the last
-here-by : {g : Setting} {store : List ℕ} (a : ℤ) → Held g store → (ltZ a (pos 0) || leZ (pos (g .sizes .«mb_size»)) a) ≡ false → Here g a
+here-by : {g : Context} {store : List ℕ} (a : ℤ) → Held g store → (ltZ a (pos 0) || leZ (pos (g .sizes .«mb_size»)) a) ≡ false → Here g a
 here-by {g} a k e = go (ltZ a (pos 0)) refl e
   where
     go : (t : Bool) → ltZ a (pos 0) ≡ t → (t || leZ (pos (g .sizes .«mb_size»)) a) ≡ false → Here g a
@@ -33,9 +35,9 @@ here-by {g} a k e = go (ltZ a (pos 0)) refl e
           below = omega (arith, cast-is (v a) low, high, k .size);
         }
 
-module _ {g : Setting} {x y : SliceState} {n : ℕ} {left : List ℤ} {store s : List ℕ} {reader : Reader}
+module _ {g : Context} {x y : Slice} {n : ℕ} {left : List ℤ} {store s : List ℕ} {reader : Reader}
     (k : Begun g s reader x n left store) (is : y ≡ addressAs (x .«macroblock_address» +ℤ pos n) x) where
-  pub further-possible : PossibleSlice (sliceOf y left)
+  pub further-possible : PossibleSlice y
   further-possible =
       let p = k .reads .slice in
       let a = x .«macroblock_address» in
@@ -47,25 +49,24 @@ module _ {g : Setting} {x y : SliceState} {n : ℕ} {left : List ℤ} {store s :
         forward = p .forward;
         backward = p .backward;
         predictors = p .predictors;
-        block = p .block;
       })
 
   further-reads : Reads s reader y left
-  further-reads = record { inside = k .reads .inside; slice = further-possible }
+  further-reads = record { inside = k .reads .inside; slice = further-possible; block = k .reads .block }
 
   module _ {t : Bool} (at : t ≡ (ltZ (y .«macroblock_address») (pos 0) || leZ (pos (g .sizes .«mb_size»)) (y .«macroblock_address»))) where
-    pub first-nowhere : (tables : List ℕ) → t ≡ true
-        → Passed (firstOf (given g tables) n (worldOf x left store)) g s reader (record { reader = reader; state = y; stop = 0 }) left store
+    pub first-nowhere : (m : Matrices) → t ≡ true
+        → Passed (firstOf g m n (world x left store)) g s reader (record { reader = reader; state = y; stop = 0 }) left store
     unfolding firstOf
-    first-nowhere tables e = let q = rw is at (sym at ∙ e) in record { runs = rw is (r-yes _ q r-done); reads = further-reads; held = k .held }
+    first-nowhere m e = let q = rw is at (sym at ∙ e) in record { runs = rw is (r-yes _ q r-done); reads = further-reads; held = k .held }
 
     pub first-ready : t ≡ false → Ready g s reader y left store
     first-ready e = record { reads = further-reads; held = k .held; here = here-by (y .«macroblock_address») (k .held) (sym at ∙ e) }
 
-    pub first-body : (tables : List ℕ) → t ≡ false → {r : Progress} {left₁ : List ℤ} {store₁ : List ℕ}
-        → Went (body (given g tables) (worldOf y left store)) g s reader r left₁ store₁
-        → Passed (firstOf (given g tables) n (worldOf x left store)) g s reader r left₁ store₁
+    pub first-body : (m : Matrices) → t ≡ false → {r : Progress} {left₁ : List ℤ} {store₁ : List ℕ}
+        → Went (body g m (world y left store)) g s reader r left₁ store₁
+        → Passed (firstOf g m n (world x left store)) g s reader r left₁ store₁
     unfolding firstOf
-    first-body tables e w =
+    first-body m e w =
         let q = rw is at (sym at ∙ e) in
         record { runs = r-no _ q (rw is at (w .runs)); reads = w .ready .reads; held = w .ready .held }

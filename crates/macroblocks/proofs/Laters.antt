@@ -13,12 +13,14 @@ use Rattle.bits.specs.declared.reader.Reader.{Reader}
 use Rattle.bits.specs.Runs.{Reading}
 use Rattle.bits.proofs.Gives.{given-by}
 use Rattle.bits.proofs.Rules.{r-yes, r-no, r-done}
-use Rattle.picture.specs.declared.state.Setting.{Setting}
-use Rattle.picture.specs.declared.state.SliceState.{SliceState}
+use Rattle.picture.specs.declared.state.Context.{Context}
+use Rattle.picture.specs.declared.state.Matrices.{Matrices}
+use Rattle.picture.specs.declared.state.Slice.{Slice}
 use Rattle.picture.specs.declared.state.Progress.{Progress}
 use Rattle.picture.specs.Increments.{increment}
 use Rattle.picture.specs.Macroblocks.{body, firstOf, laterOf, macroblock}
-use Rattle.picture.specs.Views.{given, worldOf, Reads, Ready, Begun, Between, Awaits, Advances, Went, Passed}
+use Rattle.picture.specs.State.{world}
+use Rattle.picture.specs.Views.{Reads, Ready, Begun, Between, Awaits, Advances, Went, Passed}
 use Rattle.picture.proofs.Increments.{increment-most}
 use Rattle.picture.proofs.Ready.{held-on}
 use Rattle.picture.proofs.Ways.{r-plain, r-onward, r-leave, way-out}
@@ -26,38 +28,38 @@ use Rattle.blocks.proofs.Stores.{size-most}
 
 -- ---- a later macroblock
 
-module _ {g : Setting} {x : SliceState} {n : ℕ} {left : List ℤ} {store s : List ℕ} {reader : Reader}
+module _ {g : Context} {x : Slice} {n : ℕ} {left : List ℤ} {store s : List ℕ} {reader : Reader}
     (k : Between g s reader x n left store) where
-  pub later-past : (tables : List ℕ) → leZ (pos (g .sizes .«mb_size»)) (x .«macroblock_address» +ℤ pos n) ≡ true
-      → Passed (laterOf (given g tables) n (worldOf x left store)) g s reader (record { reader = reader; state = x; stop = 0 }) left store
+  pub later-past : (m : Matrices) → leZ (pos (g .sizes .«mb_size»)) (x .«macroblock_address» +ℤ pos n) ≡ true
+      → Passed (laterOf g m n (world x left store)) g s reader (record { reader = reader; state = x; stop = 0 }) left store
   unfolding laterOf
-  later-past tables e = record { runs = r-yes _ e r-done; reads = k .reads; held = k .held }
+  later-past m e = record { runs = r-yes _ e r-done; reads = k .reads; held = k .held }
 
-  module _ {y : SliceState} {stop : ℕ} {store₁ : List ℕ} (e : leZ (pos (g .sizes .«mb_size»)) (x .«macroblock_address» +ℤ pos n) ≡ false)
+  module _ {y : Slice} {stop : ℕ} {store₁ : List ℕ} (e : leZ (pos (g .sizes .«mb_size»)) (x .«macroblock_address» +ℤ pos n) ≡ false)
       (a : Advances g n x store y stop store₁) (long : length store₁ ≡ length store) where
     later-reads : Reads s reader y left
-    later-reads = record { inside = k .reads .inside; slice = a .possible (k .reads .slice) }
+    later-reads = record { inside = k .reads .inside; slice = a .possible (k .reads .slice); block = k .reads .block }
 
-    pub later-stop : (tables : List ℕ) → (stop ≡ 0 → ⊥)
-        → Passed (laterOf (given g tables) n (worldOf x left store)) g s reader (record { reader = reader; state = y; stop = stop }) left store₁
+    pub later-stop : (m : Matrices) → (stop ≡ 0 → ⊥)
+        → Passed (laterOf g m n (world x left store)) g s reader (record { reader = reader; state = y; stop = stop }) left store₁
     unfolding laterOf
-    later-stop tables h =
-        let o = way-out (worldOf y left store₁) store₁ h in
-        record { runs = r-no _ e (rw o (r-leave _ (rw (a .is tables left, o) r-done))); reads = later-reads; held = held-on (k .held) long }
+    later-stop m h =
+        let o = way-out (world y left store₁) store₁ h in
+        record { runs = r-no _ e (rw o (r-leave _ (rw (a .is left, o) r-done))); reads = later-reads; held = held-on (k .held) long }
 
     pub later-ready : stop ≡ 0 → Ready g s reader y left store₁
     later-ready z = record { reads = later-reads; held = held-on (k .held) long; here = a .here z (k .more) }
 
-    pub later-body : (tables : List ℕ) → stop ≡ 0 → {r : Progress} {left₁ : List ℤ} {store₂ : List ℕ}
-        → Went (body (given g tables) (worldOf y left store₁)) g s reader r left₁ store₂
-        → Passed (laterOf (given g tables) n (worldOf x left store)) g s reader r left₁ store₂
+    pub later-body : (m : Matrices) → stop ≡ 0 → {r : Progress} {left₁ : List ℤ} {store₂ : List ℕ}
+        → Went (body g m (world y left store₁)) g s reader r left₁ store₂
+        → Passed (laterOf g m n (world x left store)) g s reader r left₁ store₂
     unfolding laterOf
-    later-body tables z w =
-        record { runs = r-no _ e (r-onward _ (rw (a .is tables left, z) r-done) (w .runs)); reads = w .ready .reads; held = w .ready .held }
+    later-body m z w =
+        record { runs = r-no _ e (r-onward _ (rw (a .is left, z) r-done) (w .runs)); reads = w .ready .reads; held = w .ready .held }
 
 -- ---- the increment, and where it leads
 
-module _ {g : Setting} {first : Bool} {x : SliceState} {left : List ℤ} {store s : List ℕ} {reader after : Reader} {n : ℕ}
+module _ {g : Context} {first : Bool} {x : Slice} {left : List ℤ} {store s : List ℕ} {reader after : Reader} {n : ℕ}
     (k : Awaits g s reader first x left store) (r : Reading increment s reader n after) where
   small : n ≤ 402653217
   small = let m : n ≤ 24 * length s + 33 = given-by (increment-most s) (r .runs) in omega (arith, k .reads .inside .stream)
@@ -66,7 +68,7 @@ module _ {g : Setting} {first : Bool} {x : SliceState} {left : List ℤ} {store 
   low = both _ _ (k .reads .slice .address) .0
 
   after-reads : Reads s after x left
-  after-reads = record { inside = r .inside; slice = k .reads .slice }
+  after-reads = record { inside = r .inside; slice = k .reads .slice; block = k .reads .block }
 
   pub begun : first ≡ true → Begun g s after x n left store
   begun e =
@@ -91,13 +93,13 @@ module _ {g : Setting} {first : Bool} {x : SliceState} {left : List ℤ} {store 
         more = k .later e;
       }
 
-  module _ (tables : List ℕ) {p : Progress} {left₁ : List ℤ} {store₁ : List ℕ} where
-    pub macroblock-first : first ≡ true → Passed (firstOf (given g tables) n (worldOf x left store)) g s after p left₁ store₁
-        → Passed (macroblock (given g tables) first (worldOf x left store)) g s reader p left₁ store₁
+  module _ (m : Matrices) {p : Progress} {left₁ : List ℤ} {store₁ : List ℕ} where
+    pub macroblock-first : first ≡ true → Passed (firstOf g m n (world x left store)) g s after p left₁ store₁
+        → Passed (macroblock g m first (world x left store)) g s reader p left₁ store₁
     unfolding macroblock
     macroblock-first e w = record { runs = r-plain _ (r .runs) (r-yes _ e (w .runs)); reads = w .reads; held = w .held }
 
-    pub macroblock-later : first ≡ false → Passed (laterOf (given g tables) n (worldOf x left store)) g s after p left₁ store₁
-        → Passed (macroblock (given g tables) first (worldOf x left store)) g s reader p left₁ store₁
+    pub macroblock-later : first ≡ false → Passed (laterOf g m n (world x left store)) g s after p left₁ store₁
+        → Passed (macroblock g m first (world x left store)) g s reader p left₁ store₁
     unfolding macroblock
     macroblock-later e w = record { runs = r-plain _ (r .runs) (r-no _ e (w .runs)); reads = w .reads; held = w .held }

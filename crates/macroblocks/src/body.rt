@@ -8,22 +8,22 @@ use heads::heads::read_macroblock_type;
 use heads::heads::read_pattern;
 use heads::predictions::predict;
 use picture::flags::flag;
+use picture::state::Context;
 use picture::state::Progress;
-use picture::state::Setting;
-use picture::state::SliceState;
+use picture::state::Slice;
 use prediction::predict::Predicted;
 ghost use Rattle.codes.specs.Lent.{Lent};
 ghost use Rattle.picture.specs.Macroblocks.{predictUnlessIntra, body};
 ghost use Rattle.picture.specs.Possible.{PossibleSlice};
 ghost use Rattle.picture.specs.State.{world};
-ghost use Rattle.picture.specs.Views.{given, setting, motions, worldOf, Held, Here, Ready, Went, Foretold};
+ghost use Rattle.picture.specs.Views.{matricesIn, Held, Here, Ready, Went, Foretold};
 
 // RULES 7.14: prediction, unless intra.
-fn predict_unless_intra(store: &mut [u8], g: Setting, t: u32, state: SliceState) -> Predicted
+fn predict_unless_intra(store: &mut [u8], g: Context, t: u32, state: Slice) -> Predicted
     requires { ⌜ Held g (now store) ⌝ }
     requires { ⌜ Here g (state .«macroblock_address») ⌝ }
-    requires { ⌜ PossibleSlice (motions state) ⌝ }
-    ensures { λ r. ⌜ Foretold (predictUnlessIntra (setting g) t (world (motions state) (now (store .entry)))) r (now (store .exit)) ⌝ }
+    requires { ⌜ PossibleSlice state ⌝ }
+    ensures { λ r. ⌜ Foretold (predictUnlessIntra g t state (now (store .entry))) r (now (store .exit)) ⌝ }
 {
     if flag(t, 1) {
         return Predicted::Done;
@@ -39,13 +39,13 @@ pub fn body(
     store: &mut [u8],
     values: &mut [i32; 64],
     tables: &Tables,
-    g: Setting,
-    before: SliceState,
+    g: Context,
+    before: Slice,
 ) -> Progress
     requires { ⌜ Ready g (now s) reader before (now values) (now store) ⌝ }
     requires { ⌜ Lent (now tables) ⌝ }
     ensures { λ r. ⌜
-        Went (body (given g (now (tables .entry))) (worldOf before (now (values .entry)) (now (store .entry))))
+        Went (body g (matricesIn (now (tables .entry))) (world before (now (values .entry)) (now (store .entry))))
         g (now (s .entry)) reader r (now (values .exit)) (now (store .exit))
         ⌝ }
 {
@@ -65,7 +65,7 @@ pub fn body(
     let intra = flag(flags, 1);
     let pattern = p.value;
     let coded = CodedBlocks {
-        setting: g,
+        context: g,
         intra,
         pattern,
     };

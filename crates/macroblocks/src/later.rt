@@ -3,24 +3,25 @@ use heads::addresses::further;
 use heads::heads::reset;
 use heads::heads::zeroed;
 use heads::predictions::predict_skipped;
-use picture::state::Setting;
-use picture::state::SliceState;
+use picture::state::Context;
+use picture::state::Slice;
 use prediction::predict::Predicted;
 ghost use mathlib.Core.Path.{_≡_};
 ghost use mathlib.Core.Bool.{false};
 ghost use lib.IntN.{pos, _+ℤ_};
 ghost use lib.Signed.{leZ};
 ghost use Rattle.picture.specs.Possible.{PossibleSlice};
-ghost use Rattle.picture.specs.Views.{motions, skipOf, Held, Advances};
+ghost use Rattle.picture.specs.Macroblocks.{skipReset};
+ghost use Rattle.picture.specs.Views.{Held, Advances};
 
 pub struct Advanced {
-    pub state: SliceState,
+    pub state: Slice,
     pub stop: u32,
 }
 
 // RULES 7.11, 7.19, 7.20: what a skip resets.
-fn skip_reset(g: Setting, before: SliceState) -> SliceState
-    ensures { λ r. ⌜ r ≡ skipOf g before ⌝ }
+fn skip_reset(g: Context, before: Slice) -> Slice
+    ensures { λ r. ⌜ r ≡ skipReset g before ⌝ }
 {
     let fresh = reset(before);
     if g.picture_type == 2 {
@@ -33,9 +34,9 @@ fn skip_reset(g: Setting, before: SliceState) -> SliceState
 }
 
 // On by n, or by 1 where n is 0; the macroblocks between are skipped.
-pub fn advance(store: &mut [u8], g: Setting, n: usize, state: SliceState) -> Advanced
+pub fn advance(store: &mut [u8], g: Context, n: usize, state: Slice) -> Advanced
     requires { ⌜ Held g (now store) ⌝ }
-    requires { ⌜ PossibleSlice (motions state) ⌝ }
+    requires { ⌜ PossibleSlice state ⌝ }
     requires { ⌜ leZ (pos (g .sizes .«mb_size»)) (state .«macroblock_address» +ℤ pos n) ≡ false ⌝ }
     ensures { λ r. ⌜ Advances g n state (now (store .entry)) (r .state) (r .stop) (now (store .exit)) ⌝ }
 {

@@ -7,12 +7,13 @@ use heads::addresses::further;
 use heads::addresses::nowhere;
 use heads::addresses::past;
 use heads::increments::read_increment;
+use picture::state::Context;
 use picture::state::Progress;
-use picture::state::Setting;
-use picture::state::SliceState;
+use picture::state::Slice;
 ghost use Rattle.codes.specs.Lent.{Lent};
 ghost use Rattle.picture.specs.Macroblocks.{firstOf, laterOf, macroblock};
-ghost use Rattle.picture.specs.Views.{given, worldOf, Begun, Between, Awaits, Passed};
+ghost use Rattle.picture.specs.State.{world};
+ghost use Rattle.picture.specs.Views.{matricesIn, Begun, Between, Awaits, Passed};
 
 // RULES 7.8, 7.12: the first macroblock of a slice, n from the address before it.
 fn first_of(
@@ -21,14 +22,14 @@ fn first_of(
     store: &mut [u8],
     values: &mut [i32; 64],
     tables: &Tables,
-    g: Setting,
+    g: Context,
     n: usize,
-    state: SliceState,
+    state: Slice,
 ) -> Progress
     requires { ⌜ Begun g (now s) reader state n (now values) (now store) ⌝ }
     requires { ⌜ Lent (now tables) ⌝ }
     ensures { λ r. ⌜
-        Passed (firstOf (given g (now (tables .entry))) n (worldOf state (now (values .entry)) (now (store .entry))))
+        Passed (firstOf g (matricesIn (now (tables .entry))) n (world state (now (values .entry)) (now (store .entry))))
         g (now (s .entry)) reader r (now (values .exit)) (now (store .exit))
         ⌝ }
 {
@@ -50,14 +51,14 @@ fn later_of(
     store: &mut [u8],
     values: &mut [i32; 64],
     tables: &Tables,
-    g: Setting,
+    g: Context,
     n: usize,
-    state: SliceState,
+    state: Slice,
 ) -> Progress
     requires { ⌜ Between g (now s) reader state n (now values) (now store) ⌝ }
     requires { ⌜ Lent (now tables) ⌝ }
     ensures { λ r. ⌜
-        Passed (laterOf (given g (now (tables .entry))) n (worldOf state (now (values .entry)) (now (store .entry))))
+        Passed (laterOf g (matricesIn (now (tables .entry))) n (world state (now (values .entry)) (now (store .entry))))
         g (now (s .entry)) reader r (now (values .exit)) (now (store .exit))
         ⌝ }
 {
@@ -88,14 +89,14 @@ pub fn macroblock(
     store: &mut [u8],
     values: &mut [i32; 64],
     tables: &Tables,
-    g: Setting,
+    g: Context,
     first: bool,
-    state: SliceState,
+    state: Slice,
 ) -> Progress
     requires { ⌜ Awaits g (now s) reader first state (now values) (now store) ⌝ }
     requires { ⌜ Lent (now tables) ⌝ }
     ensures { λ r. ⌜
-        Passed (macroblock (given g (now (tables .entry))) first (worldOf state (now (values .entry)) (now (store .entry))))
+        Passed (macroblock g (matricesIn (now (tables .entry))) first (world state (now (values .entry)) (now (store .entry))))
         g (now (s .entry)) reader r (now (values .exit)) (now (store .exit))
         ⌝ }
 {

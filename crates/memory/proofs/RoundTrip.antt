@@ -5,6 +5,7 @@ use mathlib.Core.List.{List, _++_, append-assoc}
 use Prim.Native.Nat.{ℕ, _+_, _≤_}
 use native.Mathlib.Omega.{arith}
 use borrow.Author.Tests.{le-leb}
+use borrow.Rule.Slice.PartMut.{midOf}
 use lib.Dec.{leb}
 use lib.Ieee.{Float}
 use lib.IntN.{ℤ}
@@ -41,14 +42,14 @@ module _ {A : Type 0} (x y t : List A) (k m : ℕ) (a : length x ≡ k) (b : len
 
 -- the memory is written part by part
 pub wrote-all : (d : Decoder) (x : Memory) {n m : List ℕ} {i : List ℤ} {c : List Float} → n ≡ over (numbersOf d) (x .numbers)
-    → i ≡ over (integersOf (d .picture)) (x .integers) → m ≡ over (matricesOf (d .sequence .matrices)) (x .matrices) → c ≡ over (clockOf (d .clock)) (x .clock)
-    → memory n i m c ≡ written d x
+    → i ≡ over (integersOf (d .picture) (d .«block_data»)) (x .integers) → m ≡ over (matricesOf (d .sequence .matrices)) (x .matrices)
+    → c ≡ over (clockOf (d .clock)) (x .clock) → memory n i m c ≡ written d x
 unfolding written
 wrote-all d x p q r s = rw (p, q, r, s)
 
 module _ (d : Decoder) (f : Typed d) (x : Memory) where
   abbrev behind : List ℤ
-  behind = drop (length (integersOf (d .picture))) (x .integers)
+  behind = drop (length (integersOf (d .picture) (d .«block_data»))) (x .integers)
 
   abbrev rest : List ℕ
   rest = drop (length (matricesOf (d .sequence .matrices))) (x .matrices)
@@ -62,7 +63,7 @@ module _ (d : Decoder) (f : Typed d) (x : Memory) where
         second-back (q .«intra_quant_matrix») (q .«non_intra_quant_matrix») rest 64 64 (f .matrices .intra) (f .matrices .other),
       )
 
-  picture-back : pictureIn (over (numbersOf d) (x .numbers)) (over (integersOf (d .picture)) (x .integers)) ≡ d .picture
+  picture-back : pictureIn (over (numbersOf d) (x .numbers)) (over (integersOf (d .picture) (d .«block_data»)) (x .integers)) ≡ d .picture
   picture-back =
       let s = d .picture .slice in
       rw (
@@ -70,13 +71,15 @@ module _ (d : Decoder) (f : Typed d) (x : Memory) where
         flag-back (s .«motion_forward» .«is_set»),
         flag-back (s .«motion_backward» .«full_px»),
         flag-back (s .«motion_backward» .«is_set»),
-        first-back (s .«dc_predictor») (s .«block_data») behind 3 64 (f .picture .predictors) (f .picture .left),
-        second-back (s .«dc_predictor») (s .«block_data») behind 3 64 (f .picture .predictors) (f .picture .left),
+        first-back (s .«dc_predictor») (d .«block_data») behind 3 64 (f .picture .predictors) (f .left),
       )
+
+  left-back : midOf 9 64 (over (integersOf (d .picture) (d .«block_data»)) (x .integers)) ≡ d .«block_data»
+  left-back = second-back (d .picture .slice .«dc_predictor») (d .«block_data») behind 3 64 (f .picture .predictors) (f .left)
 
   record-back : recordOf (written d x) ≡ d
   unfolding recordOf written
-  record-back = rw (sequence-back, picture-back, flag-back (d .«has_reference_frame»))
+  record-back = rw (sequence-back, picture-back, left-back, flag-back (d .«has_reference_frame»))
 
   is-held : isRecord (written d x) ≡ true
   unfolding isRecord written
@@ -86,8 +89,8 @@ module _ (d : Decoder) (f : Typed d) (x : Memory) where
       rw (
         le-leb 21 (length (over (numbersOf d) (x .numbers))) (omega arith),
         le-leb 4 (length (over (clockOf (d .clock)) (x .clock))) (omega arith),
-        le-leb 73 (length (over (integersOf (d .picture)) (x .integers)))
-            (omega (arith, two-long (s .«dc_predictor») (s .«block_data») behind 3 64 (f .picture .predictors) (f .picture .left) 67 refl)),
+        le-leb 73 (length (over (integersOf (d .picture) (d .«block_data»)) (x .integers)))
+            (omega (arith, two-long (s .«dc_predictor») (d .«block_data») behind 3 64 (f .picture .predictors) (f .left) 67 refl)),
         le-leb 128 (length (over (matricesOf (d .sequence .matrices)) (x .matrices)))
             (two-long (q .«intra_quant_matrix») (q .«non_intra_quant_matrix») rest 64 64 (f .matrices .intra) (f .matrices .other) 128 refl),
         flag-is (d .sequence .«has_sequence_header»),

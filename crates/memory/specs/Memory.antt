@@ -56,8 +56,8 @@ headIntegers p =
     p .«start_code» ∷ p .slice .«macroblock_address» ∷ p .slice .«motion_forward» .h ∷ p .slice .«motion_forward» .v
     ∷ p .slice .«motion_backward» .h ∷ p .slice .«motion_backward» .v ∷ []
 
-abbrev pub integersOf : Picture → List ℤ
-integersOf p = headIntegers p ++ p .slice .«dc_predictor» ++ p .slice .«block_data»
+abbrev pub integersOf : Picture → List ℤ → List ℤ
+integersOf p left = headIntegers p ++ p .slice .«dc_predictor» ++ left
 
 abbrev pub matricesOf : Matrices → List ℕ
 matricesOf m = m .«intra_quant_matrix» ++ m .«non_intra_quant_matrix»
@@ -71,8 +71,8 @@ over x l = x ++ drop (length x) l
 
 unfoldable pub written : Decoder → Memory → Memory
 written d x =
-    memory (over (numbersOf d) (x .numbers)) (over (integersOf (d .picture)) (x .integers)) (over (matricesOf (d .sequence .matrices)) (x .matrices))
-    (over (clockOf (d .clock)) (x .clock))
+    memory (over (numbersOf d) (x .numbers)) (over (integersOf (d .picture) (d .«block_data»)) (x .integers))
+    (over (matricesOf (d .sequence .matrices)) (x .matrices)) (over (clockOf (d .clock)) (x .clock))
 
 -- ---- what is read
 
@@ -115,7 +115,6 @@ pictureIn n i = record {
     «motion_forward» = motionIn n 12 i 2;
     «motion_backward» = motionIn n 15 i 4;
     «dc_predictor» = midOf 6 3 i;
-    «block_data» = midOf 9 64 i;
   };
 }
 
@@ -133,6 +132,7 @@ recordOf x = let n = x .numbers in record {
   reader = record { at = record { 0 = number n 0 } };
   sequence = sequenceIn n (x .matrices);
   picture = pictureIn n (x .integers);
+  «block_data» = midOf 9 64 (x .integers);
   clock = clockIn (x .clock);
   «has_reference_frame» = flagOf (number n 18);
   «frames_decoded» = number n 19;

@@ -111,14 +111,12 @@ fn picture_in(numbers: &[usize], integers: &[i32]) -> Picture
     let motion_forward = motion_in(numbers, 12, integers, 2);
     let motion_backward = motion_in(numbers, 15, integers, 4);
     let dc_predictor = predictors_in(integers);
-    let block_data = block_in(integers);
     let slice = Slice {
         quantizer_scale,
         macroblock_address,
         motion_forward,
         motion_backward,
         dc_predictor,
-        block_data,
     };
     Picture {
         picture_type,
@@ -154,6 +152,7 @@ pub fn record_of(numbers: &[usize], integers: &[i32], matrices: &[u8], clock: &[
     };
     let sequence = sequence_in(numbers, matrices);
     let picture = picture_in(numbers, integers);
+    let block_data = block_in(integers);
     let has_reference_frame = numbers[18] == 1;
     let frames_decoded = numbers[19] as u32;
     let stop = numbers[20] as u32;
@@ -161,6 +160,7 @@ pub fn record_of(numbers: &[usize], integers: &[i32], matrices: &[u8], clock: &[
         reader,
         sequence,
         picture,
+        block_data,
         clock: clock_in(clock),
         has_reference_frame,
         frames_decoded,

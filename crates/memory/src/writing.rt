@@ -93,18 +93,17 @@ fn head_integers(p: Picture) -> [i32; 6]
     [p.start_code, s.macroblock_address, f.h, f.v, b.h, b.v]
 }
 
-fn put_integers(integers: &mut [i32], p: Picture)
-    requires { ⌜ 73 ≤ length (now integers) ⌝ }
-    ensures { λ r. ⌜ now (integers .exit) ≡ over (integersOf p) (now (integers .entry)) ⌝ }
+fn put_integers(integers: &mut [i32], p: Picture, left: &[i32])
+    requires { ⌜ (73 ≤ length (now integers)) × (length (now left) ≡ 64) ⌝ }
+    ensures { λ r. ⌜ now (integers .exit) ≡ over (integersOf p (now (left .entry))) (now (integers .entry)) ⌝ }
     ensures { λ r. ⌜ TypedPicture p ⌝ }
 {
     let s = p.slice;
     let predictors = s.dc_predictor;
-    let left = s.block_data;
     let head = head_integers(p);
     copy_integers(integers, 0, &head);
     copy_integers(integers, 6, &predictors);
-    copy_integers(integers, 9, &left);
+    copy_integers(integers, 9, left);
 }
 
 fn put_matrices(matrices: &mut [u8], m: Matrices)
@@ -141,8 +140,9 @@ pub fn save(
         ≡ written d (memory (now (numbers .entry)) (now (integers .entry)) (now (matrices .entry)) (now (clock .entry))) ⌝ }
     ensures { λ r. ⌜ Holds (memory (now (numbers .exit)) (now (integers .exit)) (now (matrices .exit)) (now (clock .exit))) d ⌝ }
 {
+    let left = d.block_data;
     put_numbers(numbers, d);
-    put_integers(integers, d.picture);
+    put_integers(integers, d.picture, &left);
     put_matrices(matrices, d.sequence.matrices);
     put_clock(clock, d.clock);
 }

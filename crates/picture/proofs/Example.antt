@@ -3,7 +3,7 @@
 use mathlib.Core.Path.{_≡_, refl}
 use mathlib.Core.List.{List, [], _∷_, _++_}
 use Prim.Native.Nat.{ℕ}
-use lib.IntN.{pos}
+use lib.IntN.{ℤ, pos}
 use lib.ListN.{replicate, take}
 use Rattle.laws.specs.Signed.{clamp255, odd}
 use Rattle.laws.specs.Stores.{storeRow, storeRows}
@@ -57,9 +57,12 @@ fresh = record {
     «motion_forward» = still;
     «motion_backward» = still;
     «dc_predictor» = replicate 3 (pos 128);
-    «block_data» = replicate 64 (pos 0);
   };
 }
+
+-- nothing is left over
+abbrev none : List ℤ
+none = replicate 64 (pos 0)
 
 abbrev sizes : Sizes
 sizes = record { «mb_width» = 2; «mb_height» = 1; «mb_size» = 2 }
@@ -73,7 +76,7 @@ stream = 0x00 ∷ 0x08 ∷ 0xff ∷ 0xf8 ∷ 0x00 ∷ 0x00 ∷ 0x01 ∷ 0x01 ∷
     0x44 ∷ 0x40 ∷ 0x00 ∷ 0x00 ∷ 0x01 ∷ 0x00 ∷ 0x00 ∷ []
 
 abbrev decoded : Out (Way P.Frame)
-decoded = run (P.picture sizes matrices fresh (replicate 2304 0)) stream 0
+decoded = run (P.picture sizes matrices (P.frame fresh none (replicate 2304 0))) stream 0
 
 abbrev storeOf : Way P.Frame → List ℕ
 storeOf (on f) = f .store
@@ -99,7 +102,7 @@ abbrev outside : List ℕ
 outside = 0x00 ∷ 0x0f ∷ 0xff ∷ 0xf8 ∷ 0x00 ∷ 0x00 ∷ 0x01 ∷ 0x01 ∷ 0x0b ∷ 0xfd ∷ 0xfe ∷ []
 
 -- RULES Q8: the DC value is 128 + 255
-pub eight : run (P.picture one matrices fresh (replicate 1152 7)) outside 0 ≡ record { value = out 8 (replicate 1152 7); at = 87 }
+pub eight : run (P.picture one matrices (P.frame fresh none (replicate 1152 7))) outside 0 ≡ record { value = out 8 (replicate 1152 7); at = 87 }
 unfolding bitAt bitsAt got next codePrefix codeFrom found run bind loop macroblockAddressIncrementIndex macroblockAddressIncrementValue
     macroblockTypeIntraIndex macroblockTypeIntraValue dctSizeLuminanceIndex dctSizeLuminanceValue walkTurn walk vlc Codes.macroblockAddressIncrement
     Codes.macroblockTypeIntra Codes.dctSizeLuminance Dcs.dcSize Dcs.added Dcs.dcDifference Syntax.intraCoded Syntax.codedBlock Block.reconstructed
@@ -112,7 +115,7 @@ abbrev past : List ℕ
 past = 0x00 ∷ 0x17 ∷ 0xff ∷ 0xf8 ∷ 0x80 ∷ 0x00 ∷ 0x00 ∷ 0x01 ∷ 0x01 ∷ 0x0a ∷ 0x54 ∷ []
 
 -- RULES Q9: the start 0 is max_address, and the half sample reaches 1 further
-pub nine : run (P.picture one matrices fresh (replicate 1152 7)) past 0 ≡ record { value = out 9 (replicate 1152 7); at = 86 }
+pub nine : run (P.picture one matrices (P.frame fresh none (replicate 1152 7))) past 0 ≡ record { value = out 9 (replicate 1152 7); at = 86 }
 unfolding odd bitAt bitsAt got next codePrefix codeFrom found run bind loop macroblockAddressIncrementIndex macroblockAddressIncrementValue
     macroblockTypePredictiveIndex macroblockTypePredictiveValue motionIndex motionValue walkTurn walk vlc Codes.macroblockAddressIncrement
     Codes.macroblockTypePredictive Codes.motion displacement motionVector corrected fetch follow following predictedPlanes leave onward plain incrementTurn

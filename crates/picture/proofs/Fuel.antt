@@ -23,7 +23,9 @@ use Rattle.codes.specs.Codes.{macroblockAddressIncrement}
 use Rattle.codes.specs.Tables.{macroblockAddressIncrementIndex, macroblockAddressIncrementValue}
 use Rattle.codes.proofs.Good.{good-macroblock-address-increment}
 use Rattle.codes.proofs.Vlc.{vlc-takes}
-use Rattle.picture.specs.State.{Given, World, world, startCodeAs}
+use Rattle.picture.specs.declared.state.Context.{Context}
+use Rattle.picture.specs.declared.state.Matrices.{Matrices}
+use Rattle.picture.specs.State.{World, world, startCodeAs}
 use Rattle.picture.specs.Ways.{Way, on, out, onward, plain}
 use Rattle.picture.specs.Increments.{incrementTurn, increment}
 use Rattle.picture.specs.Macroblocks.{macroblock}
@@ -98,11 +100,11 @@ unfolding increment incrementTurn
 first-takes s a h =
     lt-of-lt-of-le (code-takes s a h) (le-trans (bind-on macroblockAddressIncrement _ s a) (loop-past incrementTurn 0 0 s a many lastPosition refl))
 
-macroblock-takes : (g : Given) (first : Bool) (w : World) (s : List ℕ) (a : ℕ) → a < length s * 8 → a < run (macroblock g first w) s a .at
+macroblock-takes : (g : Context) (m : Matrices) (first : Bool) (w : World) (s : List ℕ) (a : ℕ) → a < length s * 8 → a < run (macroblock g m first w) s a .at
 unfolding macroblock onward plain
-macroblock-takes g begins w s a h = lt-of-lt-of-le (first-takes s a h) (le-trans (bind-on increment _ s a) (bind-on (bind increment _) _ s a))
+macroblock-takes g m begins w s a h = lt-of-lt-of-le (first-takes s a h) (le-trans (bind-on increment _ s a) (bind-on (bind increment _) _ s a))
 
-past-takes : (g : Given) (s : List ℕ) (a : ℕ) (w : Way World) (e : ℕ) → a ≤ e → (a < length s * 8 → a < e)
+past-takes : (g : Context) (s : List ℕ) (a : ℕ) (w : Way World) (e : ℕ) → a ≤ e → (a < length s * 8 → a < e)
     → Takes (length s * 8) a (run (pastMacroblock g w) s e .value) (run (pastMacroblock g w) s e .at)
 unfolding pastMacroblock run bind
 past-takes g s a (out n l) e h k = tt
@@ -112,16 +114,17 @@ past-takes g s a (on w) e h k =
     by-case Ends (has s e 23 && not (eqb (got s e 23) 0)) (λ q. let i = leb-true 23 (length s * 8 - e) (both _ _ q .0) in (k (omega arith), omega arith))
     (λ q. tt))
 
-pub slice-takes : (g : Given) (s : List ℕ) (x : Slicing) (a : ℕ) → Takes (length s * 8) a (run (sliceTurn g x) s a .value) (run (sliceTurn g x) s a .at)
+pub slice-takes : (g : Context) (m : Matrices) (s : List ℕ) (x : Slicing) (a : ℕ)
+    → Takes (length s * 8) a (run (sliceTurn g m x) s a .value) (run (sliceTurn g m x) s a .at)
 unfolding sliceTurn
-slice-takes g s x a =
-    rw (run-bind (macroblock g (x .first) (x .world)) (pastMacroblock g) s a)
-    (past-takes g s a _ _ (run-on (macroblock g (x .first) (x .world)) s a) (macroblock-takes g (x .first) (x .world) s a))
+slice-takes g m s x a =
+    rw (run-bind (macroblock g m (x .first) (x .world)) (pastMacroblock g) s a)
+    (past-takes g s a _ _ (run-on (macroblock g m (x .first) (x .world)) s a) (macroblock-takes g m (x .first) (x .world) s a))
 
 -- RULES 7.6
-pub slice-fuel : (g : Given) (s : List ℕ) → length s ≤ longestStream → (n : ℕ) → many ≤ n → (d e : Way World) (x : Slicing) (a : ℕ)
-    → run (loop n (sliceTurn g) d x) s a ≡ run (loop many (sliceTurn g) e x) s a
-slice-fuel g s l n m d e x a = enough s (sliceTurn g) (slice-takes g s) l n m d e x a
+pub slice-fuel : (g : Context) (m : Matrices) (s : List ℕ) → length s ≤ longestStream → (n : ℕ) → many ≤ n → (d e : Way World) (x : Slicing) (a : ℕ)
+    → run (loop n (sliceTurn g m) d x) s a ≡ run (loop many (sliceTurn g m) e x) s a
+slice-fuel g m s l n h d e x a = enough s (sliceTurn g m) (slice-takes g m s) l n h d e x a
 
 -- ---- the slices of a picture
 
@@ -132,23 +135,24 @@ found-takes s a g = go (found s a) (found-is-first s a) g
     go f (first p w q) k = (omega (arith, w .from, ap (λ (f : Found). f .at) q), omega (arith, w .from, w .five))
     go f (none w q) k = absurd (k (ap (λ (f : Found). f .code) q))
 
-pub slices-take : (g : Given) (s : List ℕ) (x : P.Slices) (a : ℕ) → Takes (length s * 8) a (run (P.slicesTurn g x) s a .value)
-    (run (P.slicesTurn g x) s a .at)
+pub slices-take : (g : Context) (m : Matrices) (s : List ℕ) (x : P.Slices) (a : ℕ) → Takes (length s * 8) a (run (P.slicesTurn g m x) s a .value)
+    (run (P.slicesTurn g m x) s a .at)
 unfolding P.slicesTurn run bind
-slices-take g s x a =
+slices-take g m s x a =
     let c = found s a .code in
     let e = found s a .at in
     let Ends : Prog (Turn P.Slices (Way P.Frame)) → Type 0 = λ p. Takes (length s * 8) a (run p s e .value) (run p s e .at) in
     by-case Ends (P.isSlice c) (λ q.
     let f = found-takes s a (λ z. false≢true (sym (ap P.isSlice z) ∙ q)) in
     let p = startCodeAs c (x .frame .picture) in
-    let o = run (bind (slice g (natAbs c) (world (p .slice) (x .frame .store))) (P.pastSlice g p)) s e in
+    let rest = bind (slice g m (natAbs c) (world (p .slice) (x .frame .«block_data») (x .frame .store))) (P.pastSlice g p) in
+    let o = run rest s e in
     takes (length s * 8) a (o .value) (o .at)
-    (lt-of-lt-of-le (f .0) (run-on (bind (slice g (natAbs c) (world (p .slice) (x .frame .store))) (P.pastSlice g p)) s e)) (f .1)) (λ q.
+    (lt-of-lt-of-le (f .0) (run-on rest s e)) (f .1)) (λ q.
     by-case Ends (P.isExtra c && not (x .begun)) (λ q. found-takes s a (λ z. false≢true (sym (ap P.isExtra z) ∙ both _ _ q .0))) (λ q. tt))
 
 -- RULES 7.3
-pub slices-fuel : (g : Given) (s : List ℕ) → length s ≤ longestStream → (n : ℕ) → many ≤ n → (d : Way P.Frame) (f : P.Frame) (a : ℕ)
-    → run (loop n (P.slicesTurn g) d (P.slicesOf false f)) s a ≡ run (P.slices g f) s a
+pub slices-fuel : (g : Context) (m : Matrices) (s : List ℕ) → length s ≤ longestStream → (n : ℕ) → many ≤ n → (d : Way P.Frame) (f : P.Frame) (a : ℕ)
+    → run (loop n (P.slicesTurn g m) d (P.slicesOf false f)) s a ≡ run (P.slices g m f) s a
 unfolding P.slices
-slices-fuel g s l n m d f a = enough s (P.slicesTurn g) (slices-take g s) l n m d (on f) (P.slicesOf false f) a
+slices-fuel g m s l n h d f a = enough s (P.slicesTurn g m) (slices-take g m s) l n h d (on f) (P.slicesOf false f) a

@@ -9,7 +9,7 @@ use borrow.Rule.Slice.PartMut.{midOf, same-len-mid}
 use Rattle.laws.proofs.Lists.{length-rows}
 use Rattle.laws.proofs.Tests.{by-case}
 use Rattle.coefficients.specs.declared.quantiser.Quantiser.{Quantiser}
-use Rattle.coefficients.specs.Blocks.{Filled, Read, firstOnly}
+use Rattle.coefficients.specs.Blocks.{Filled, firstOnly}
 use Rattle.prediction.specs.declared.place.Macroblock.{Macroblock}
 use Rattle.prediction.specs.declared.place.Place.{Place}
 use Rattle.prediction.specs.declared.place.Fetch.{Fetch}
@@ -19,7 +19,7 @@ use Rattle.prediction.specs.declared.predict.Predicted.the-variants.{Done, Refu
 use Rattle.prediction.specs.Predict.{macroblockAt, bytes, fetch, predicted, address, width}
 use Rattle.prediction.specs.Planes.{After, planeOf, planeLength, planeStart, follow, inPlane, next, predictedPlanes}
 use Rattle.prediction.specs.Writers.{setConst, overwrite, addConst, addBlock, blockWidth, blockPlace}
-use Rattle.picture.specs.State.{Given}
+use Rattle.picture.specs.declared.state.Context.{Context}
 use Rattle.picture.specs.Blocks.{results, written}
 
 -- ---- a prediction
@@ -65,11 +65,11 @@ results-length q f di dw d =
     (λ e. by-case (λ (l : List ℕ). length l ≡ length d) (q .intra) (λ e. length-rows d di dw 8 _ 8) (λ e. length-rows d di dw 8 _ 8))
     (λ e. by-case (λ (l : List ℕ). length l ≡ length d) (q .intra) (λ e. length-rows d di dw 8 _ 8) (λ e. length-rows d di dw 8 _ 8))
 
-pub written-length : (g : Given) (q : Quantiser) (number address : ℕ) (r : Read) (l : List ℕ) → length (written g q number address r l) ≡ length l
+pub written-length : (g : Context) (q : Quantiser) (number address : ℕ) (f : Filled) (l : List ℕ) → length (written g q number address f l) ≡ length l
 unfolding written
-written-length g q number address r l =
+written-length g q number address f l =
     let start = planeStart (g .stores .cur) (planeOf number) (g .sizes .«mb_size») in
     let size = planeLength (planeOf number) (g .sizes .«mb_size») in
     let m = macroblockAt (g .sizes .«mb_width») (g .sizes .«mb_height») address in
-    same-len-mid start size l (results q (r .filled) (blockPlace m number) (blockWidth m number) (midOf start size l))
-    (results-length q (r .filled) (blockPlace m number) (blockWidth m number) (midOf start size l))
+    same-len-mid start size l (results q f (blockPlace m number) (blockWidth m number) (midOf start size l))
+    (results-length q f (blockPlace m number) (blockWidth m number) (midOf start size l))

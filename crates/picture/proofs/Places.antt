@@ -19,7 +19,8 @@ use Rattle.picture.specs.declared.state.Stores.{Stores}
 use Rattle.picture.specs.declared.state.Sizes.{Sizes}
 use Rattle.picture.specs.declared.state.Matrices.{Matrices}
 use Rattle.picture.specs.declared.state.Picture.{Picture}
-use Rattle.picture.specs.State.{Given, World, world, startCodeAs, storesAs}
+use Rattle.picture.specs.declared.state.Context.{Context}
+use Rattle.picture.specs.State.{World, world, startCodeAs, storesAs}
 use Rattle.picture.specs.Ways.{Way, on, out, leave, onward, give}
 use Rattle.picture.specs.Slices.{isLast, slice}
 use Rattle.picture.specs.Pictures as P
@@ -107,11 +108,11 @@ header-comes : (p : Picture) (s : List ℕ) (a : ℕ) → a + 29 ≤ length s * 
 unfolding P.pictureHeader
 header-comes p s a h = comes-skips 10 _ (omega arith) (comes-bits 3 _ (omega arith) (λ type. comes-skips 16 _ (omega arith) comes-here))
 
-pub picture-past : (z : Sizes) (m : Matrices) (p : Picture) (l s : List ℕ) (a : ℕ) → a + 29 ≤ length s * 8
-    → a + 29 ≤ run (P.picture z m p l) s a .at
+pub picture-past : (z : Sizes) (m : Matrices) (f : P.Frame) (s : List ℕ) (a : ℕ) → a + 29 ≤ length s * 8
+    → a + 29 ≤ run (P.picture z m f) s a .at
 unfolding P.picture
-picture-past z m p l s a h =
-    let c : Comes s a (a + 10 + 3 + 16) (P.picture z m p l) = comes-first (P.pictureHeader p) _ (header-comes p s a h) in
+picture-past z m f s a h =
+    let c : Comes s a (a + 10 + 3 + 16) (P.picture z m f) = comes-first (P.pictureHeader (f .picture)) _ (header-comes (f .picture) s a h) in
     omega arith
 
 -- ---- bits are left before a picture start code
@@ -135,7 +136,7 @@ pub record Other (s : List ℕ) (a e : ℕ) (c : ℤ) : Type 0 where
   pub five : a + 40 ≤ length s * 8
   pub other : c ≡ pos 0 → ⊥
 
-past-ahead : (g : Given) (p : Picture) (s : List ℕ) (a e f : ℕ) (w : Way World) → Other s a e (p .«start_code») → e ≤ f
+past-ahead : (g : Context) (p : Picture) (s : List ℕ) (a e f : ℕ) (w : Way World) → Other s a e (p .«start_code») → e ≤ f
     → Turned s a f (P.pastSlice g p w)
 unfolding P.pastSlice run
 past-ahead g p s a e f (out n l) h k = tt
@@ -154,19 +155,19 @@ slice-other : (v : ℕ) → P.isSlice (pos v) ≡ true → pos v ≡ pos 0 → �
 slice-other zero h e = false≢true h
 slice-other (suc v) h e = let z : suc v ≡ 0 = ap natAbs e in omega arith
 
-turn-ahead : (g : Given) (x : P.Slices) (s : List ℕ) (a : ℕ) → Turned s a a (P.slicesTurn g x)
+turn-ahead : (g : Context) (m : Matrices) (x : P.Slices) (s : List ℕ) (a : ℕ) → Turned s a a (P.slicesTurn g m x)
 unfolding P.slicesTurn run bind
-turn-ahead g x s a = go (found s a .code) (found s a .at) (code-ahead s a)
+turn-ahead g m x s a = go (found s a .code) (found s a .at) (code-ahead s a)
   where
     go : (c : ℤ) (e : ℕ) → (isCode c ≡ true → (a + 32 ≤ e) × (e + 8 ≤ length s * 8))
         → Turned s a e (
         let p = startCodeAs c (x .frame .picture) in
-        let l = x .frame .store in
-        cond (P.isSlice c) (bind (slice g (natAbs c) (world (p .slice) l)) (P.pastSlice g p))
-        (cond (P.isExtra c && not (x .begun)) (done (again (P.slicesOf false (P.frame p l)))) (done (stop (on (P.frame p l))))))
+        let f = P.inPicture p (x .frame) in
+        cond (P.isSlice c) (bind (slice g m (natAbs c) (world (p .slice) (f .«block_data») (f .store))) (P.pastSlice g p))
+        (cond (P.isExtra c && not (x .begun)) (done (again (P.slicesOf false f))) (done (stop (on f)))))
     go (pos v) e h =
         let p = startCodeAs (pos v) (x .frame .picture) in
-        let w = slice g v (world (p .slice) (x .frame .store)) in
+        let w = slice g m v (world (p .slice) (x .frame .«block_data») (x .frame .store)) in
         let k = h refl in
         by-case (Turned s a e) (P.isSlice (pos v))
         (λ i. rw (run-bind w (P.pastSlice g p) s e)
@@ -177,50 +178,54 @@ turn-ahead g x s a = go (found s a .code) (found s a .at) (code-ahead s a)
 abbrev Left : List ℕ → ℕ → Prog (Way P.Frame) → Type 0
 Left s a p = Ahead s (run p s a .at) (run p s a .value)
 
-left-turn : (g : Given) (d : Way P.Frame) (s : List ℕ) (a n : ℕ) (t : Turn P.Slices (Way P.Frame)) (e : ℕ) → length s * 8 - a < suc n
+left-turn : (g : Context) (m : Matrices) (d : Way P.Frame) (s : List ℕ) (a n : ℕ) (t : Turn P.Slices (Way P.Frame)) (e : ℕ) → length s * 8 - a < suc n
     → TurnAhead s a e t
-    → ((y : P.Slices) (b : ℕ) → length s * 8 - b < n → Left s b (loop n (P.slicesTurn g) d y)) → Left s e (turn (loop n (P.slicesTurn g) d) t)
+    → ((y : P.Slices) (b : ℕ) → length s * 8 - b < n → Left s b (loop n (P.slicesTurn g m) d y)) → Left s e (turn (loop n (P.slicesTurn g m) d) t)
 unfolding run
-left-turn g d s a n (again y) e h k r = r y e (omega arith)
-left-turn g d s a n (stop w) e h k r = k
+left-turn g m d s a n (again y) e h k r = r y e (omega arith)
+left-turn g m d s a n (stop w) e h k r = k
 
 -- each turn that goes on brings the bits left down, so the fuel is not spent
-slices-ahead : (g : Given) (d : Way P.Frame) (s : List ℕ) (n : ℕ) (x : P.Slices) (a : ℕ) → length s * 8 - a < n
-    → Left s a (loop n (P.slicesTurn g) d x)
+slices-ahead : (g : Context) (m : Matrices) (d : Way P.Frame) (s : List ℕ) (n : ℕ) (x : P.Slices) (a : ℕ) → length s * 8 - a < n
+    → Left s a (loop n (P.slicesTurn g m) d x)
 unfolding loop
-slices-ahead g d s zero x a h = let z : ⊥ = omega arith in absurd z
-slices-ahead g d s (suc n) x a h =
-    rw (run-bind (P.slicesTurn g x) (turn (loop n (P.slicesTurn g) d)) s a)
-    (left-turn g d s a n (run (P.slicesTurn g x) s a .value) (run (P.slicesTurn g x) s a .at) h (turn-ahead g x s a) (λ y b. slices-ahead g d s n y b))
+slices-ahead g m d s zero x a h = let z : ⊥ = omega arith in absurd z
+slices-ahead g m d s (suc n) x a h =
+    rw (run-bind (P.slicesTurn g m x) (turn (loop n (P.slicesTurn g m) d)) s a)
+    (left-turn g m d s a n (run (P.slicesTurn g m x) s a .value) (run (P.slicesTurn g m x) s a .at) h (turn-ahead g m x s a)
+    (λ y b. slices-ahead g m d s n y b))
 
-all-ahead : (g : Given) (f : P.Frame) (s : List ℕ) (a : ℕ) → length s ≤ longestStream → Left s a (P.slices g f)
+all-ahead : (g : Context) (m : Matrices) (f : P.Frame) (s : List ℕ) (a : ℕ) → length s ≤ longestStream → Left s a (P.slices g m f)
 unfolding P.slices
-all-ahead g f s a h = slices-ahead g (on f) s many (P.slicesOf false f) a (omega arith)
+all-ahead g m f s a h = slices-ahead g m (on f) s many (P.slicesOf false f) a (omega arith)
 
 turned-ahead : (t : Stores) (s : List ℕ) (e : ℕ) (w : Way P.Frame) → Ahead s e w
-    → Left s e (leave (λ f. give (P.frame (storesAs t (f .picture)) (f .store))) w)
+    → Left s e (leave (λ f. give (P.inPicture (storesAs t (f .picture)) f)) w)
 unfolding leave run
 turned-ahead t s e (on f) k = k
 turned-ahead t s e (out n l) k = tt
 
-coded-ahead : (z : Sizes) (m : Matrices) (p : Picture) (l s : List ℕ) (a : ℕ) → length s ≤ longestStream → Left s a (P.coded z m p l)
+coded-ahead : (z : Sizes) (m : Matrices) (f : P.Frame) (s : List ℕ) (a : ℕ) → length s ≤ longestStream → Left s a (P.coded z m f)
 unfolding P.coded onward
-coded-ahead z m p l s a h =
+coded-ahead z m f s a h =
+    let p = f .picture in
     let q = storesAs (P.before (p .stores)) p in
-    let c = P.slices (P.given z m q) (P.frame q l) in
-    by-case (Left s a) (eqb (p .«picture_type») 3) (λ e. all-ahead (P.given z m p) (P.frame p l) s a h)
-    (λ e. rw (run-bind c _ s a) (turned-ahead (P.after (p .stores)) s (run c s a .at) (run c s a .value) (all-ahead (P.given z m q) (P.frame q l) s a h)))
+    let c = P.slices (P.contextOf z q) m (P.inPicture q f) in
+    by-case (Left s a) (eqb (p .«picture_type») 3) (λ e. all-ahead (P.contextOf z p) m f s a h)
+    (λ e. rw (run-bind c _ s a)
+    (turned-ahead (P.after (p .stores)) s (run c s a .at) (run c s a .value) (all-ahead (P.contextOf z q) m (P.inPicture q f) s a h)))
 
 given-ahead : (s : List ℕ) (a : ℕ) (f : P.Frame) → a < length s * 8 → Left s a (give f)
 unfolding run
 given-ahead s a f h = λ c. h
 
 -- 40 bits at a are what a start code further on takes with the byte behind it
-pub picture-ahead : (z : Sizes) (m : Matrices) (p : Picture) (l s : List ℕ) (a : ℕ) → length s ≤ longestStream → a + 40 ≤ length s * 8
-    → Ahead s (run (P.picture z m p l) s a .at) (run (P.picture z m p l) s a .value)
+pub picture-ahead : (z : Sizes) (m : Matrices) (f : P.Frame) (s : List ℕ) (a : ℕ) → length s ≤ longestStream → a + 40 ≤ length s * 8
+    → Ahead s (run (P.picture z m f) s a .at) (run (P.picture z m f) s a .value)
 unfolding P.picture
-picture-ahead z m p l s a h k =
+picture-ahead z m f s a h k =
+    let p = f .picture in
     let o = run (P.pictureHeader p) s a in
     rw (run-bind (P.pictureHeader p) _ s a)
-    (by-case (Left s (o .at)) (o .value .decoded) (λ e. coded-ahead z m (o .value .picture) l s (o .at) h)
+    (by-case (Left s (o .at)) (o .value .decoded) (λ e. coded-ahead z m (P.inPicture (o .value .picture) f) s (o .at) h)
     (λ e. given-ahead s (o .at) _ (omega (arith, header-takes p .most s a))))

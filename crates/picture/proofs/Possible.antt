@@ -11,8 +11,6 @@ use lib.Signed.{leZ}
 use Rattle.laws.proofs.Each.{all-at, all-by}
 use Rattle.laws.proofs.Tests.{both, each}
 use Rattle.laws.proofs.Ints.{Dif, v, lit, neg, le-yes, yes-le, le-by, lt-by, le-of, lt-of}
-use Rattle.codes.specs.Matrices.{Bounded}
-use Rattle.codes.proofs.Bounds.{bounded-of, bounded-by}
 use Rattle.motion.specs.Displacement.{InRange}
 use Rattle.coefficients.specs.Dcs.{dcInside}
 use Rattle.picture.specs.declared.state.Motion.{Motion}
@@ -67,19 +65,17 @@ motion-by k = rw (le-leb _ _ (k .size), range-by (k .h), range-by (k .v))
 
 pub slice-of : (s : Slice) → possibleSlice s ≡ true → PossibleSlice s
 slice-of s e =
-    let h = each _ (_ ∷ _ ∷ _ ∷ _ ∷ _ ∷ []) e in
+    let h = each _ (_ ∷ _ ∷ _ ∷ _ ∷ []) e in
     record {
       scale = leb-true _ _ (h 0);
       address = h 1;
       forward = motion-of (s .«motion_forward») (h 2);
       backward = motion-of (s .«motion_backward») (h 3);
       predictors = all-at _ 3 (h 4);
-      block = bounded-of (s .«block_data») (h 5);
     }
 
 pub slice-by : {s : Slice} → PossibleSlice s → possibleSlice s ≡ true
-slice-by k =
-    rw (le-leb _ _ (k .scale), k .address, motion-by (k .forward), motion-by (k .backward), all-by _ 3 (k .predictors), bounded-by (k .block))
+slice-by k = rw (le-leb _ _ (k .scale), k .address, motion-by (k .forward), motion-by (k .backward), all-by _ 3 (k .predictors))
 
 pub picture-of : (p : Picture) → possiblePicture p ≡ true → PossiblePicture p
 picture-of p e =

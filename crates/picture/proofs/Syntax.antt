@@ -8,13 +8,12 @@ use lib.Dec.{eqb, ltb}
 use lib.IntN.{ℤ, pos}
 use lib.ListN.{getD, replicate, getD-replicate}
 use Rattle.bits.proofs.Gives.{Gives, g-done, g-any, g-bind, g-if, g-bits}
-use Rattle.codes.specs.Matrices.{Bounded}
 use Rattle.motion.proofs.OneStep.{component-in}
 use Rattle.coefficients.specs.Dcs.{dcInside}
 use Rattle.picture.specs.declared.state.Motion.{Motion}
 use Rattle.picture.specs.declared.state.Slice.{Slice}
 use Rattle.picture.specs.declared.state.Picture.{Picture}
-use Rattle.picture.specs.State.{zeroed, isSetAs, scaleAs, motionsAs, dcReset, blockAs, typeAs, sliceAs}
+use Rattle.picture.specs.State.{zeroed, isSetAs, scaleAs, motionsAs, dcReset, predictorsAs, typeAs, sliceAs}
 use Rattle.picture.specs.Heads.{flag, isIntra, scale, vector, forward, backward, vectors, flagged, still, head}
 use Rattle.picture.specs.Pictures.{Direction, direction, Headed, backwardHeader, forwardHeader, pictureHeader}
 use Rattle.picture.specs.Possible.{PossibleMotion, PossibleSlice, PossiblePicture}
@@ -35,13 +34,13 @@ set-kept b k = record { size = k .size; h = k .h; v = k .v }
 
 module _ {s : Slice} (k : PossibleSlice s) where
   pub scale-kept : {q : ℕ} → q ≤ 31 → PossibleSlice (scaleAs q s)
-  scale-kept h = record { scale = h; address = k .address; forward = k .forward; backward = k .backward; predictors = k .predictors; block = k .block }
+  scale-kept h = record { scale = h; address = k .address; forward = k .forward; backward = k .backward; predictors = k .predictors }
 
   pub motions-kept : {f b : Motion} → PossibleMotion f → PossibleMotion b → PossibleSlice (motionsAs f b s)
-  motions-kept f b = record { scale = k .scale; address = k .address; forward = f; backward = b; predictors = k .predictors; block = k .block }
+  motions-kept f b = record { scale = k .scale; address = k .address; forward = f; backward = b; predictors = k .predictors }
 
-  pub block-kept : {d c : List ℤ} → ((i : ℕ) → i < 3 → dcInside (getD d i (pos 0)) ≡ true) → Bounded c → PossibleSlice (blockAs d c s)
-  block-kept d c = record { scale = k .scale; address = k .address; forward = k .forward; backward = k .backward; predictors = d; block = c }
+  pub predictors-kept : {d : List ℤ} → ((i : ℕ) → i < 3 → dcInside (getD d i (pos 0)) ≡ true) → PossibleSlice (predictorsAs d s)
+  predictors-kept d = record { scale = k .scale; address = k .address; forward = k .forward; backward = k .backward; predictors = d }
 
   pub still-kept : PossibleSlice (still s)
   still-kept = motions-kept (zeroed-kept (k .forward)) (zeroed-kept (k .backward))
@@ -54,7 +53,7 @@ pub predictors-reset : (i : ℕ) → i < 3 → dcInside (getD (replicate 3 (pos 
 predictors-reset i h = ap dcInside (getD-replicate 3 i (pos 128) (pos 0) h)
 
 pub reset-kept : {s : Slice} → PossibleSlice s → PossibleSlice (dcReset s)
-reset-kept k = block-kept k predictors-reset (k .block)
+reset-kept k = predictors-kept k predictors-reset
 
 module _ {s : List ℕ} where
   -- ---- the head of a macroblock

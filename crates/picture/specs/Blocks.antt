@@ -16,8 +16,10 @@ use Rattle.transform.specs.Idct.{idct, dcOnly}
 use Rattle.prediction.specs.Predict.{macroblockAt}
 use Rattle.prediction.specs.Planes.{planeOf, planeLength, planeStart}
 use Rattle.prediction.specs.Writers.{setConst, overwrite, addConst, addBlock, blockWidth, blockPlace}
+use Rattle.picture.specs.declared.state.Context.{Context}
+use Rattle.picture.specs.declared.state.Matrices.{Matrices}
 use Rattle.picture.specs.declared.state.Slice.{Slice}
-use Rattle.picture.specs.State.{Given, World, world, blockAs}
+use Rattle.picture.specs.State.{World, world, predictorsAs}
 use Rattle.picture.specs.Ways.{Way, on, out, leave, onward, plain, step, give, _>>=_, _>>_}
 use Rattle.picture.specs.Heads.{flag}
 
@@ -32,47 +34,52 @@ results q f di dw d =
     if firstOnly q f then (if q .intra then setConst d di dw (clamp255 first) else addConst d di dw first)
     else (if q .intra then overwrite d di dw (idct (f .coefficients)) else addBlock d di dw (idct (f .coefficients)))
 
--- the store with the results of a block that was read whole
-unfoldable pub written : Given → Quantiser → ℕ → ℕ → Read → List ℕ → List ℕ
-written g q number address r l =
+-- RULES 6.12, 6.13: the store with the results of a block that was read whole
+unfoldable pub written : Context → Quantiser → ℕ → ℕ → Filled → List ℕ → List ℕ
+written g q number address f l =
     let m = macroblockAt (g .sizes .«mb_width») (g .sizes .«mb_height») address in
     let p = planeOf number in
     let start = planeStart (g .stores .cur) p (g .sizes .«mb_size») in
     let size = planeLength p (g .sizes .«mb_size») in
-    let before = midOf start size l in
-    putMid start size l (results q (r .filled) (blockPlace m number) (blockWidth m number) before)
+    putMid start size l (results q f (blockPlace m number) (blockWidth m number) (midOf start size l))
 
--- RULES 3.3, 3.9, 3.12: the predictor and the left-over coefficients behind a block
-abbrev pub behind : Quantiser → ℕ → Read → Slice → Slice
-behind q number r s = blockAs (set (s .«dc_predictor») (predictorOf number) (r .predictor)) (leftOver q r) s
+-- RULES 3.3: the predictor behind the block with this number
+abbrev pub predictorAs : ℕ → ℤ → Slice → Slice
+predictorAs number p s = predictorsAs (set (s .«dc_predictor») (predictorOf number) p) s
 
--- RULES Q8, 3.9: a DC value outside ends the call with 8; a dropped block writes nothing
-unfoldable pub blockEnd : Given → Quantiser → ℕ → World → Read → Way World
+-- RULES Q8, 3.3, 3.9, 3.12: predictor, left-over coefficients and store behind a block. A DC value outside ends the call with 8; a dropped block
+-- writes nothing
+unfoldable pub blockEnd : Context → Quantiser → ℕ → World → Read → Way World
 blockEnd g q number w r = elim (r .end) [
-  | Whole ↦ on (world (behind q number r (w .slice)) (written g q number (natAbs (w .slice .«macroblock_address»)) r (w .store)))
-  | Dropped ↦ on (world (behind q number r (w .slice)) (w .store))
+  | Whole ↦ on (world (predictorAs number (r .predictor) (w .slice)) (leftOver q r)
+      (written g q number (natAbs (w .slice .«macroblock_address»)) (r .filled) (w .store)))
+  | Dropped ↦ on (world (predictorAs number (r .predictor) (w .slice)) (leftOver q r) (w .store))
   | Outside ↦ out 8 (w .store)
 ]
 
 -- RULES 3.8: the matrix of blocks that are intra or not
-abbrev pub matrixFor : Given → Bool → List ℕ
-matrixFor g intra = if intra then g .matrices .«intra_quant_matrix» else g .matrices .«non_intra_quant_matrix»
+abbrev pub matrixFor : Matrices → Bool → List ℕ
+matrixFor m intra = if intra then m .«intra_quant_matrix» else m .«non_intra_quant_matrix»
+
+-- RULES 3.8: what makes coefficients of the levels of such blocks
+abbrev pub quantiserOf : Context → Bool → Slice → Quantiser
+quantiserOf g intra s = quantiser intra (s .«quantizer_scale»)
 
 -- the block with this number
-unfoldable pub oneBlock : Given → Bool → ℕ → World → Prog (Way World)
-oneBlock g intra number w = do
-  let q = quantiser intra (w .slice .«quantizer_scale»)
+unfoldable pub oneBlock : Context → Matrices → Bool → ℕ → World → Prog (Way World)
+oneBlock g m intra number w = do
+  let q = quantiserOf g intra (w .slice)
   let predictor = getD (w .slice .«dc_predictor») (predictorOf number) (pos 0)
-  r ← plain (block q (matrixFor g intra) (ltb number 4) predictor (w .slice .«block_data»))
+  r ← plain (block q (matrixFor m intra) (ltb number 4) predictor (w .«block_data»))
   step (blockEnd g q number w r)
 
 -- RULES 7.16: the last n of the six blocks; the bit of weight 2 ^ k of the pattern says whether block 5 - k is read
-unfoldable pub lastBlocks : Given → Bool → ℕ → ℕ → World → Prog (Way World)
-lastBlocks g intra pattern zero w = give w
-lastBlocks g intra pattern (suc k) w = do
-  x ← if flag pattern (2 ^ k) then oneBlock g intra (5 - k) w else give w
-  lastBlocks g intra pattern k x
+unfoldable pub lastBlocks : Context → Matrices → Bool → ℕ → ℕ → World → Prog (Way World)
+lastBlocks g m intra pattern zero w = give w
+lastBlocks g m intra pattern (suc k) w = do
+  x ← if flag pattern (2 ^ k) then oneBlock g m intra (5 - k) w else give w
+  lastBlocks g m intra pattern k x
 
 -- RULES 7.16 (11172-2, 2.4.2.7): the blocks that the pattern names, 0 to 5 in this order
-unfoldable pub blocks : Given → Bool → ℕ → World → Prog (Way World)
-blocks g intra pattern w = lastBlocks g intra pattern 6 w
+unfoldable pub blocks : Context → Matrices → Bool → ℕ → World → Prog (Way World)
+blocks g m intra pattern w = lastBlocks g m intra pattern 6 w

@@ -7,22 +7,28 @@ use lib.IntN.{ℤ, pos, natAbs}
 use lib.Signed.{leZ}
 use Rattle.laws.specs.Turns.{Turn, again, stop}
 use Rattle.bits.specs.Programs.{Prog, done, bind, bits, skips, nextStartCode, eqZ, loop, many, _>>=_, _>>_, if_then_else_}
+use Rattle.picture.specs.declared.state.Context.{Context}
 use Rattle.picture.specs.declared.state.Motion.{Motion}
 use Rattle.picture.specs.declared.state.Stores.{Stores}
 use Rattle.picture.specs.declared.state.Sizes.{Sizes}
 use Rattle.picture.specs.declared.state.Matrices.{Matrices}
 use Rattle.picture.specs.declared.state.Picture.{Picture}
-use Rattle.picture.specs.State.{Given, World, world, fullPxAs, rSizeAs, motionsAs, startCodeAs, typeAs, storesAs, sliceAs}
+use Rattle.picture.specs.State.{World, world, fullPxAs, rSizeAs, motionsAs, startCodeAs, typeAs, storesAs, sliceAs}
 use Rattle.picture.specs.Ways.{Way, on, out, leave, onward, give}
 use Rattle.picture.specs.Slices.{isLast, slice}
 
--- a picture's state and the store
+-- what a picture changes: its state, the left-over coefficients and the store
 pub record Frame : Type 0 where
   pub picture : Picture
+  pub «block_data» : List ℤ
   pub store : List ℕ
 
-abbrev pub frame : Picture → List ℕ → Frame
-frame p l = record { picture = p; store = l }
+abbrev pub frame : Picture → List ℤ → List ℕ → Frame
+frame p c l = record { picture = p; «block_data» = c; store = l }
+
+-- with another state of the picture
+abbrev pub inPicture : Picture → Frame → Frame
+inPicture p f = frame p (f .«block_data») (f .store)
 
 -- what a header leaves, and whether the picture is decoded
 pub record Headed : Type 0 where
@@ -75,8 +81,8 @@ pictureHeader p = do
       else (if eqb type 1 then done (headed x true) else forwardHeader x)
 
 -- what the slices of the picture p are given
-abbrev pub given : Sizes → Matrices → Picture → Given
-given z m p = record { type = p .«picture_type»; sizes = z; stores = p .stores; matrices = m }
+abbrev pub contextOf : Sizes → Picture → Context
+contextOf z p = record { «picture_type» = p .«picture_type»; sizes = z; stores = p .stores }
 
 -- before a start code: has a slice been read already?
 pub record Slices : Type 0 where
@@ -95,26 +101,26 @@ abbrev pub isSlice : ℤ → Bool
 isSlice c = leZ (pos 1) c && leZ c (pos 0xaf)
 
 -- RULES 7.4: the picture ends where the address has reached the last macroblock; it keeps the code of this slice
-unfoldable pub pastSlice : Given → Picture → Way World → Prog (Turn Slices (Way Frame))
+unfoldable pub pastSlice : Context → Picture → Way World → Prog (Turn Slices (Way Frame))
 pastSlice g p (out n l) = done (stop (out n l))
 pastSlice g p (on w) =
-    if isLast g w then done (stop (on (frame (sliceAs (w .slice) p) (w .store))))
-    else done (again (slicesOf true (frame (sliceAs (w .slice) p) (w .store))))
+    let f = frame (sliceAs (w .slice) p) (w .«block_data») (w .store) in
+    if isLast g w then done (stop (on f)) else done (again (slicesOf true f))
 
 -- RULES 7.3: the next start code; what is neither passed over nor a slice ends the picture and is kept
-unfoldable pub slicesTurn : Given → Slices → Prog (Turn Slices (Way Frame))
-slicesTurn g x = do
+unfoldable pub slicesTurn : Context → Matrices → Slices → Prog (Turn Slices (Way Frame))
+slicesTurn g m x = do
   c ← nextStartCode
   let p = startCodeAs c (x .frame .picture)
-  let l = x .frame .store
+  let f = inPicture p (x .frame)
   if isSlice c then (do
-    w ← slice g (natAbs c) (world (p .slice) l)
+    w ← slice g m (natAbs c) (world (p .slice) (f .«block_data») (f .store))
     pastSlice g p w)
-      else (if isExtra c && not (x .begun) then done (again (slicesOf false (frame p l))) else done (stop (on (frame p l))))
+      else (if isExtra c && not (x .begun) then done (again (slicesOf false f)) else done (stop (on f)))
 
 -- RULES 7.3, 7.4: the slices of a picture, none of them read so far
-unfoldable pub slices : Given → Frame → Prog (Way Frame)
-slices g f = loop many (slicesTurn g) (on f) (slicesOf false f)
+unfoldable pub slices : Context → Matrices → Frame → Prog (Way Frame)
+slices g m f = loop many (slicesTurn g m) (on f) (slicesOf false f)
 
 -- RULES 7.2: the roles of the stores while the slices of an I or P picture are read, and after them
 abbrev pub before : Stores → Stores
@@ -124,15 +130,16 @@ abbrev pub after : Stores → Stores
 after t = record { cur = t .fwd; fwd = t .bwd; bwd = t .cur }
 
 -- RULES 7.2: the slices, with the turn of the stores
-unfoldable pub coded : Sizes → Matrices → Picture → List ℕ → Prog (Way Frame)
-coded z m p l =
-    if eqb (p .«picture_type») 3 then slices (given z m p) (frame p l)
+unfoldable pub coded : Sizes → Matrices → Frame → Prog (Way Frame)
+coded z m f =
+    let p = f .picture in
+    if eqb (p .«picture_type») 3 then slices (contextOf z p) m f
     else (
     let q = storesAs (before (p .stores)) p in
-    onward (slices (given z m q) (frame q l)) λ f. give (frame (storesAs (after (p .stores)) (f .picture)) (f .store)))
+    onward (slices (contextOf z q) m (inPicture q f)) λ f₁. give (inPicture (storesAs (after (p .stores)) (f₁ .picture)) f₁))
 
 -- a picture; one that is not decoded ends behind its header (RULES 8.4)
-unfoldable pub picture : Sizes → Matrices → Picture → List ℕ → Prog (Way Frame)
-picture z m p l = do
-  h ← pictureHeader p
-  if h .decoded then coded z m (h .picture) l else give (frame (h .picture) l)
+unfoldable pub picture : Sizes → Matrices → Frame → Prog (Way Frame)
+picture z m f = do
+  h ← pictureHeader (f .picture)
+  if h .decoded then coded z m (inPicture (h .picture) f) else give (inPicture (h .picture) f)

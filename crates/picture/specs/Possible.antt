@@ -7,7 +7,6 @@ use lib.IntN.{ℤ, pos, negℤ}
 use lib.ListN.{getD}
 use lib.Signed.{leZ}
 use Rattle.laws.specs.Each.{allBelow}
-use Rattle.codes.specs.Matrices.{bounded, Bounded}
 use Rattle.motion.specs.Displacement.{InRange}
 use Rattle.coefficients.specs.Dcs.{dcInside}
 use Rattle.picture.specs.declared.state.Motion.{Motion}
@@ -28,12 +27,12 @@ possibleStores t =
 abbrev pub possibleMotion : Motion → Bool
 possibleMotion m = leb (m .«r_size») 6 && between (negℤ (pos 1024)) (pos 1023) (m .h) && between (negℤ (pos 1024)) (pos 1023) (m .v)
 
--- scale, address, vectors, DC predictors, left-over coefficients
+-- scale, address, vectors, DC predictors
 abbrev pub possibleSlice : Slice → Bool
 possibleSlice s =
     leb (s .«quantizer_scale») 31 && between (negℤ (pos 1)) (pos 402700000) (s .«macroblock_address») &&
     possibleMotion (s .«motion_forward») && possibleMotion (s .«motion_backward») &&
-    allBelow 3 (λ k. dcInside (getD (s .«dc_predictor») k (pos 0))) && bounded (s .«block_data»)
+    allBelow 3 (λ k. dcInside (getD (s .«dc_predictor») k (pos 0)))
 
 -- type, start code, stores
 abbrev pub possiblePicture : Picture → Bool
@@ -60,7 +59,6 @@ pub record PossibleSlice (s : Slice) : Type 0 where
   pub forward : PossibleMotion (s .«motion_forward»)
   pub backward : PossibleMotion (s .«motion_backward»)
   pub predictors : (k : ℕ) → k < 3 → dcInside (getD (s .«dc_predictor») k (pos 0)) ≡ true
-  pub block : Bounded (s .«block_data»)
 
 pub record PossiblePicture (p : Picture) : Type 0 where
   pub type : p .«picture_type» ≤ 7

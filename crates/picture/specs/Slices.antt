@@ -7,8 +7,10 @@ use lib.ListN.{replicate}
 use lib.Signed.{leZ}
 use Rattle.laws.specs.Turns.{Turn, again, stop}
 use Rattle.bits.specs.Programs.{Prog, done, bind, bits, skips, nonZero, loop, many, _>>=_, _>>_, if_then_else_}
+use Rattle.picture.specs.declared.state.Context.{Context}
+use Rattle.picture.specs.declared.state.Matrices.{Matrices}
 use Rattle.picture.specs.declared.state.Slice.{Slice}
-use Rattle.picture.specs.State.{Given, World, world, zeroed}
+use Rattle.picture.specs.State.{World, inSlice, zeroed}
 use Rattle.picture.specs.Ways.{Way, on, out}
 use Rattle.picture.specs.Macroblocks.{macroblock}
 
@@ -25,7 +27,7 @@ unfoldable pub extra : Prog (Unit {0})
 extra = loop many extraTurn tt tt
 
 -- RULES 7.4, 7.6: the address has reached the last macroblock
-abbrev pub isLast : Given → World → Bool
+abbrev pub isLast : Context → World → Bool
 isLast g w = leZ (pos (g .sizes .«mb_size»)) (w .slice .«macroblock_address» +ℤ pos 1)
 
 -- between two macroblocks: is the next one the first of its slice?
@@ -37,7 +39,7 @@ abbrev pub slicing : Bool → World → Slicing
 slicing first w = record { first = first; world = w }
 
 -- RULES 7.6: the slice ends at the last macroblock, or where the next 23 bits are all 0 or not there
-unfoldable pub pastMacroblock : Given → Way World → Prog (Turn Slicing (Way World))
+unfoldable pub pastMacroblock : Context → Way World → Prog (Turn Slicing (Way World))
 pastMacroblock g (out n l) = done (stop (out n l))
 pastMacroblock g (on w) =
     if isLast g w then done (stop (on w)) else (do
@@ -45,25 +47,24 @@ pastMacroblock g (on w) =
       if more then done (again (slicing false w)) else done (stop (on w)))
 
 -- RULES 7.6: one macroblock, and whether another follows
-unfoldable pub sliceTurn : Given → Slicing → Prog (Turn Slicing (Way World))
-sliceTurn g x = do
-  w ← macroblock g (x .first) (x .world)
+unfoldable pub sliceTurn : Context → Matrices → Slicing → Prog (Turn Slicing (Way World))
+sliceTurn g m x = do
+  w ← macroblock g m (x .first) (x .world)
   pastMacroblock g w
 
 -- RULES 7.5: the state at the beginning of slice n, with this scale
-abbrev pub sliceStart : Given → ℕ → ℕ → Slice → Slice
+abbrev pub sliceStart : Context → ℕ → ℕ → Slice → Slice
 sliceStart g number q s = record {
   «quantizer_scale» = q;
   «macroblock_address» = pos ((number - 1) * g .sizes .«mb_width») -ℤ pos 1;
   «motion_forward» = zeroed (s .«motion_forward»);
   «motion_backward» = zeroed (s .«motion_backward»);
   «dc_predictor» = replicate 3 (pos 128);
-  «block_data» = s .«block_data»;
 }
 
 -- RULES 7.5, 7.6: slice n, from behind its start code on
-unfoldable pub slice : Given → ℕ → World → Prog (Way World)
-slice g number w = do
+unfoldable pub slice : Context → Matrices → ℕ → World → Prog (Way World)
+slice g m number w = do
   q ← bits 5
   extra
-  loop many (sliceTurn g) (on w) (slicing true (world (sliceStart g number q (w .slice)) (w .store)))
+  loop many (sliceTurn g m) (on w) (slicing true (inSlice (sliceStart g number q (w .slice)) w))

@@ -6,25 +6,21 @@ use lib.IntN.{ℤ, pos, negsuc}
 use lib.ListN.{replicate}
 use Rattle.picture.specs.declared.state.Motion.{Motion}
 use Rattle.picture.specs.declared.state.Stores.{Stores}
-use Rattle.picture.specs.declared.state.Sizes.{Sizes}
-use Rattle.picture.specs.declared.state.Matrices.{Matrices}
 use Rattle.picture.specs.declared.state.Slice.{Slice}
 use Rattle.picture.specs.declared.state.Picture.{Picture}
 
--- what stays the same while the slices of a picture are read; `type` is the picture's
-pub record Given : Type 0 where
-  pub type : ℕ
-  pub sizes : Sizes
-  pub stores : Stores
-  pub matrices : Matrices
-
--- what macroblocks change: state and store
+-- what macroblocks change: the slice's state, the left-over coefficients and the store
 pub record World : Type 0 where
   pub slice : Slice
+  pub «block_data» : List ℤ
   pub store : List ℕ
 
-abbrev pub world : Slice → List ℕ → World
-world s l = record { slice = s; store = l }
+abbrev pub world : Slice → List ℤ → List ℕ → World
+world s c l = record { slice = s; «block_data» = c; store = l }
+
+-- with another state of the slice
+abbrev pub inSlice : Slice → World → World
+inSlice s w = world s (w .«block_data») (w .store)
 
 -- RULES 7.19: the vector 0
 abbrev pub zeroed : Motion → Motion
@@ -51,7 +47,6 @@ scaleAs q s = record {
   «motion_forward» = s .«motion_forward»;
   «motion_backward» = s .«motion_backward»;
   «dc_predictor» = s .«dc_predictor»;
-  «block_data» = s .«block_data»;
 }
 
 abbrev pub addressAs : ℤ → Slice → Slice
@@ -61,7 +56,6 @@ addressAs a s = record {
   «motion_forward» = s .«motion_forward»;
   «motion_backward» = s .«motion_backward»;
   «dc_predictor» = s .«dc_predictor»;
-  «block_data» = s .«block_data»;
 }
 
 abbrev pub motionsAs : Motion → Motion → Slice → Slice
@@ -71,23 +65,20 @@ motionsAs f b s = record {
   «motion_forward» = f;
   «motion_backward» = b;
   «dc_predictor» = s .«dc_predictor»;
-  «block_data» = s .«block_data»;
 }
 
--- the DC predictors, and the left-over coefficients
-abbrev pub blockAs : List ℤ → List ℤ → Slice → Slice
-blockAs d c s = record {
+abbrev pub predictorsAs : List ℤ → Slice → Slice
+predictorsAs d s = record {
   «quantizer_scale» = s .«quantizer_scale»;
   «macroblock_address» = s .«macroblock_address»;
   «motion_forward» = s .«motion_forward»;
   «motion_backward» = s .«motion_backward»;
   «dc_predictor» = d;
-  «block_data» = c;
 }
 
 -- RULES 7.20 (11172-2, 2.4.4.1): the DC predictors go back to 128
 abbrev pub dcReset : Slice → Slice
-dcReset s = blockAs (replicate 3 (pos 128)) (s .«block_data») s
+dcReset s = predictorsAs (replicate 3 (pos 128)) s
 
 -- a picture with one thing changed: RULES 7.3, 7.1, 7.2, 7.5
 abbrev pub startCodeAs : ℤ → Picture → Picture
@@ -121,6 +112,9 @@ freshPicture = record {
     «motion_forward» = freshMotion;
     «motion_backward» = freshMotion;
     «dc_predictor» = replicate 3 (pos 128);
-    «block_data» = replicate 64 (pos 0);
   };
 }
+
+-- RULES O.1: no coefficients are left over
+abbrev pub freshBlock : List ℤ
+freshBlock = replicate 64 (pos 0)

@@ -29,14 +29,12 @@ pub fn fresh_picture() -> Picture
     let motion_forward = fresh_motion();
     let motion_backward = fresh_motion();
     let dc_predictor = [128i32; 3];
-    let block_data = [0i32; 64];
     let slice = Slice {
         quantizer_scale: 0,
         macroblock_address: 0,
         motion_forward,
         motion_backward,
         dc_predictor,
-        block_data,
     };
     Picture {
         picture_type: 0,

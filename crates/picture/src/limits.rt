@@ -1,20 +1,16 @@
 // RULES Q2: is the state of a picture possible, each field within its limits? Each function is one test of the definition.
 // The tests are joined by `&` and `|`: none of them needs another to be asked first. The left-over coefficients are tested where they are lent.
 use crate::state::Motion;
-use crate::state::PictureState;
-use crate::state::SliceState;
+use crate::state::Picture;
+use crate::state::Slice;
 use crate::state::Stores;
 use coefficients::dc::dc_inside;
 ghost use mathlib.Core.Path.{_≡_};
-ghost use mathlib.Core.Bool.{_&&_};
-ghost use mathlib.Core.List.{List};
-ghost use lib.IntN.{ℤ, pos};
+ghost use lib.IntN.{pos};
 ghost use lib.ListN.{getD};
 ghost use Rattle.laws.specs.Each.{allBelow};
-ghost use Rattle.codes.specs.Matrices.{bounded};
 ghost use Rattle.coefficients.specs.Dcs.{dcInside};
 ghost use Rattle.picture.specs.Possible.{between, possibleStores, possibleMotion, possibleSlice, possiblePicture};
-ghost use Rattle.picture.specs.Views.{sliceOf, pictureOf};
 
 fn between(low: i32, high: i32, x: i32) -> bool
     ensures { λ r. ⌜ r ≡ between low high x ⌝ }
@@ -52,8 +48,8 @@ fn possible_predictors(dc: [i32; 3]) -> bool
     y & cr & cb
 }
 
-fn possible_slice(s: SliceState) -> bool
-    ensures { λ r. ⌜ ((left : List ℤ) → (r && bounded left) ≡ possibleSlice (sliceOf s left)) ⌝ }
+fn possible_slice(s: Slice) -> bool
+    ensures { λ r. ⌜ r ≡ possibleSlice s ⌝ }
 {
     let scale = s.quantizer_scale;
     let address = s.macroblock_address;
@@ -65,8 +61,8 @@ fn possible_slice(s: SliceState) -> bool
     (scale <= 31) & inside & forward & backward & predictors
 }
 
-pub fn possible_state(p: PictureState) -> bool
-    ensures { λ r. ⌜ ((left : List ℤ) → (r && bounded left) ≡ possiblePicture (pictureOf p left)) ⌝ }
+pub fn possible_picture(p: Picture) -> bool
+    ensures { λ r. ⌜ r ≡ possiblePicture p ⌝ }
 {
     let picture_type = p.picture_type;
     let start_code = p.start_code;

@@ -29,17 +29,16 @@ pub struct Matrices {
     pub non_intra_quant_matrix: [u8; 64],
 }
 
-// What macroblocks change beside the store. `block_data` are the left-over coefficients.
+// What macroblocks change beside the left-over coefficients (the Rust's `block_data`) and the store, which are lent.
 pub struct Slice {
     pub quantizer_scale: u32,
     pub macroblock_address: i32,
     pub motion_forward: Motion,
     pub motion_backward: Motion,
     pub dc_predictor: [i32; 3],
-    pub block_data: [i32; 64],
 }
 
-// What a picture changes beside the store.
+// What a picture changes beside them.
 pub struct Picture {
     pub picture_type: u32,
     pub start_code: i32,
@@ -48,25 +47,16 @@ pub struct Picture {
 }
 
 // What stays the same while the slices of a picture are read. The two matrices are among the tables that are lent.
-pub struct Setting {
+pub struct Context {
     pub picture_type: u32,
     pub sizes: Sizes,
     pub stores: Stores,
 }
 
-// A slice's state without the left-over coefficients, which are lent beside it.
-pub struct SliceState {
-    pub quantizer_scale: u32,
-    pub macroblock_address: i32,
-    pub motion_forward: Motion,
-    pub motion_backward: Motion,
-    pub dc_predictor: [i32; 3],
-}
-
 // Where a part of a slice ended. `stop`: 0, or 8 or 9.
 pub struct Progress {
     pub reader: Reader,
-    pub state: SliceState,
+    pub state: Slice,
     pub stop: u32,
 }
 
@@ -74,23 +64,15 @@ pub struct Progress {
 pub struct SlicesProgress {
     pub reader: Reader,
     pub code: i32,
-    pub state: SliceState,
+    pub state: Slice,
     pub begun: bool,
     pub again: bool,
     pub stop: u32,
 }
 
-// A picture's state without the left-over coefficients, which are lent beside it.
-pub struct PictureState {
-    pub picture_type: u32,
-    pub start_code: i32,
-    pub stores: Stores,
-    pub slice: SliceState,
-}
-
 // Where a picture ended.
 pub struct PictureProgress {
     pub reader: Reader,
-    pub picture: PictureState,
+    pub picture: Picture,
     pub stop: u32,
 }

@@ -13,7 +13,8 @@ use Rattle.replay.specs.ReaderList.{Inside, cutOff, onward, new, beginni
 pub cut-inside : (l : List ℕ) (p : Along) → Inside l p → Inside l (cutOff l p .along)
 cut-inside l p h = record { case = omega arith; order = h .order; stream = h .stream; place = h .place }
 
-pub onward-inside : (l : List ℕ) (p : Along) (n i j : ℕ) (r : Reader) → Inside l p → i ≤ j → j ≤ length l → r .at .0 ≤ lastPosition → Inside l (onward p n i j r)
+pub onward-inside : (l : List ℕ) (p : Along) (n i j : ℕ) (r : Reader) → Inside l p → i ≤ j → j ≤ length l → r .at .0 ≤ lastPosition
+    → Inside l (onward p n i j r)
 onward-inside l p n i j r h a b m = go (eqb n new)
   where
     go : (t : Bool) → Inside l (record { at = j; from = cond t i (p .from); to = cond t j (p .to); reader = r })

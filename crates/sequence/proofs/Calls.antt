@@ -23,7 +23,7 @@ use Rattle.decoder.specs.declared.answers.Outcome.{Outcome}
 use Rattle.decoder.specs.declared.answers.Outcome.the-variants as H
 use Rattle.decoder.specs.Record.{Left, left, place}
 use Rattle.decoder.specs.Opening.{opening}
-use Rattle.decoder.specs.Turns.{Going, going, Ended, gave, pictureAt, pictureTurn}
+use Rattle.decoder.specs.Turns.{Going, going, Ended, gave, told, pictureTurn}
 use Rattle.decoder.specs.HandOut as C
 use Rattle.decoder.specs.Run.{call, behind, begin}
 use Rattle.demands.proofs.Keeps.{Keeps}
@@ -62,16 +62,16 @@ module _ (s : List ℕ) (long : length s ≤ longestStream) (bytes : (k : ℕ) �
     held-calls c (c′ ∷ cs) n x a d l w g k held h v u i j kept e =
         let q = inverted rule s z m n x a c (c′ ∷ cs) h in
         let y = handing rule s long z m x a d l v u c c′ cs q area i held w j in
-        let ends : C.pictures s g ≡ gave (pictureAt (storeOf (y .picture)) (y .time)) (y .decoder) (c .pels) =
+        let ends : C.pictures s g ≡ gave (H.Picture (told (storeOf (y .picture)) (y .decoder))) (y .decoder) (c .pels) =
         e ∙ turns-stop (pictureTurn s) k unfinished (going d l) _ (y .turn) in
-        let left-is : call s g ≡ left (pictureAt (storeOf (y .picture)) (y .time)) (y .decoder) (c .pels) =
+        let left-is : call s g ≡ left (H.Picture (told (storeOf (y .picture)) (y .decoder))) (y .decoder) (c .pels) =
         keeps-call s long (g .decoder) (g .store) kept ∙ ap (C.ended (g .decoder)) ends in
         let kept′ : Keeps s (y .decoder) (c .pels) =
         hands-keep (subst (Ends s (g .decoder .«frames_decoded»)) ends (pictures-row s long bytes (g .decoder) (g .store) kept)) in
         let rest = held-calls c′ cs (q .fuel) (carried x c) _ (y .decoder) (c .pels) (y .next) (going (y .decoder) (c .pels)) 1 (y .held) (q .rest)
         (y .waiting) (y .mark) (sound-behind rule s z m area x a c (c′ ∷ cs) q i) (y .waits) kept′ refl in
         subst (Hands (z .«mb_size») s g) (sym (y .order (allButLast (c′ ∷ cs)))) (
-          (y .time, ap (λ (r : Left Outcome). r .answer) left-is),
+          ap (λ (r : Left Outcome). r .answer) left-is ∙ ap (λ (r : Left Outcome). H.Picture (told (storeOf (y .picture)) (r .decoder))) (sym left-is),
           subst (λ (l : List ℕ). Holds (z .«mb_size») l (y .picture)) (sym (ap (λ (r : Left Outcome). r .store) left-is)) (y .holds),
           subst (λ (g : Going). Hands (z .«mb_size») s g (displayed (y .next) (allButLast (c′ ∷ cs)))) (sym (ap behind left-is)) rest,
         )

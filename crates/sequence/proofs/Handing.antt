@@ -6,7 +6,6 @@ use Prim.Native.Nat.{ℕ, _*_, _≤_}
 use native.Mathlib.Omega.{arith}
 use borrow.Author.Tests.{eqb-true, lt-leb}
 use lib.Dec.{eqb}
-use lib.Ieee.{Float}
 use lib.IntN.{ℤ, pos, negsuc}
 use lib.ListN.{length}
 use Rattle.laws.specs.Turns.{Turn, again, stop}
@@ -21,7 +20,7 @@ use Rattle.standard.proofs.Related.{Rule}
 use Rattle.decoder.specs.declared.record.Decoder.{Decoder}
 use Rattle.decoder.specs.declared.answers.Outcome.the-variants as H
 use Rattle.decoder.specs.Record.{place, heldAs, searchedAs}
-use Rattle.decoder.specs.Turns.{Going, going, Ended, gave, hasEnded, isFollowed, counted, pictureAt, handed, shown, pictureTurn}
+use Rattle.decoder.specs.Turns.{Going, going, Ended, gave, hasEnded, isFollowed, counted, told, handed, shown, pictureTurn}
 use Rattle.sequence.specs.Sequence.{Carried, carried}
 use Rattle.sequence.specs.Display as D
 use Rattle.sequence.proofs.Searches.{finds, following-finds}
@@ -68,9 +67,8 @@ module _ (rule : Rule) (s : List ℕ) (long : length s ≤ longestStream) (z : S
     pub record Handing (old : S.Decoded) : Type 0 where
       pub picture : S.Decoded
       pub next : S.Decoded
-      pub time : Float
       pub decoder : Decoder
-      pub turn : pictureTurn s (going d l) ≡ stop (gave (pictureAt (D.storeOf picture) time) decoder (c .pels))
+      pub turn : pictureTurn s (going d l) ≡ stop (gave (H.Picture (told (D.storeOf picture) decoder)) decoder (c .pels))
       pub holds : D.Holds (z .«mb_size») (c .pels) picture
       pub order : (ds : List S.Decoded) → D.displayed old (c ∷ ds) ≡ picture ∷ D.displayed next ds
       pub waits : Waits (z .«mb_size») next (carried x c)
@@ -105,6 +103,7 @@ module _ (rule : Rule) (s : List ℕ) (long : length s ≤ longestStream) (z : S
           matrices = b .matrices;
           stores = b .stores;
           begun = b .begun;
+          left = b .left;
           held = b .held ∙ sym i;
           pels = refl;
         }
@@ -117,7 +116,6 @@ module _ (rule : Rule) (s : List ℕ) (long : length s ≤ longestStream) (z : S
             record {
               picture = c;
               next = old;
-              time = counted d′ .clock .«last_frame_time»;
               decoder = counted d′;
               turn = turn ∙ ap (λ (t : Bool). cond t (hand (d′ .picture .stores .cur)) (other (d′ .«has_reference_frame»))) e ∙ ap hand store;
               holds = λ i j. refl;
@@ -134,7 +132,6 @@ module _ (rule : Rule) (s : List ℕ) (long : length s ≤ longestStream) (z : S
             record {
               picture = old;
               next = c;
-              time = counted d′ .clock .«last_frame_time»;
               decoder = counted d′;
               turn = turn ∙ ap (λ (t : Bool). cond t (hand (d′ .picture .stores .cur)) (other (d′ .«has_reference_frame»))) e ∙ ap other (b .held ∙ h)
                   ∙ ap hand store;
@@ -169,6 +166,7 @@ module _ (rule : Rule) (s : List ℕ) (long : length s ≤ longestStream) (z : S
         matrices = b .matrices;
         stores = b .stores;
         begun = b .begun;
+        left = b .left;
         held = sym held;
         pels = refl;
       };

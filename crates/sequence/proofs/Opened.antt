@@ -49,7 +49,8 @@ size-asks s e =
         sizes = refl;
         matrices = refl;
         stores = refl;
-        begun = record { forSet = false; backSet = false; for = zero-vector; back = zero-vector; forward = refl; backward = refl; left = refl };
+        begun = record { forSet = false; backSet = false; for = zero-vector; back = zero-vector; forward = refl; backward = refl };
+        left = refl;
         held = refl;
         pels = refl;
       },

@@ -13,6 +13,7 @@ use Rattle.picture.specs.declared.state.Stores.{Stores}
 use Rattle.picture.specs.declared.state.Sizes.{Sizes}
 use Rattle.picture.specs.declared.state.Matrices.{Matrices}
 use Rattle.picture.specs.declared.state.Picture.{Picture}
+use Rattle.picture.specs.State.{freshBlock}
 use Rattle.picture.specs.Ways.{Way, on}
 use Rattle.picture.specs.Pictures.{Frame, picture}
 use Rattle.standard.specs.Standard as S
@@ -22,7 +23,7 @@ use Rattle.standard.proofs.Slice.{Begun}
 use Rattle.standard.proofs.Picture.{Result, picture-agrees}
 use Rattle.decoder.specs.declared.record.Decoder.{Decoder}
 use Rattle.decoder.specs.Record as D
-use Rattle.decoder.specs.Record.{startCode, placeAs, pictureAs, searchedAs}
+use Rattle.decoder.specs.Record.{startCode, pastFrame, frameOf, searchedAs}
 use Rattle.decoder.specs.Turns.{going, gave, nextPicture, isFollowed, shown, pastPicture, decoded, searched, pictureTurn}
 use Rattle.decoder.specs.declared.answers.Outcome.the-variants.{Refused}
 use Rattle.sequence.specs.Sequence.{Carried}
@@ -36,6 +37,7 @@ pub record Waiting (z : Sizes) (m : Matrices) (x : Carried) (a : ℕ) (d : Decod
   pub matrices : d .sequence .matrices ≡ m
   pub stores : d .picture .stores ≡ x .stores
   pub begun : Begun (x .forward) (x .backward) (d .picture .slice)
+  pub left : d .«block_data» ≡ freshBlock
   pub held : d .«has_reference_frame» ≡ x .held
   pub pels : l ≡ x .pels
 
@@ -47,6 +49,7 @@ pub record Behind (z : Sizes) (m : Matrices) (x : Carried) (c : S.Decoded) (e : 
   pub matrices : d .sequence .matrices ≡ m
   pub stores : d .picture .stores ≡ c .stores
   pub begun : Begun (c .header .forward) (c .header .backward) (d .picture .slice)
+  pub left : d .«block_data» ≡ freshBlock
   pub type : d .picture .«picture_type» ≡ c .header .«picture_coding_type»
   pub held : d .«has_reference_frame» ≡ x .held
   pub mark : d .stop ≡ 0
@@ -85,17 +88,17 @@ module _ (rule : Rule) (s : List ℕ) (long : length s ≤ longestStream) (z : S
     same : theirs (d .sequence .sizes) (d .sequence .matrices) (d .picture .stores) l ≡ theirs z m (x .stores) (x .pels)
     same = λ j. theirs (w .sizes j) (w .matrices j) (w .stores j) (w .pels j)
 
-    ours : (y : Frame) × (run (picture (d .sequence .sizes) (d .sequence .matrices) (found .picture) l) s (f .at)
+    ours : (y : Frame) × (run (picture (d .sequence .sizes) (d .sequence .matrices) (frameOf found l)) s (f .at)
         ≡ record { value = on y; at = theirs (d .sequence .sizes) (d .sequence .matrices) (d .picture .stores) l .at }) × Result c y
-    ours = agreed (picture-agrees rule s long (d .sequence .sizes) (d .sequence .matrices) l (found .picture) (x .forward) (x .backward) (f .at)
-        (w .begun)) (ap (λ (o : Out (Way S.Decoded)). o .value) same ∙ h)
+    ours = agreed (picture-agrees rule s long (d .sequence .sizes) (d .sequence .matrices) (frameOf found l) (x .forward) (x .backward) (f .at)
+        (w .begun) (w .left)) (ap (λ (o : Out (Way S.Decoded)). o .value) same ∙ h)
 
     pub turned : Turned
     unfolding pictureTurn searched decoded pastPicture
     turned =
         let y = ours .0 in
         let r = ours .2 in
-        let after : ℕ → Decoder = λ e. placeAs e (pictureAs (y .picture) found) in
+        let after : ℕ → Decoder = λ e. pastFrame y e found in
         record {
           decoder = after end;
           behind = record {
@@ -105,6 +108,7 @@ module _ (rule : Rule) (s : List ℕ) (long : length s ≤ longestStream) (z : S
             matrices = w .matrices;
             stores = r .stores;
             begun = r .begun;
+            left = r .left;
             type = r .type;
             held = w .held;
             mark = mark;

@@ -3,12 +3,11 @@ use mathlib.Core.Path.{_≡_}
 use mathlib.Core.List.{List, [], _∷_}
 use Prim.Native.Nat.{ℕ, _+_, _*_, _<_}
 use lib.Dec.{eqb}
-use lib.Ieee.{Float}
 use lib.ListN.{getD}
 use Rattle.bits.specs.Programs.{if_then_else_}
 use Rattle.standard.specs.Standard.{Decoded}
 use Rattle.decoder.specs.declared.answers.Outcome.the-variants.{Picture, Refused}
-use Rattle.decoder.specs.Turns.{Going}
+use Rattle.decoder.specs.Turns.{Going, told}
 use Rattle.decoder.specs.Run.{call, behind}
 
 -- 2.4.1: a B picture is shown at once; an I or P picture waits for the next one, so that the B pictures between them come first. w is the one that waits
@@ -39,4 +38,4 @@ Holds n l d = (i : ℕ) → i < 384 * n → getD l (storeOf d * (384 * n) + i) 0
 abbrev pub Hands : ℕ → List ℕ → Going → List Decoded → Type 0
 Hands n s y [] = call s y .answer ≡ Refused 7
 Hands n s y (d ∷ ds) =
-    ((time : Float) × (call s y .answer ≡ Picture (record { store = storeOf d; time = time }))) × Holds n (call s y .store) d × Hands n s (behind (call s y)) ds
+    (call s y .answer ≡ Picture (told (storeOf d) (call s y .decoder))) × Holds n (call s y .store) d × Hands n s (behind (call s y)) ds

@@ -23,15 +23,17 @@ use Rattle.bits.proofs.Rules.{Loops, loop-start, loop-on, loop-end, r-call, r-y
 use Rattle.picture.specs.declared.state.Picture.{Picture}
 use Rattle.picture.specs.Possible.{PossiblePicture}
 use Rattle.picture.proofs.Possible.{between-of}
+use Rattle.picture.specs.State.{world}
 use Rattle.picture.specs.Ways.{on}
 use Rattle.picture.specs.Slices.{slice}
 use Rattle.picture.specs.Pictures as P
 use Rattle.picture.proofs.Fuel.{slices-take}
-use Rattle.picture.specs.declared.state.Setting.{Setting}
-use Rattle.picture.specs.declared.state.SliceState.{SliceState}
+use Rattle.picture.specs.declared.state.Context.{Context}
+use Rattle.picture.specs.declared.state.Matrices.{Matrices}
+use Rattle.picture.specs.declared.state.Slice.{Slice}
 use Rattle.picture.specs.declared.state.Progress.{Progress}
 use Rattle.picture.specs.declared.state.SlicesProgress.{SlicesProgress}
-use Rattle.picture.specs.Views.{given, worldOf, way, frameOf, slicesOn, Held, Reads, Passed, Turned, Pictured}
+use Rattle.picture.specs.Views.{way, frameOf, slicesOn, Held, Reads, Passed, Turned, Pictured}
 use Rattle.slices.specs.Behind.{pastOf}
 
 -- ---- a start code
@@ -74,7 +76,7 @@ module _ (c : ℤ) (e : P.isSlice c ≡ true) where
 abbrev ended : ℤ → Progress → Bool → SlicesProgress
 ended code w t = record { reader = w .reader; code = code; state = w .state; begun = true; again = t; stop = w .stop }
 
-module _ (g : Setting) (w : Progress) {c code : ℤ} (e : c ≡ code) where
+module _ (g : Context) (w : Progress) {c code : ℤ} (e : c ≡ code) where
   abbrev last : Bool
   last = leZ (pos (g .sizes .«mb_size»)) (w .state .«macroblock_address» +ℤ pos 1)
 
@@ -87,13 +89,13 @@ module _ (g : Setting) (w : Progress) {c code : ℤ} (e : c ≡ code) where
 
 -- ---- a turn
 
-module _ {g : Setting} {s : List ℕ} {reader : Reader} {x : SliceState} {left : List ℤ} {store : List ℕ} (k : Reads s reader x left)
-    (held : Held g store) (tables : List ℕ) (begun : Bool) {code : ℤ} {after : Reader} (found : Reading nextStartCode s reader code after)
+module _ {g : Context} {s : List ℕ} {reader : Reader} {x : Slice} {left : List ℤ} {store : List ℕ} (k : Reads s reader x left)
+    (held : Held g store) (m : Matrices) (begun : Bool) {code : ℤ} {after : Reader} (found : Reading nextStartCode s reader code after)
     (few : natAbs code ≤ 255) where
   -- a slice that ended with the number n, and behind which the picture ends or not
-  behind : (y : SliceState) (left₁ : List ℤ) (store₁ : List ℕ) (to : Reader) (n : ℕ) (last : Bool)
+  behind : (y : Slice) (left₁ : List ℤ) (store₁ : List ℕ) (to : Reader) (n : ℕ) (last : Bool)
       → leZ (pos (g .sizes .«mb_size»)) (y .«macroblock_address» +ℤ pos 1) ≡ last
-      → Runs (P.pastSlice (given g tables) (frameOf g code x left store .picture) (way n (worldOf y left₁ store₁) store₁)) s (to .at .0)
+      → Runs (P.pastSlice g (frameOf g code x left store .picture) (way n (world y left₁ store₁) store₁)) s (to .at .0)
       (slicesOn (eqb n 0 && not last) true n (frameOf g code y left₁ store₁)) (to .at .0)
   unfolding P.pastSlice
   behind y left₁ store₁ to zero true q = r-yes _ q r-done
@@ -101,8 +103,8 @@ module _ {g : Setting} {s : List ℕ} {reader : Reader} {x : SliceState} {left :
   behind y left₁ store₁ to (suc n) last q = let z : eqb (suc n) 0 ≡ false = ne-eqb (suc n) 0 (λ e. omega (arith, e)) in rw z r-done
 
   pub turned-slice : P.isSlice code ≡ true → (w : Progress) {left₁ : List ℤ} {store₁ : List ℕ}
-      → Passed (slice (given g tables) (natAbs code) (worldOf x left store)) g s after w left₁ store₁
-      → Turned g tables s reader begun x left store (pastOf g code w) left₁ store₁
+      → Passed (slice g m (natAbs code) (world x left store)) g s after w left₁ store₁
+      → Turned g m s reader begun x left store (pastOf g code w) left₁ store₁
   unfolding P.slicesTurn
   turned-slice e w {left₁} {store₁} p = record {
     runs = λ before. r-call _ (found .runs) (r-yes _ e (r-call _ (p .runs) (behind (w .state) left₁ store₁ (w .reader) (w .stop) _ refl)));
@@ -112,12 +114,12 @@ module _ {g : Setting} {s : List ℕ} {reader : Reader} {x : SliceState} {left :
   }
 
   pub turned-other : P.isSlice code ≡ false → (t : Bool) → t ≡ (P.isExtra code && not begun)
-      → Turned g tables s reader begun x left store
+      → Turned g m s reader begun x left store
       (record { reader = after; code = code; state = x; begun = false; again = t; stop = 0 }) left store
   unfolding P.slicesTurn
   turned-other e t q = record {
     runs = λ before. r-call _ (found .runs) (r-no _ e (picked before t (sym q)));
-    reads = record { inside = found .inside; slice = k .slice };
+    reads = record { inside = found .inside; slice = k .slice; block = k .block };
     held = held;
     few = few;
   }
@@ -132,34 +134,34 @@ module _ {g : Setting} {s : List ℕ} {reader : Reader} {x : SliceState} {left :
 -- ---- the loop
 
 -- before a start code, at `from`; the code that came before does not matter
-pub record AtSlices (g : Setting) (tables : List ℕ) (s : List ℕ) (from₀ : Reader) (f₀ : P.Frame) (begun : Bool) (from : Reader)
-    (x : SliceState) (left : List ℤ) (store : List ℕ) : Type 0 where
+pub record AtSlices (g : Context) (m : Matrices) (s : List ℕ) (from₀ : Reader) (f₀ : P.Frame) (begun : Bool) (from : Reader)
+    (x : Slice) (left : List ℤ) (store : List ℕ) : Type 0 where
   pub code : ℤ
   pub reads : Reads s from x left
   pub held : Held g store
   pub long : length store ≡ length (f₀ .store)
-  pub rest : Loops many (P.slicesTurn (given g tables)) (on f₀) (P.slicesOf false f₀) s (from₀ .at .0)
+  pub rest : Loops many (P.slicesTurn g m) (on f₀) (P.slicesOf false f₀) s (from₀ .at .0)
       (P.slicesOf begun (frameOf g code x left store)) (from .at .0) (length s * 8 - from .at .0)
 
-pub at-slices : {g : Setting} {tables : List ℕ} {s : List ℕ} {from : Reader} {x : SliceState} {left : List ℤ} {store : List ℕ} (code : ℤ)
-    → Reads s from x left → Held g store → AtSlices g tables s from (frameOf g code x left store) false from x left store
+pub at-slices : {g : Context} {m : Matrices} {s : List ℕ} {from : Reader} {x : Slice} {left : List ℤ} {store : List ℕ} (code : ℤ)
+    → Reads s from x left → Held g store → AtSlices g m s from (frameOf g code x left store) false from x left store
 at-slices code k h = record { code = code; reads = k; held = h; long = refl; rest = loop-start (omega (arith, k .inside .stream)) }
 
-module _ {g : Setting} {tables : List ℕ} {s : List ℕ} {from₀ : Reader} {f₀ : P.Frame} {begun : Bool} {from : Reader} {x : SliceState}
-    {left : List ℤ} {store : List ℕ} (i : AtSlices g tables s from₀ f₀ begun from x left store)
-    {r : SlicesProgress} {left₁ : List ℤ} {store₁ : List ℕ} (t : Turned g tables s from begun x left store r left₁ store₁) where
-  pub slices-end : r .again ≡ false → Pictured (P.slices (given g tables) f₀) g s from₀ r left₁ store₁
+module _ {g : Context} {m : Matrices} {s : List ℕ} {from₀ : Reader} {f₀ : P.Frame} {begun : Bool} {from : Reader} {x : Slice}
+    {left : List ℤ} {store : List ℕ} (i : AtSlices g m s from₀ f₀ begun from x left store)
+    {r : SlicesProgress} {left₁ : List ℤ} {store₁ : List ℕ} (t : Turned g m s from begun x left store r left₁ store₁) where
+  pub slices-end : r .again ≡ false → Pictured (P.slices g m f₀) g s from₀ r left₁ store₁
   unfolding P.slices
   slices-end e = record { runs = loop-end (i .rest) (rw e at (t .runs (i .code))); reads = t .reads; held = t .held; few = t .few }
 
   pub slices-less : r .again ≡ true → length s * 8 - r .reader .at .0 < length s * 8 - from .at .0
   slices-less e =
       let f = P.slicesOf begun (frameOf g (i .code) x left store) in
-      let k = rw ((rw e at (t .runs (i .code))) .is) at (slices-take (given g tables) s f (from .at .0)) in
+      let k = rw ((rw e at (t .runs (i .code))) .is) at (slices-take g m s f (from .at .0)) in
       omega arith
 
   pub slices-on : r .again ≡ true → length store₁ ≡ length store
-      → AtSlices g tables s from₀ f₀ (r .begun) (r .reader) (r .state) left₁ store₁
+      → AtSlices g m s from₀ f₀ (r .begun) (r .reader) (r .state) left₁ store₁
   slices-on e l = record {
     code = r .code;
     reads = t .reads;

@@ -20,18 +20,19 @@ use Rattle.bits.specs.Programs.{bits, reads, skips, nonZero, many, done}
 use Rattle.bits.specs.Runs.{Runs, Inside, Reading}
 use Rattle.bits.proofs.Gives.{given-by, g-bits}
 use Rattle.bits.proofs.Rules.{Loops, loop-start, loop-on, loop-end, r-call, r-yes, r-no, r-done, r-reads}
-use Rattle.picture.specs.State.{World}
+use Rattle.picture.specs.State.{World, world}
 use Rattle.picture.specs.Ways.{Way, on}
 use Rattle.picture.specs.Possible.{PossibleSlice}
 use Rattle.picture.specs.Macroblocks.{macroblock}
-use Rattle.picture.specs.Slices.{slicing, extraTurn, extra, pastMacroblock, sliceTurn, slice}
+use Rattle.picture.specs.Slices.{slicing, extraTurn, extra, pastMacroblock, sliceTurn, sliceStart, slice}
 use Rattle.picture.proofs.Possible.{between-of, between-by}
 use Rattle.picture.proofs.Syntax.{still-kept, predictors-reset}
 use Rattle.picture.proofs.Fuel.{extra-takes, slice-takes}
-use Rattle.picture.specs.declared.state.Setting.{Setting}
-use Rattle.picture.specs.declared.state.SliceState.{SliceState}
+use Rattle.picture.specs.declared.state.Context.{Context}
+use Rattle.picture.specs.declared.state.Matrices.{Matrices}
+use Rattle.picture.specs.declared.state.Slice.{Slice}
 use Rattle.picture.specs.declared.state.Progress.{Progress}
-use Rattle.picture.specs.Views.{given, sliceOf, worldOf, onTurn, startOf, macroblocks, Held, Reads, Adds, Awaits, Passed, GoesOn, Sliced}
+use Rattle.picture.specs.Views.{onTurn, macroblocks, Held, Reads, Adds, Awaits, Passed, GoesOn, Sliced}
 use Rattle.picture.proofs.Ways.{way-out}
 
 -- ---- the extra bytes
@@ -78,12 +79,12 @@ module _ (number width : ℕ) (h : number ≤ 175) (k : width ≤ 256) where
   pub start-is : toZ w32 (ofZ w32 (toZ w32 ((number - 1) * width) -ℤ pos 1)) ≡ pos ((number - 1) * width) -ℤ pos 1
   start-is = toZ-ofZ start-fits ∙ eq-by start-dif (lit ((number - 1) * width) ⊖ lit 1) refl
 
-module _ {s : List ℕ} {reader from to : Reader} {g : Setting} {x : SliceState} {left : List ℤ} {store : List ℕ} (k : Reads s reader x left)
+module _ {s : List ℕ} {reader from to : Reader} {g : Context} {x : Slice} {left : List ℤ} {store : List ℕ} (k : Reads s reader x left)
     (held : Held g store) (number : ℕ) (h : number ≤ 175) {q : ℕ} (r : Reading (reads 5) s reader q from) (e : Reading extra s from tt to) where
   scale-read : Runs (bits 5) s (reader .at .0) q (from .at .0)
   scale-read = r-reads 5 (omega arith) (r .runs)
 
-  pub start-awaits : Awaits g s to true (startOf g number q x) left store
+  pub start-awaits : Awaits g s to true (sliceStart g number q x) left store
   start-awaits =
       let a = lit ((number - 1) * g .sizes .«mb_width») ⊖ lit 1 in
       let m = rows number (g .sizes .«mb_width») h (held .across) in
@@ -97,44 +98,44 @@ module _ {s : List ℕ} {reader from to : Reader} {g : Setting} {x : SliceState}
             forward = z .forward;
             backward = z .backward;
             predictors = predictors-reset;
-            block = k .slice .block;
           };
+          block = k .block;
         };
         held = held;
         begins = λ z. yes-le a (lit 44543) (omega arith);
         later = λ z. absurd (false≢true (sym z));
       }
 
-  pub slice-runs : (tables : List ℕ) {y : SliceState} → y ≡ startOf g number q x → {w : Way World} {end : ℕ}
-      → Runs (macroblocks (given g tables) (on (worldOf x left store)) (worldOf y left store)) s (to .at .0) w end
-      → Runs (slice (given g tables) number (worldOf x left store)) s (reader .at .0) w end
+  pub slice-runs : (m : Matrices) {y : Slice} → y ≡ sliceStart g number q x → {w : Way World} {end : ℕ}
+      → Runs (macroblocks g m (on (world x left store)) (world y left store)) s (to .at .0) w end
+      → Runs (slice g m number (world x left store)) s (reader .at .0) w end
   unfolding slice
-  slice-runs tables i m = r-call _ scale-read (r-call _ (e .runs) (rw i at m))
+  slice-runs m i r = r-call _ scale-read (r-call _ (e .runs) (rw i at r))
 
 -- ---- behind a macroblock
 
-pub adds-one : {x : SliceState} {left : List ℤ} → PossibleSlice (sliceOf x left) → Adds (x .«macroblock_address») 1
+pub adds-one : {x : Slice} → PossibleSlice x → Adds (x .«macroblock_address») 1
 adds-one {x} k =
     let a = x .«macroblock_address» in
     let b = between-of 1 402700000 (v a) (k .address) in
     record { from = both _ _ (k .address) .0; to = yes-le (v a ⊕ lit 1) (lit 402800000) (omega arith) }
 
-module _ {g : Setting} {s : List ℕ} {reader : Reader} {x : SliceState} {n : ℕ} where
+module _ {g : Context} {s : List ℕ} {reader : Reader} {x : Slice} {n : ℕ} where
   pub goes-stop : (n ≡ 0 → ⊥) → GoesOn g s reader x n false
   unfolding pastMacroblock
   goes-stop h =
-      record { runs = λ tables left store. rw (way-out (worldOf x left store) store h) r-done; later = λ z. absurd (false≢true z) }
+      record { runs = λ left store. rw (way-out (world x left store) store h) r-done; later = λ z. absurd (false≢true z) }
 
   pub goes-last : n ≡ 0 → leZ (pos (g .sizes .«mb_size»)) (x .«macroblock_address» +ℤ pos 1) ≡ true → GoesOn g s reader x n false
   unfolding pastMacroblock
-  goes-last z e = record { runs = λ tables left store. rw z (r-yes _ e r-done); later = λ z. absurd (false≢true z) }
+  goes-last z e = record { runs = λ left store. rw z (r-yes _ e r-done); later = λ z. absurd (false≢true z) }
 
   pub goes-more : n ≡ 0 → leZ (pos (g .sizes .«mb_size»)) (x .«macroblock_address» +ℤ pos 1) ≡ false → {more : Bool} {to : Reader}
       → Reading (nonZero 23) s reader more to → to ≡ reader → GoesOn g s reader x n more
   unfolding pastMacroblock
   goes-more z e {more} r same =
       record {
-        runs = λ tables left store. rw z (r-no _ e (r-call _ (rw same at (r .runs)) (picked more (worldOf x left store) store)));
+        runs = λ left store. rw z (r-no _ e (r-call _ (rw same at (r .runs)) (picked more (world x left store) store)));
         later = λ m. e;
       }
     where
@@ -146,39 +147,39 @@ module _ {g : Setting} {s : List ℕ} {reader : Reader} {x : SliceState} {n : �
 -- ---- the loop
 
 -- before a macroblock, at `from`
-pub record AtMacroblock (g : Setting) (tables : List ℕ) (s : List ℕ) (from₀ : Reader) (x₀ : SliceState) (left₀ : List ℤ) (store₀ : List ℕ)
-    (first : Bool) (from : Reader) (x : SliceState) (left : List ℤ) (store : List ℕ) : Type 0 where
+pub record AtMacroblock (g : Context) (m : Matrices) (s : List ℕ) (from₀ : Reader) (x₀ : Slice) (left₀ : List ℤ) (store₀ : List ℕ)
+    (first : Bool) (from : Reader) (x : Slice) (left : List ℤ) (store : List ℕ) : Type 0 where
   pub awaits : Awaits g s from first x left store
   pub long : length store ≡ length store₀
   pub rest : (w₀ : Way World)
-      → Loops many (sliceTurn (given g tables)) w₀ (slicing true (worldOf x₀ left₀ store₀)) s (from₀ .at .0)
-      (slicing first (worldOf x left store)) (from .at .0) (length s * 8 - from .at .0)
+      → Loops many (sliceTurn g m) w₀ (slicing true (world x₀ left₀ store₀)) s (from₀ .at .0)
+      (slicing first (world x left store)) (from .at .0) (length s * 8 - from .at .0)
 
-pub at-macroblock : {g : Setting} {tables : List ℕ} {s : List ℕ} {from : Reader} {x : SliceState} {left : List ℤ} {store : List ℕ}
-    → Awaits g s from true x left store → AtMacroblock g tables s from x left store true from x left store
+pub at-macroblock : {g : Context} {m : Matrices} {s : List ℕ} {from : Reader} {x : Slice} {left : List ℤ} {store : List ℕ}
+    → Awaits g s from true x left store → AtMacroblock g m s from x left store true from x left store
 at-macroblock k = record { awaits = k; long = refl; rest = λ w₀. loop-start (omega (arith, k .reads .inside .stream)) }
 
-module _ {g : Setting} {tables : List ℕ} {s : List ℕ} {from₀ : Reader} {x₀ : SliceState} {left₀ : List ℤ} {store₀ : List ℕ}
-    {first : Bool} {from : Reader} {x : SliceState} {left : List ℤ} {store : List ℕ}
-    (i : AtMacroblock g tables s from₀ x₀ left₀ store₀ first from x left store) {m : Progress} {left₁ : List ℤ} {store₁ : List ℕ}
-    (p : Passed (macroblock (given g tables) first (worldOf x left store)) g s from m left₁ store₁)
-    {more : Bool} (q : GoesOn g s (m .reader) (m .state) (m .stop) more) where
-  macroblock-turn : Runs (sliceTurn (given g tables) (slicing first (worldOf x left store))) s (from .at .0)
-      (onTurn more (m .stop) (worldOf (m .state) left₁ store₁) store₁) (m .reader .at .0)
+module _ {g : Context} {m : Matrices} {s : List ℕ} {from₀ : Reader} {x₀ : Slice} {left₀ : List ℤ} {store₀ : List ℕ}
+    {first : Bool} {from : Reader} {x : Slice} {left : List ℤ} {store : List ℕ}
+    (i : AtMacroblock g m s from₀ x₀ left₀ store₀ first from x left store) {r : Progress} {left₁ : List ℤ} {store₁ : List ℕ}
+    (p : Passed (macroblock g m first (world x left store)) g s from r left₁ store₁)
+    {more : Bool} (q : GoesOn g s (r .reader) (r .state) (r .stop) more) where
+  macroblock-turn : Runs (sliceTurn g m (slicing first (world x left store))) s (from .at .0)
+      (onTurn more (r .stop) (world (r .state) left₁ store₁) store₁) (r .reader .at .0)
   unfolding sliceTurn
-  macroblock-turn = r-call _ (p .runs) (q .runs tables left₁ store₁)
+  macroblock-turn = r-call _ (p .runs) (q .runs left₁ store₁)
 
-  pub slice-end : more ≡ false → Sliced (λ w₀. macroblocks (given g tables) w₀ (worldOf x₀ left₀ store₀)) g s from₀ m left₁ store₁
+  pub slice-end : more ≡ false → Sliced (λ w₀. macroblocks g m w₀ (world x₀ left₀ store₀)) g s from₀ r left₁ store₁
   slice-end e =
       record { passed = λ w₀. record { runs = loop-end (i .rest w₀) (rw e at macroblock-turn); reads = p .reads; held = p .held } }
 
-  pub slice-less : more ≡ true → length s * 8 - m .reader .at .0 < length s * 8 - from .at .0
+  pub slice-less : more ≡ true → length s * 8 - r .reader .at .0 < length s * 8 - from .at .0
   slice-less e =
-      let k = rw ((rw e at macroblock-turn) .is) at (slice-takes (given g tables) s (slicing first (worldOf x left store)) (from .at .0)) in
+      let k = rw ((rw e at macroblock-turn) .is) at (slice-takes g m s (slicing first (world x left store)) (from .at .0)) in
       omega arith
 
   pub slice-on : more ≡ true → length store₁ ≡ length store
-      → AtMacroblock g tables s from₀ x₀ left₀ store₀ false (m .reader) (m .state) left₁ store₁
+      → AtMacroblock g m s from₀ x₀ left₀ store₀ false (r .reader) (r .state) left₁ store₁
   slice-on e l = record {
     awaits = record { reads = p .reads; held = p .held; begins = λ z. absurd (false≢true z); later = λ z. q .later e };
     long = l ∙ i .long;

@@ -1,11 +1,11 @@
 // RULES 7.1, 5.1, 8.4: the header of a picture, from behind its start code on.
 use bits::reader::Reader;
 use picture::state::Motion;
-use picture::state::PictureState;
+use picture::state::Picture;
 ghost use Rattle.bits.specs.Runs.{Inside, Reading};
 ghost use Rattle.picture.specs.State.{typeAs};
 ghost use Rattle.picture.specs.Pictures.{direction, forwardHeader, pictureHeader};
-ghost use Rattle.slices.specs.Behind.{Heads};
+ghost use Rattle.slices.specs.Behind.{headedBy};
 
 // A motion with the flag and the size of its header; with `decoded` false the picture is not decoded.
 struct DirectionRead {
@@ -50,9 +50,9 @@ fn read_direction(s: &[u8], reader: Reader, m: Motion) -> DirectionRead
 }
 
 // A P or B header goes on with the forward direction, a B header then with the backward direction.
-fn read_directions(s: &[u8], reader: Reader, picture_type: u32, p: PictureState) -> HeaderRead
+fn read_directions(s: &[u8], reader: Reader, picture_type: u32, p: Picture) -> HeaderRead
     requires { ⌜ Inside (now s) reader ⌝ }
-    ensures { λ r. ⌜ Heads (λ x. forwardHeader (typeAs «picture_type» x)) (now (s .entry)) reader p r ⌝ }
+    ensures { λ r. ⌜ Reading (forwardHeader (typeAs «picture_type» p)) (now (s .entry)) reader (headedBy r p) (r .reader) ⌝ }
 {
     let slice = p.slice;
     let f = read_direction(s, reader, slice.motion_forward);
@@ -81,9 +81,9 @@ fn read_directions(s: &[u8], reader: Reader, picture_type: u32, p: PictureState)
 }
 
 // Ten bits of temporal reference and sixteen of delay are passed over.
-pub fn read_picture_header(s: &[u8], reader: Reader, p: PictureState) -> HeaderRead
+pub fn read_picture_header(s: &[u8], reader: Reader, p: Picture) -> HeaderRead
     requires { ⌜ Inside (now s) reader ⌝ }
-    ensures { λ r. ⌜ Heads pictureHeader (now (s .entry)) reader p r ⌝ }
+    ensures { λ r. ⌜ Reading (pictureHeader p) (now (s .entry)) reader (headedBy r p) (r .reader) ⌝ }
 {
     let slice = p.slice;
     let forward = slice.motion_forward;

@@ -3,16 +3,16 @@ use crate::slices::read_slice;
 use bits::reader::Reader;
 use codes::lent::Tables;
 use heads::addresses::past;
+use picture::state::Context;
 use picture::state::Progress;
-use picture::state::Setting;
-use picture::state::SliceState;
+use picture::state::Slice;
 use picture::state::SlicesProgress;
 ghost use mathlib.Core.Path.{_≡_};
 ghost use mathlib.Core.Bool.{not, _&&_};
 ghost use Prim.Native.Nat.{_≤_};
 ghost use Rattle.codes.specs.Lent.{Lent};
 ghost use Rattle.picture.specs.Pictures.{isSlice, isExtra, slices};
-ghost use Rattle.picture.specs.Views.{given, frameOf, Reads, Held, Adds, Turned, Pictured};
+ghost use Rattle.picture.specs.Views.{matricesIn, frameOf, Reads, Held, Adds, Turned, Pictured};
 ghost use Rattle.slices.specs.Behind.{pastOf};
 
 // RULES 7.3: user data (B2) and extensions (B5).
@@ -46,7 +46,7 @@ fn passes_over(code: i32, begun: bool) -> bool
 }
 
 // RULES 7.4: behind a slice with this start code. The picture ends where the address has reached the last macroblock.
-fn past_slice(g: Setting, code: i32, w: Progress) -> SlicesProgress
+fn past_slice(g: Context, code: i32, w: Progress) -> SlicesProgress
     requires { ⌜ g .sizes .«mb_size» ≤ 65536 ⌝ }
     requires { ⌜ Adds (w .state .«macroblock_address») 1 ⌝ }
     ensures { λ r. ⌜ r ≡ pastOf g code w ⌝ }
@@ -82,15 +82,15 @@ fn slices_turn(
     store: &mut [u8],
     values: &mut [i32; 64],
     tables: &Tables,
-    g: Setting,
+    g: Context,
     begun: bool,
-    state: SliceState,
+    state: Slice,
 ) -> SlicesProgress
     requires { ⌜ Reads (now s) reader state (now values) ⌝ }
     requires { ⌜ Held g (now store) ⌝ }
     requires { ⌜ Lent (now tables) ⌝ }
     ensures { λ r. ⌜
-        Turned g (now (tables .entry)) (now (s .entry)) reader begun state (now (values .entry)) (now (store .entry))
+        Turned g (matricesIn (now (tables .entry))) (now (s .entry)) reader begun state (now (values .entry)) (now (store .entry))
         r (now (values .exit)) (now (store .exit))
         ⌝ }
 {
@@ -119,15 +119,15 @@ pub fn read_slices(
     store: &mut [u8],
     values: &mut [i32; 64],
     tables: &Tables,
-    g: Setting,
+    g: Context,
     before: i32,
-    start: SliceState,
+    start: Slice,
 ) -> SlicesProgress
     requires { ⌜ Reads (now s) reader start (now values) ⌝ }
     requires { ⌜ Held g (now store) ⌝ }
     requires { ⌜ Lent (now tables) ⌝ }
     ensures { λ r. ⌜
-        Pictured (slices (given g (now (tables .entry))) (frameOf g before start (now (values .entry)) (now (store .entry))))
+        Pictured (slices g (matricesIn (now (tables .entry))) (frameOf g before start (now (values .entry)) (now (store .entry))))
         g (now (s .entry)) reader r (now (values .exit)) (now (store .exit))
         ⌝ }
 {

@@ -4,16 +4,17 @@ use codes::lent::Tables;
 use heads::addresses::past;
 use heads::heads::zeroed;
 use macroblocks::macroblock::macroblock;
+use picture::state::Context;
 use picture::state::Progress;
-use picture::state::Setting;
-use picture::state::SliceState;
+use picture::state::Slice;
 ghost use mathlib.Core.Path.{_≡_};
 ghost use mathlib.Core.Bool.{true};
 ghost use Prim.Native.Nat.{_≤_};
 ghost use Rattle.bits.specs.Runs.{Inside, Reading};
 ghost use Rattle.codes.specs.Lent.{Lent};
-ghost use Rattle.picture.specs.Slices.{extra, slice};
-ghost use Rattle.picture.specs.Views.{given, worldOf, startOf, macroblocks, Held, Reads, Adds, Awaits, GoesOn, Sliced, Passed};
+ghost use Rattle.picture.specs.State.{world};
+ghost use Rattle.picture.specs.Slices.{extra, sliceStart, slice};
+ghost use Rattle.picture.specs.Views.{matricesIn, macroblocks, Held, Reads, Adds, Awaits, GoesOn, Sliced, Passed};
 
 // RULES 7.5: while one bit read is 1, 8 bits are passed over.
 fn skip_extra(s: &[u8], reader: Reader) -> Reader
@@ -32,15 +33,15 @@ fn skip_extra(s: &[u8], reader: Reader) -> Reader
 }
 
 // RULES 7.5: the state at the beginning of slice n, with this scale.
-fn slice_start(g: Setting, number: usize, scale: u32, state: SliceState) -> SliceState
+fn slice_start(g: Context, number: usize, scale: u32, state: Slice) -> Slice
     requires { ⌜ (1 ≤ number) × (number ≤ 175) ⌝ }
     requires { ⌜ g .sizes .«mb_width» ≤ 256 ⌝ }
-    ensures { λ r. ⌜ r ≡ startOf g number scale state ⌝ }
+    ensures { λ r. ⌜ r ≡ sliceStart g number scale state ⌝ }
 {
     let forward = zeroed(state.motion_forward);
     let backward = zeroed(state.motion_backward);
     let address = ((number - 1) * g.sizes.mb_width) as i32 - 1;
-    SliceState {
+    Slice {
         quantizer_scale: scale,
         macroblock_address: address,
         motion_forward: forward,
@@ -50,7 +51,7 @@ fn slice_start(g: Setting, number: usize, scale: u32, state: SliceState) -> Slic
 }
 
 // RULES 7.6: whether another macroblock follows. The slice ends at the last macroblock, or where the next 23 bits are all 0 or not there.
-fn goes_on(s: &[u8], reader: Reader, g: Setting, state: SliceState, stop: u32) -> bool
+fn goes_on(s: &[u8], reader: Reader, g: Context, state: Slice, stop: u32) -> bool
     requires { ⌜ Inside (now s) reader ⌝ }
     requires { ⌜ g .sizes .«mb_size» ≤ 65536 ⌝ }
     requires { ⌜ Adds (state .«macroblock_address») 1 ⌝ }
@@ -73,13 +74,13 @@ fn read_macroblocks(
     store: &mut [u8],
     values: &mut [i32; 64],
     tables: &Tables,
-    g: Setting,
-    before: SliceState,
+    g: Context,
+    before: Slice,
 ) -> Progress
     requires { ⌜ Awaits g (now s) reader true before (now values) (now store) ⌝ }
     requires { ⌜ Lent (now tables) ⌝ }
     ensures { λ r. ⌜
-        Sliced (λ w₀. macroblocks (given g (now (tables .entry))) w₀ (worldOf before (now (values .entry)) (now (store .entry))))
+        Sliced (λ w₀. macroblocks g (matricesIn (now (tables .entry))) w₀ (world before (now (values .entry)) (now (store .entry))))
         g (now (s .entry)) reader r (now (values .exit)) (now (store .exit))
         ⌝ }
 {
@@ -109,16 +110,16 @@ pub fn read_slice(
     store: &mut [u8],
     values: &mut [i32; 64],
     tables: &Tables,
-    g: Setting,
+    g: Context,
     number: usize,
-    state: SliceState,
+    state: Slice,
 ) -> Progress
     requires { ⌜ Reads (now s) reader state (now values) ⌝ }
     requires { ⌜ Held g (now store) ⌝ }
     requires { ⌜ Lent (now tables) ⌝ }
     requires { ⌜ (1 ≤ number) × (number ≤ 175) ⌝ }
     ensures { λ r. ⌜
-        Passed (slice (given g (now (tables .entry))) number (worldOf state (now (values .entry)) (now (store .entry))))
+        Passed (slice g (matricesIn (now (tables .entry))) number (world state (now (values .entry)) (now (store .entry))))
         g (now (s .entry)) reader r (now (values .exit)) (now (store .exit))
         ⌝ }
 {

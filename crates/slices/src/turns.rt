@@ -1,9 +1,9 @@
 // RULES 7.2: the slices of a picture, with the turn of the stores.
 use crate::pictures::read_slices;
 use bits::reader::Reader;
+use picture::state::Context;
+use picture::state::Picture;
 use picture::state::PictureProgress;
-use picture::state::PictureState;
-use picture::state::Setting;
 use picture::state::Sizes;
 use picture::state::SlicesProgress;
 use picture::state::Stores;
@@ -15,9 +15,10 @@ ghost use lib.IntN.{natAbs};
 ghost use lib.ListN.{length, getD};
 ghost use Rattle.bits.specs.Programs.{if_then_else_};
 ghost use Rattle.bits.specs.Runs.{Inside};
+ghost use Rattle.codes.specs.Matrices.{Bounded};
 ghost use Rattle.picture.specs.Possible.{PossiblePicture};
-ghost use Rattle.picture.specs.Pictures.{before, after, coded};
-ghost use Rattle.picture.specs.Views.{pictureOf, matrices, settingOf, Held, Coded};
+ghost use Rattle.picture.specs.Pictures.{frame, contextOf, before, after, coded};
+ghost use Rattle.picture.specs.Views.{matrices, Held, Coded};
 ghost use Rattle.slices.specs.Behind.{progressOf};
 
 // The roles of the stores while the slices of a picture are read, and after them.
@@ -51,7 +52,7 @@ fn roles_of(picture_type: u32, t: Stores) -> Roles
 }
 
 // The picture whose slices were read, with these roles.
-fn picture_of(g: Setting, stores: Stores, t: SlicesProgress) -> PictureProgress
+fn picture_of(g: Context, stores: Stores, t: SlicesProgress) -> PictureProgress
     requires { ⌜ natAbs (t .code) ≤ 255 ⌝ }
     ensures { λ r. ⌜ r ≡ progressOf g stores t ⌝ }
 {
@@ -59,7 +60,7 @@ fn picture_of(g: Setting, stores: Stores, t: SlicesProgress) -> PictureProgress
     let slice = t.state;
     PictureProgress {
         reader: end,
-        picture: PictureState {
+        picture: Picture {
             picture_type: g.picture_type,
             start_code: t.code,
             stores,
@@ -84,13 +85,14 @@ pub fn read_coded(
     sizes: Sizes,
     intra: &[u8; 64],
     other: &[u8; 64],
-    p: PictureState,
+    p: Picture,
 ) -> PictureProgress
     requires { ⌜ Inside (now s) reader ⌝ }
-    requires { ⌜ PossiblePicture (pictureOf p (now values)) ⌝ }
-    requires { ⌜ Held (settingOf (pictureOf p (now values)) sizes (p .stores)) (now store) ⌝ }
+    requires { ⌜ PossiblePicture p ⌝ }
+    requires { ⌜ Bounded (now values) ⌝ }
+    requires { ⌜ Held (contextOf sizes p) (now store) ⌝ }
     ensures { λ r. ⌜
-        Coded (coded sizes (matrices (now (intra .entry)) (now (other .entry))) (pictureOf p (now (values .entry))) (now (store .entry)))
+        Coded (coded sizes (matrices (now (intra .entry)) (now (other .entry))) (frame p (now (values .entry)) (now (store .entry))))
         (now (s .entry)) reader r (now (values .exit)) (now (store .exit))
         ⌝ }
 {
@@ -102,7 +104,7 @@ pub fn read_coded(
     let roles = roles_of(p.picture_type, p.stores);
     let stores = roles.during;
     let turned = roles.turned;
-    let g = Setting {
+    let g = Context {
         picture_type: p.picture_type,
         sizes,
         stores,

@@ -3,19 +3,20 @@ use crate::headers::HeaderRead;
 use crate::headers::read_picture_header;
 use crate::turns::read_coded;
 use bits::reader::Reader;
+use picture::state::Picture;
 use picture::state::PictureProgress;
-use picture::state::PictureState;
 use picture::state::Sizes;
 ghost use mathlib.Core.Path.{_≡_};
 ghost use Rattle.bits.specs.Runs.{Inside};
+ghost use Rattle.codes.specs.Matrices.{Bounded};
 ghost use Rattle.picture.specs.Possible.{PossiblePicture};
-ghost use Rattle.picture.specs.Pictures.{picture};
-ghost use Rattle.picture.specs.Views.{pictureOf, matrices, settingOf, Held, Coded};
-ghost use Rattle.slices.specs.Behind.{headerOn};
+ghost use Rattle.picture.specs.Pictures.{frame, contextOf, picture};
+ghost use Rattle.picture.specs.Views.{matrices, Held, Coded};
+ghost use Rattle.slices.specs.Behind.{headerAs};
 
 // The picture p with what its header sets.
-fn with_header(p: PictureState, h: HeaderRead) -> PictureState
-    ensures { λ r. ⌜ r ≡ headerOn h p ⌝ }
+fn with_header(p: Picture, h: HeaderRead) -> Picture
+    ensures { λ r. ⌜ r ≡ headerAs h p ⌝ }
 {
     let forward = h.motion_forward;
     let backward = h.motion_backward;
@@ -37,13 +38,14 @@ pub fn read_picture(
     sizes: Sizes,
     intra: &[u8; 64],
     other: &[u8; 64],
-    p: PictureState,
+    p: Picture,
 ) -> PictureProgress
     requires { ⌜ Inside (now s) reader ⌝ }
-    requires { ⌜ PossiblePicture (pictureOf p (now values)) ⌝ }
-    requires { ⌜ Held (settingOf (pictureOf p (now values)) sizes (p .stores)) (now store) ⌝ }
+    requires { ⌜ PossiblePicture p ⌝ }
+    requires { ⌜ Bounded (now values) ⌝ }
+    requires { ⌜ Held (contextOf sizes p) (now store) ⌝ }
     ensures { λ r. ⌜
-        Coded (picture sizes (matrices (now (intra .entry)) (now (other .entry))) (pictureOf p (now (values .entry))) (now (store .entry)))
+        Coded (picture sizes (matrices (now (intra .entry)) (now (other .entry))) (frame p (now (values .entry)) (now (store .entry))))
         (now (s .entry)) reader r (now (values .exit)) (now (store .exit))
         ⌝ }
 {

@@ -33,14 +33,15 @@ use Rattle.transform.proofs.LoneDc.{lone-dc}
 use Rattle.prediction.specs.Predict.{macroblockAt}
 use Rattle.prediction.specs.Planes.{planeOf, planeLength, planeStart}
 use Rattle.prediction.specs.Writers.{setConst, overwrite, addConst, addBlock, blockWidth, blockPlace}
-use Rattle.picture.specs.declared.state.Slice.{Slice}
-use Rattle.picture.specs.State.{Given, World, world}
+use Rattle.picture.specs.declared.state.Context.{Context}
+use Rattle.picture.specs.declared.state.Matrices.{Matrices}
+use Rattle.picture.specs.State.{World, world, predictorsAs, freshBlock}
 use Rattle.picture.specs.Ways.{Way, on, out, leave, onward, plain, step, give}
 use Rattle.picture.specs.Heads.{flag}
 use Rattle.picture.specs.Blocks as O
 use Rattle.standard.specs.Standard as S
 use Rattle.standard.proofs.Agreement.{WayIs, Agree, a-same, a-give, a-plain, a-onward, a-shall, plain-bind, plain-bind-on}
-use Rattle.standard.proofs.Related.{motionOf, Own, own, sliceOf, eights, Rule, coding}
+use Rattle.standard.proofs.Related.{Own, own, sliceOf, eights, Rule, coding}
 use Rattle.standard.specs.Rules.{times}
 
 -- ---- coefficients
@@ -108,12 +109,12 @@ unfolding onward leave bind run
 a-way P (on x) F p k = k x p
 a-way P (out n l) F p k = record { is = tt }
 
-module _ (rule : Rule) (g : Given) (f b : S.Direction) (intra : Bool) (scale : ℕ) where
+module _ (rule : Rule) (g : Context) (m : Matrices) (f b : S.Direction) (intra : Bool) (scale : ℕ) where
   abbrev their : S.Coding
-  their = coding rule g f b
+  their = coding rule g m f b
 
   abbrev placedOf : S.Filled → List Pair → B.Filled
-  placedOf x ps = B.allPlaced (quantiser intra scale) (O.matrixFor g intra) (filledOf x) ps
+  placedOf x ps = B.allPlaced (quantiser intra scale) (O.matrixFor m intra) (filledOf x) ps
 
   -- what the standard makes of some pairs is what ours makes of them
   record Placed (x : S.Filled) (ps : List Pair) (y : S.Filled) : Type 0 where
@@ -130,7 +131,7 @@ module _ (rule : Rule) (g : Given) (f b : S.Direction) (intra : Bool) (scale : �
       place = getD zigZag (x .n + p .run) 0
 
       quant : ℕ
-      quant = getD (O.matrixFor g intra) place 0
+      quant = getD (O.matrixFor m intra) place 0
 
       theirs : ℤ
       theirs = rule .rules .dctRecon intra (p .level) scale quant
@@ -138,7 +139,7 @@ module _ (rule : Rule) (g : Given) (f b : S.Direction) (intra : Bool) (scale : �
       next : S.Filled
       next = record { recon = set (x .recon) place theirs; n = x .n + p .run + 1 }
 
-      placed-same : theirs ≡ dequantised (quantiser intra scale) (p .level) quant → B.placed (quantiser intra scale) (O.matrixFor g intra) (filledOf x) p
+      placed-same : theirs ≡ dequantised (quantiser intra scale) (p .level) quant → B.placed (quantiser intra scale) (O.matrixFor m intra) (filledOf x) p
           ≡ filledOf next
       placed-same e =
           ap (λ (z : ℤ). B.filled (set (premultiplied (x .recon)) place (z *ℤ getD premultiplierMatrix place (pos 0))) (x .n + p .run + 1)) (sym e)
@@ -150,7 +151,7 @@ module _ (rule : Rule) (g : Given) (f b : S.Direction) (intra : Bool) (scale : �
       go true k r =
           is-also (S.reconstructed their intra scale next ps) (λ y q.
           record {
-            same = ap (λ (z : B.Filled). B.allPlaced (quantiser intra scale) (O.matrixFor g intra) z ps) (placed-same (k refl))
+            same = ap (λ (z : B.Filled). B.allPlaced (quantiser intra scale) (O.matrixFor m intra) z ps) (placed-same (k refl))
                 ∙ q .same;
             lone = q .lone;
           }) r
@@ -296,134 +297,181 @@ results-same intra scale f di dw d h = go intra (eqb (f .n) 1) (λ e. lone-dc c 
         (λ y z p q. ap (λ (w : ℤ). clamp255 (pos (getD d (di + y * dw + z) 0) +ℤ w)) (getD-replicate 64 (y * 8 + z) x (pos 0) (omega arith)))
     go false false k = refl
 
-written-same : (rule : Rule) (g : Given) (f b : S.Direction) (intra : Bool) (scale i address : ℕ) (x : S.Filled) (r : B.Read) (l : List ℕ) → r .filled
-    ≡ filledOf x → Lone x
-    → O.written g (quantiser intra scale) i address r l ≡ S.written (coding rule g f b) intra i address x l
+written-same : (rule : Rule) (g : Context) (m : Matrices) (f b : S.Direction) (intra : Bool) (scale i address : ℕ) (x : S.Filled) (l : List ℕ) → Lone x
+    → O.written g (quantiser intra scale) i address (filledOf x) l ≡ S.written (coding rule g m f b) intra i address x l
 unfolding O.written S.written
-written-same rule g f b intra scale i address x r l e lone =
-    let m = macroblockAt (g .sizes .«mb_width») (g .sizes .«mb_height») address in
+written-same rule g m f b intra scale i address x l lone =
+    let mb = macroblockAt (g .sizes .«mb_width») (g .sizes .«mb_height») address in
     let start = planeStart (g .stores .cur) (planeOf i) (g .sizes .«mb_size») in
     let size = planeLength (planeOf i) (g .sizes .«mb_size») in
-    let put : List ℤ → List ℕ = λ y. cond intra (overwrite (midOf start size l) (blockPlace m i) (blockWidth m i) y)
-    (addBlock (midOf start size l) (blockPlace m i) (blockWidth m i) y) in
+    let before = midOf start size l in
+    let put : List ℤ → List ℕ = λ y. cond intra (overwrite before (blockPlace mb i) (blockWidth mb i) y)
+    (addBlock before (blockPlace mb i) (blockWidth mb i) y) in
     ap (putMid start size l) (
-    ap (λ (z : B.Filled). O.results (quantiser intra scale) z (blockPlace m i) (blockWidth m i) (midOf start size l)) e
-    ∙ sym (results-same intra scale (filledOf x) (blockPlace m i) (blockWidth m i) (midOf start size l)
+    sym (results-same intra scale (filledOf x) (blockPlace mb i) (blockWidth mb i) before
     (λ h k p. times-at (x .recon) premultiplierMatrix k (lone .zeros h k p)))
     ∙ ap put (sym (rule .transform (x .recon))))
 
 -- ---- a block
-
--- our slice with these DC predictors, and nothing left over
-abbrev laid : ℤ → ℕ → S.Vector → S.Vector → S.Direction → Bool → S.Direction → Bool → List ℤ → Slice
-laid A q for back f fs b bs dcs = record {
-  «quantizer_scale» = q;
-  «macroblock_address» = A;
-  «motion_forward» = motionOf f fs for;
-  «motion_backward» = motionOf b bs back;
-  «dc_predictor» = dcs;
-  «block_data» = replicate 64 (pos 0);
-}
 
 -- before the last k blocks of an intra macroblock: the pasts are our predictors
 pub record Intra (isFar : Bool) (k : ℕ) (g : S.Coding) (A : ℤ) (q : ℕ) (for back : S.Vector) (fs bs : Bool) (x : S.Blocks) (w : World) : Type 0 where
   pub y : ℤ
   pub cb : ℤ
   pub cr : ℤ
-  pub is : w ≡ world (sliceOf g A q for back (own fs bs y cb cr)) (x .pels)
+  pub is : w ≡ world (sliceOf g A q for back (own fs bs y cb cr)) freshBlock (x .pels)
   pub past : leftOf isFar k (x .past) ≡ eights (own fs bs y cb cr)
 
 -- of any other macroblock: pasts and predictors stay
 pub record Inter (g : S.Coding) (A : ℤ) (q : ℕ) (for back : S.Vector) (o : Own) (p : S.Pasts) (x : S.Blocks) (w : World) : Type 0 where
-  pub is : w ≡ world (sliceOf g A q for back o) (x .pels)
+  pub is : w ≡ world (sliceOf g A q for back o) freshBlock (x .pels)
   pub past : x .past ≡ p
 
-module _ (rule : Rule) (g : Given) (f b : S.Direction) (A : ℤ) (q : ℕ) (for back : S.Vector) (s : List ℕ) where
+-- ours of a whole block, while the standard's is y
+abbrev wholeOf : ℤ → S.Filled → B.Read
+wholeOf predictor y = record { filled = filledOf y; predictor = predictor; end = Whole }
+
+module _ (rule : Rule) (g : Context) (m : Matrices) (f b : S.Direction) (A : ℤ) (q : ℕ) (for back : S.Vector) (s : List ℕ) where
   abbrev pub G : S.Coding
-  G = coding rule g f b
+  G = coding rule g m f b
+
+  -- our state with the predictors o
+  abbrev ours : Own → List ℕ → World
+  ours o l = world (sliceOf G A q for back o) freshBlock l
+
+  -- behind block i the predictors are dcs, nothing is left over, and the pels are the standard's
+  block-ends : (intra : Bool) (i : ℕ) (o : Own) (predictor : ℤ) (dcs : List ℤ) (y : S.Filled) (l : List ℕ) (r : B.Read) → r ≡ wholeOf predictor y → Lone y
+      → set (dcsOf o) (O.predictorOf i) predictor ≡ dcs
+      → O.blockEnd g (quantiser intra q) i (ours o l) r
+      ≡ on (world (predictorsAs dcs (sliceOf G A q for back o)) freshBlock (S.written G intra i (natAbs A) y l))
+  unfolding O.blockEnd B.leftOver
+  block-ends intra i o predictor dcs y l r e lone d =
+      let pels = written-same rule g m f b intra q i (natAbs A) y l lone in
+      ap (O.blockEnd g (quantiser intra q) i (ours o l)) e ∙ (λ j. on (world (predictorsAs (d j) (sliceOf G A q for back o)) freshBlock (pels j)))
+
+  -- an intra block, which k others follow; o has our predictors
+  module _ (isFar : Bool) (k : ℕ) (h : k < 6) (x : S.Blocks) (o : Own) (before : leftOf isFar (suc k) (x .past) ≡ eights o) where
+    abbrev i : ℕ
+    i = 5 - k
+
+    abbrev pred : ℤ
+    pred = getD (dcsOf o) (O.predictorOf i) (pos 0)
+
+    abbrev After : S.Blocks → World → Type 0
+    After = Intra isFar k G A q for back (o .forSet) (o .backSet)
+
+    -- dct_recon with the DC value alone
+    abbrev dcFilled : ℤ → S.Filled
+    dcFilled recon = record { recon = set (replicate 64 (pos 0)) 0 recon; n = 1 }
+
+    -- the standard's steps behind the DC value
+    abbrev theirEnd : ℤ → S.Filled → Prog (Way S.Blocks)
+    theirEnd recon y = give (record { past = S.pastAs i recon (x .past); pels = S.written G true i (natAbs A) y (x .pels) })
+
+    abbrev theirPairs : ℤ → Prog (Way S.Blocks)
+    theirPairs recon = onward (plain (pairs 1)) (λ p. onward (step (S.coefficients G true q (dcFilled recon) p)) (theirEnd recon))
+
+    -- ours
+    abbrev made : Coded → B.Read
+    made c = B.reconstructed (quantiser true q) (m .«intra_quant_matrix») pred freshBlock c
+
+    abbrev readEnd : B.Read → Prog (Way World)
+    readEnd r = step (O.blockEnd g (quantiser true q) i (ours o (x .pels)) r)
+
+    abbrev ourEnd : Coded → Prog (Way World)
+    ourEnd c = readEnd (made c)
+
+    abbrev ourPairs : Bool → ℤ → Prog Coded
+    ourPairs inside d = cond inside (bind (pairs 1) (λ p. done (coded d p))) (done (coded d (ended [] Outside)))
+
+    -- the DC value is pred + d, and in its range
+    module _ (d : ℤ) (inside : dcInside (pred +ℤ d) ≡ true) where
+      abbrev dc : ℤ
+      dc = pred +ℤ d
+
+      -- what the standard makes of the pairs p
+      abbrev Fills : Ended → S.Filled → Type 0
+      Fills p y = (p .end ≡ Whole) × Placed rule g m f b true q (dcFilled (pos 8 *ℤ dc)) (p .pairs) y
+
+      made-is : (p : Ended) (y : S.Filled) → Fills p y → made (coded d p) ≡ wholeOf dc y
+      unfolding B.reconstructed
+      made-is p y c =
+          let placed : B.Filled → B.Filled = λ z. B.allPlaced (quantiser true q) (m .«intra_quant_matrix») z (p .pairs) in
+          let read : Bool → B.Read = λ t. cond (not t) (record { filled = B.filled freshBlock 0; predictor = pred; end = p .end })
+          (record { filled = placed (B.withDc dc freshBlock); predictor = dc; end = p .end }) in
+          let filled = ap placed (begins dc) ∙ c .1 .same in
+          ap read inside ∙ (λ j. record { filled = filled j; predictor = dc; end = c .0 j })
+
+      end-agrees : (p : Ended) (y : S.Filled) (e : ℕ) → Fills p y → Agree After s e (theirEnd (pos 8 *ℤ dc) y) (ourEnd (coded d p))
+      end-agrees p y e c =
+          let n = ownAs i dc o in
+          let t = component isFar (x .past) o dc k h before in
+          a-same (ap (λ (w : Way World). run (step w) s e)
+          (sym (block-ends true i o dc (dcsOf n) y (x .pels) (made (coded d p)) (made-is p y c) (c .1 .lone) (t .dcs))))
+          (a-give (record { y = n .y; cb = n .cb; cr = n .cr; is = refl; past = t .past }))
+
+      pairs-agree : (e : ℕ) → Agree After s e (theirPairs (pos 8 *ℤ dc)) (onward (plain (ourPairs (dcInside dc) d)) ourEnd)
+      unfolding onward leave plain bind
+      pairs-agree e =
+          let from = dcFilled (pos 8 *ℤ dc) in
+          let p = run (pairs 1) s e .value in
+          a-same (ap (λ (t : Bool). run (onward (plain (ourPairs t d)) ourEnd) s e) (sym inside)) (
+          a-same (sym (plain-bind-on (pairs 1) (λ p. done (coded d p)) ourEnd s e)) (
+          a-plain (pairs 1) (pairs 1) _ _ refl (
+          a-way _ (S.coefficients G true q from p) _ (coefficients-same rule g m f b true q from p (lone-dc-begins (pos 8 *ℤ dc)))
+          (λ y c. end-agrees p y (run (pairs 1) s e .at) c))))
+
+    -- the DC value with the difference that was read
+    recon-is : (zz d : ℤ) → zz ≡ d → S.dcPredictor isFar i (x .past) +ℤ pos 8 *ℤ zz ≡ pos 8 *ℤ (pred +ℤ d)
+    recon-is zz d e =
+        ap (λ (z : ℤ). z +ℤ pos 8 *ℤ zz) (component isFar (x .past) o (pred +ℤ d) k h before .pred) ∙ eight-add pred zz
+        ∙ ap (λ (z : ℤ). pos 8 *ℤ (pred +ℤ z)) e
+
+    intra-agrees : (a : ℕ) → Agree After s a (S.intraBlock G isFar q (natAbs A) i x) (O.oneBlock g m true i (ours o (x .pels)))
+    unfolding S.intraBlock O.oneBlock B.block codedBlock intraCoded onward leave plain bind
+    intra-agrees a =
+        let theirs : ℤ → Prog (Way S.Blocks) = λ recon.
+        onward (S.shall (leZ (negℤ (pos 2048)) recon && leZ recon (pos 2047))) (λ z. theirPairs recon) in
+        a-same (sym (plain-bind-on (intraCoded (ltb i 4) pred) (λ c. done (made c)) readEnd s a)) (
+        a-same (sym (plain-bind-on (dcDifference (ltb i 4)) (λ d. ourPairs (dcInside (pred +ℤ d)) d) ourEnd s a)) (
+        a-onward _ _ (dc-agrees s i a) (λ zz d e c.
+        subst (λ (recon : ℤ). Agree After s e (theirs recon) (onward (plain (ourPairs (dcInside (pred +ℤ d)) d)) ourEnd)) (sym (recon-is zz d c))
+        (a-shall _ _ (λ z. pairs-agree d (eight-inside (pred +ℤ d) z) e)))))
 
   intra-block : (isFar fs bs : Bool) (k : ℕ) → k < 6 → (x : S.Blocks) (w : World) (a : ℕ) → Intra isFar (suc k) G A q for back fs bs x w
-      → Agree (Intra isFar k G A q for back fs bs) s a (S.intraBlock G isFar q (natAbs A) (5 - k) x) (O.oneBlock g true (5 - k) w)
-  unfolding S.intraBlock O.oneBlock B.block codedBlock intraCoded B.reconstructed O.blockEnd B.leftOver onward leave plain bind
+      → Agree (Intra isFar k G A q for back fs bs) s a (S.intraBlock G isFar q (natAbs A) (5 - k) x) (O.oneBlock g m true (5 - k) w)
   intra-block isFar fs bs k h x w a r =
-      let i = 5 - k in
-      let o = own fs bs (r .y) (r .cb) (r .cr) in
-      let u = world (sliceOf G A q for back o) (x .pels) in
-      let pred = getD (dcsOf o) (O.predictorOf i) (pos 0) in
-      let Q = quantiser true q in
-      let matrix = g .matrices .«intra_quant_matrix» in
-      let left = replicate 64 (pos 0) in
-      let E : B.Read → Prog (Way World) = λ r. step (O.blockEnd g Q i u r) in
-      let E′ : Coded → Prog (Way World) = λ c. E (B.reconstructed Q matrix pred left c) in
-      let K : Bool → ℤ → Prog Coded = λ t d. cond t (bind (pairs 1) (λ p. done (coded d p))) (done (coded d (ended [] Outside))) in
-      let made : Bool → ℤ → Ended → B.Read = λ t d p. cond (not t) (record { filled = B.filled left 0; predictor = pred; end = p .end })
-      (record { filled = B.allPlaced Q matrix (B.withDc (pred +ℤ d) left) (p .pairs); predictor = pred +ℤ d; end = p .end }) in
-      let F : S.Pasts → ℤ → Prog (Way S.Blocks) = λ past recon.
-      onward (S.shall (leZ (negℤ (pos 2048)) recon && leZ recon (pos 2047))) (λ z. onward (plain (pairs 1)) (λ p.
-      onward (step (S.coefficients G true q (record { recon = set left 0 recon; n = 1 }) p))
-      (λ f. give (record { past = S.pastAs i recon past; pels = S.written G true i (natAbs A) f (x .pels) })))) in
-      subst (λ (w : World). Agree (Intra isFar k G A q for back fs bs) s a
-      (onward (S.dctDc i) (λ zz. F (x .past) (S.dcPredictor isFar i (x .past) +ℤ pos 8 *ℤ zz))) (O.oneBlock g true i w)) (sym (r .is)) (
-      a-same (sym (plain-bind-on (intraCoded (ltb i 4) pred) (λ c. done (B.reconstructed Q matrix pred left c)) E s a)) (
-      a-same (sym (plain-bind-on (dcDifference (ltb i 4)) (λ d. K (dcInside (pred +ℤ d)) d) E′ s a)) (
-      a-onward _ _ (dc-agrees s i a) (λ zz d e c.
-      let x′ = pred +ℤ d in
-      let m = component isFar (x .past) o x′ k h (r .past) in
-      let same : S.dcPredictor isFar i (x .past) +ℤ pos 8 *ℤ zz ≡ pos 8 *ℤ x′ = ap (λ (z : ℤ). z +ℤ pos 8 *ℤ zz) (m .pred) ∙ eight-add pred zz
-      ∙ ap (λ (z : ℤ). pos 8 *ℤ (pred +ℤ z)) c in
-      subst (λ (recon : ℤ). Agree (Intra isFar k G A q for back fs bs) s e (F (x .past) recon) (onward (plain (K (dcInside x′) d)) E′)) (sym same) (
-      a-shall _ _ (λ z.
-      a-same (ap (λ (t : Bool). run (onward (plain (K t d)) E′) s e) (sym (eight-inside x′ z))) (
-      a-same (sym (plain-bind-on (pairs 1) (λ p. done (coded d p)) E′ s e)) (
-      a-plain (pairs 1) (pairs 1) _ _ refl (
-      let p = run (pairs 1) s e .value in
-      let e = run (pairs 1) s e .at in
-      let from : S.Filled = record { recon = set left 0 (pos 8 *ℤ x′); n = 1 } in
-      a-same (ap (λ (t : Bool). run (E (made t d p)) s e) (sym (eight-inside x′ z))) (
-      a-way _ (S.coefficients G true q from p) _ (coefficients-same rule g f b true q from p (lone-dc-begins (pos 8 *ℤ x′))) (λ fl y.
-      let n = ownAs i x′ o in
-      let whole : B.Read = record { filled = filledOf fl; predictor = x′; end = Whole } in
-      let filled = ap (λ (z : B.Filled). B.allPlaced Q matrix z (p .pairs)) (begins x′) ∙ y .1 .same in
-      let read : made true d p ≡ whole = λ j. record { filled = filled j; predictor = x′; end = y .0 j } in
-      let wr = written-same rule g f b true q i (natAbs A) fl whole (x .pels) refl (y .1 .lone) in
-      subst (λ (c : B.Read). Agree (Intra isFar k G A q for back fs bs) s e
-      (give (record { past = S.pastAs i (pos 8 *ℤ x′) (x .past); pels = S.written G true i (natAbs A) fl (x .pels) })) (step (O.blockEnd g Q i u c)))
-      (sym read)
-      (a-give (record { y = n .y; cb = n .cb; cr = n .cr; is = λ j. world (laid A q for back f fs b bs (m .dcs j)) (wr j); past = m .past })))))))))))))
+      subst (λ (w : World). Agree (Intra isFar k G A q for back fs bs) s a (S.intraBlock G isFar q (natAbs A) (5 - k) x) (O.oneBlock g m true (5 - k) w))
+      (sym (r .is)) (intra-agrees isFar k h x (own fs bs (r .y) (r .cb) (r .cr)) (r .past) a)
 
   inter-block : (o : Own) (p : S.Pasts) (k : ℕ) → k < 6 → (x : S.Blocks) (w : World) (a : ℕ) → Inter G A q for back o p x w
-      → Agree (Inter G A q for back o p) s a (S.nonIntraBlock G q (natAbs A) (5 - k) x) (O.oneBlock g false (5 - k) w)
-  unfolding S.nonIntraBlock O.oneBlock B.block codedBlock otherCoded B.reconstructed O.blockEnd B.leftOver onward leave plain bind
+      → Agree (Inter G A q for back o p) s a (S.nonIntraBlock G q (natAbs A) (5 - k) x) (O.oneBlock g m false (5 - k) w)
+  unfolding S.nonIntraBlock O.oneBlock B.block codedBlock otherCoded B.reconstructed onward leave plain bind
   inter-block o past k h x w a r =
       let i = 5 - k in
-      let u = world (sliceOf G A q for back o) (x .pels) in
       let pred = getD (dcsOf o) (O.predictorOf i) (pos 0) in
       let Q = quantiser false q in
-      let matrix = g .matrices .«non_intra_quant_matrix» in
-      let left = replicate 64 (pos 0) in
-      let E : B.Read → Prog (Way World) = λ r. step (O.blockEnd g Q i u r) in
-      let E′ : Coded → Prog (Way World) = λ c. E (B.reconstructed Q matrix pred left c) in
-      subst (λ (w : World). Agree (Inter G A q for back o past) s a (S.nonIntraBlock G q (natAbs A) i x) (O.oneBlock g false i w)) (sym (r .is)) (
-      a-same (sym (plain-bind-on otherCoded (λ c. done (B.reconstructed Q matrix pred left c)) E s a)) (
+      let matrix = m .«non_intra_quant_matrix» in
+      let E : B.Read → Prog (Way World) = λ r. step (O.blockEnd g Q i (ours o (x .pels)) r) in
+      let E′ : Coded → Prog (Way World) = λ c. E (B.reconstructed Q matrix pred freshBlock c) in
+      subst (λ (w : World). Agree (Inter G A q for back o past) s a (S.nonIntraBlock G q (natAbs A) i x) (O.oneBlock g m false i w)) (sym (r .is)) (
+      a-same (sym (plain-bind-on otherCoded (λ c. done (B.reconstructed Q matrix pred freshBlock c)) E s a)) (
       a-same (sym (plain-bind-on (pairs 0) (λ p. done (coded (pos 0) p)) E′ s a)) (
       a-plain (pairs 0) (pairs 0) _ _ refl (
       let p = run (pairs 0) s a .value in
-      let e = run (pairs 0) s a .at in
-      let from : S.Filled = record { recon = left; n = 0 } in
-      a-way _ (S.coefficients G false q from p) _ (coefficients-same rule g f b false q from p lone-begins) (λ fl y.
-      let made : B.Read = record { filled = B.allPlaced Q matrix (B.filled left 0) (p .pairs); predictor = pred; end = p .end } in
-      let whole : B.Read = record { filled = filledOf fl; predictor = pred; end = Whole } in
-      let filled = ap (λ (l : List ℤ). B.allPlaced Q matrix (B.filled l 0) (p .pairs)) (sym times-zero) ∙ y .1 .same in
-      let read : made ≡ whole = λ j. record { filled = filled j; predictor = pred; end = y .0 j } in
-      let wr = written-same rule g f b false q i (natAbs A) fl whole (x .pels) refl (y .1 .lone) in
-      subst (λ (c : B.Read). Agree (Inter G A q for back o past) s e (give (record { past = x .past; pels = S.written G false i (natAbs A) fl (x .pels) }))
-      (step (O.blockEnd g Q i u c))) (sym read)
-      (a-give (record { is = λ j. world (laid A q for back f (o .forSet) b (o .backSet) (kept-dcs o k h j)) (wr j); past = r .past })))))))
+      let from : S.Filled = record { recon = replicate 64 (pos 0); n = 0 } in
+      a-way _ (S.coefficients G false q from p) _ (coefficients-same rule g m f b false q from p lone-begins) (λ y c.
+      let made : B.Read = record { filled = B.allPlaced Q matrix (B.filled freshBlock 0) (p .pairs); predictor = pred; end = p .end } in
+      let filled = ap (λ (l : List ℤ). B.allPlaced Q matrix (B.filled l 0) (p .pairs)) (sym times-zero) ∙ c .1 .same in
+      let read : made ≡ wholeOf pred y = λ j. record { filled = filled j; predictor = pred; end = c .0 j } in
+      a-same (ap (λ (w : Way World). run (step w) s (run (pairs 0) s a .at))
+      (sym (block-ends false i o pred (dcsOf o) y (x .pels) made read (c .1 .lone) (kept-dcs o k h))))
+      (a-give (record { is = refl; past = r .past })))))))
 
   -- ---- the blocks that are left
 
   pub intra-blocks : (isFar fs bs : Bool) (cbp : ℕ) (k : ℕ) → k ≤ 6 → (x : S.Blocks) (w : World) (a : ℕ) → Intra isFar k G A q for back fs bs x w
-      → Agree (Intra isFar 0 G A q for back fs bs) s a (S.blocks G true isFar cbp q (natAbs A) k x) (O.lastBlocks g true 63 k w)
+      → Agree (Intra isFar 0 G A q for back fs bs) s a (S.blocks G true isFar cbp q (natAbs A) k x) (O.lastBlocks g m true 63 k w)
   unfolding S.blocks O.lastBlocks
   intra-blocks isFar fs bs cbp zero h x w a r = a-give r
   intra-blocks isFar fs bs cbp (suc k) h x w a r = a-onward _ _ (all (flag cbp (2 ^ k)) (flag 63 (2 ^ k)) (bits-63 k (omega arith)))
@@ -431,17 +479,17 @@ module _ (rule : Rule) (g : Given) (f b : S.Direction) (A : ℤ) (q : ℕ) (for 
     where
       all : (t u : Bool) → u ≡ true
           → Agree (Intra isFar k G A q for back fs bs) s a (cond (t || true) (S.intraBlock G isFar q (natAbs A) (5 - k) x) (give x))
-          (cond u (O.oneBlock g true (5 - k) w) (give w))
+          (cond u (O.oneBlock g m true (5 - k) w) (give w))
       all t true z = rw (or-true t) (intra-block isFar fs bs k (omega arith) x w a r)
       all t false z = absurd (false≢true z)
 
   pub inter-blocks : (isFar : Bool) (o : Own) (p : S.Pasts) (cbp : ℕ) (k : ℕ) → k ≤ 6 → (x : S.Blocks) (w : World) (a : ℕ) → Inter G A q for back o p x w
-      → Agree (Inter G A q for back o p) s a (S.blocks G false isFar cbp q (natAbs A) k x) (O.lastBlocks g false cbp k w)
+      → Agree (Inter G A q for back o p) s a (S.blocks G false isFar cbp q (natAbs A) k x) (O.lastBlocks g m false cbp k w)
   unfolding S.blocks O.lastBlocks
   inter-blocks isFar o p cbp zero h x w a r = a-give r
   inter-blocks isFar o p cbp (suc k) h x w a r = a-onward _ _ (some (flag cbp (2 ^ k))) (λ x w e r. inter-blocks isFar o p cbp k (omega arith) x w e r)
     where
       some : (t : Bool) → Agree (Inter G A q for back o p) s a (cond (t || false) (S.nonIntraBlock G q (natAbs A) (5 - k) x) (give x))
-          (cond t (O.oneBlock g false (5 - k) w) (give w))
+          (cond t (O.oneBlock g m false (5 - k) w) (give w))
       some true = inter-block o p k (omega arith) x w a r
       some false = a-give r

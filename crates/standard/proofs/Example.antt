@@ -25,20 +25,23 @@ use Rattle.transform.specs.Butterfly.{butterfly}
 use Rattle.transform.specs.Idct.{columns, rows, idct}
 use Rattle.prediction.specs.Standard.{formed}
 use Rattle.prediction.specs.Writers.{overwrite, addBlock, blockPlace}
-use Rattle.picture.specs.State.{Given}
+use Rattle.picture.specs.declared.state.Context.{Context}
+use Rattle.picture.specs.declared.state.Matrices.{Matrices}
 use Rattle.picture.specs.Ways.{Way, on, out, also, leave, onward, plain}
 use Rattle.picture.specs.Heads.{macroblockType}
 use Rattle.picture.specs.Slices.{extraTurn, extra}
 use Rattle.standard.specs.Standard as S
 use Rattle.standard.specs.Rules.{rust, printed}
 
-abbrev given : ℕ → Given
-given type = record {
-  type = type;
+abbrev context : ℕ → Context
+context type = record {
+  «picture_type» = type;
   sizes = record { «mb_width» = 3; «mb_height» = 1; «mb_size» = 3 };
   stores = record { cur = 0; fwd = 1; bwd = 2 };
-  matrices = record { «intra_quant_matrix» = intraQuantMatrix; «non_intra_quant_matrix» = replicate 64 16 };
 }
+
+abbrev matrices : Matrices
+matrices = record { «intra_quant_matrix» = intraQuantMatrix; «non_intra_quant_matrix» = replicate 64 16 }
 
 abbrev direction : S.Direction
 direction = record { «full_pel_vector» = false; «r_size» = 0 }
@@ -48,7 +51,9 @@ abbrev pels : List ℕ
 pels = replicate 1152 7 ++ replicate 1152 50 ++ replicate 1152 90
 
 abbrev slice : S.Rules → ℕ → List ℕ → Way S.Variables
-slice rules type stream = run (S.slice (record { given = given type; forward = direction; backward = direction; rules = rules }) 1 pels) stream 0 .value
+slice rules type stream =
+    let g : S.Coding = record { context = context type; matrices = matrices; forward = direction; backward = direction; rules = rules } in
+    run (S.slice g 1 pels) stream 0 .value
 
 -- where the slice conforms: its last macroblock_address, macroblock_type, dct_dc_y_past, recon_right_for_prev
 abbrev variables : Way S.Variables → List ℤ

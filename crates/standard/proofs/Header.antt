@@ -151,7 +151,6 @@ module _ (s : List ℕ) where
             back = back;
             forward = ap (λ (q : Picture). q .slice .«motion_forward») e ∙ d .motion;
             backward = ap (λ (q : Picture). q .slice .«motion_backward») e;
-            left = ap (λ (q : Picture). q .slice .«block_data») e ∙ b .left;
           };
         }
 

@@ -53,10 +53,10 @@ module _ {s : List ℕ} where
 
   -- the forward vector behind the type t
   forward-agrees : (g : S.Coding) (t : ℕ) (x : S.Vector) (a : ℕ) → In (g .forward) x
-      → Agree (λ y m. In (g .forward) y × (m ≡ motionOf (g .forward) (flag t 8) y) × (flag t 8 ≡ false → eqb (g .given .type) 2 ≡ true → y
-      ≡ S.zero-vector)) s a (S.forVector g t x) (plain (O.forward (g .given .type) (motionOf (g .forward) (flag t 8) x)))
+      → Agree (λ y m. In (g .forward) y × (m ≡ motionOf (g .forward) (flag t 8) y) × (flag t 8 ≡ false → eqb (g .context .«picture_type») 2 ≡ true → y
+      ≡ S.zero-vector)) s a (S.forVector g t x) (plain (O.forward (g .context .«picture_type») (motionOf (g .forward) (flag t 8) x)))
   unfolding S.forVector O.forward plain bind
-  forward-agrees g t x a i = go (flag t 8) (eqb (g .given .type) 2)
+  forward-agrees g t x a i = go (flag t 8) (eqb (g .context .«picture_type») 2)
     where
       go : (b p : Bool) → Agree (λ y m. In (g .forward) y × (m ≡ motionOf (g .forward) b y) × (b ≡ false → p ≡ true → y ≡ S.zero-vector)) s a
           (cond b (S.vector (g .forward) x) (cond p (give S.zero-vector) (give x)))
@@ -101,17 +101,17 @@ module _ {C D : Type 0} {Q : C → D → Type 0} {s : List ℕ} (g : S.Coding) (
   -- not intra
   pub inter-head : flag t 1 ≡ false
       → ((q : ℕ) (f b : S.Vector) (e : ℕ) → In (g .forward) f → In (g .backward) b
-      → (flag t 8 ≡ false → eqb (g .given .type) 2 ≡ true → f ≡ S.zero-vector) → (flag t 4 ≡ false → b ≡ b₀)
+      → (flag t 8 ≡ false → eqb (g .context .«picture_type») 2 ≡ true → f ≡ S.zero-vector) → (flag t 4 ≡ false → b ≡ b₀)
       → Agree Q s e (F q f b) (G (sliceOf g A q f b (reset t))))
-      → (a : ℕ) → Agree Q s a (their g t q f b₀ F) (onward (plain (O.head (g .given .type) t (sliceOf g A q f b₀ o))) G)
+      → (a : ℕ) → Agree Q s a (their g t q f b₀ F) (onward (plain (O.head (g .context .«picture_type») t (sliceOf g A q f b₀ o))) G)
   unfolding O.head O.vectors plain bind onward leave
   inter-head h k a =
       let x = O.flagged t (sliceOf g A q f b₀ o) in
-      let rest : Bool → Slice → Prog Slice = λ b z. cond b (done (O.still z)) (O.vectors (g .given .type) (dcReset z)) in
+      let rest : Bool → Slice → Prog Slice = λ b z. cond b (done (O.still z)) (O.vectors (g .context .«picture_type») (dcReset z)) in
       a-same (sym (plain-bind-on (O.scale t x) (rest (flag t 1)) G s a)) (
       a-onward _ _ (scale-agrees t x a) (λ q z e w.
       let u = scaleAs q x in
-      let F′ = O.forward (g .given .type) (u .«motion_forward») in
+      let F′ = O.forward (g .context .«picture_type») (u .«motion_forward») in
       let B′ = O.backward (u .«motion_backward») in
       subst (λ (z : Slice). Agree Q s e (onward (S.forVector g t f) (λ f. onward (S.backVector g t b₀) (F q f))) (onward (plain (rest (flag t 1) z)) G))
       (sym w) (
@@ -128,16 +128,16 @@ module _ {C D : Type 0} {Q : C → D → Type 0} {s : List ℕ} (g : S.Coding) (
   pub intra-head : flag t 1 ≡ true → flag t 8 ≡ false → flag t 4 ≡ false
       → ((q : ℕ) (f : S.Vector) (e : ℕ)
       → Agree Q s e (F q f b₀) (G (sliceOf g A q S.zero-vector S.zero-vector (own (flag t 8) (flag t 4) (o .y) (o .cb) (o .cr)))))
-      → (a : ℕ) → Agree Q s a (their g t q f b₀ F) (onward (plain (O.head (g .given .type) t (sliceOf g A q f b₀ o))) G)
+      → (a : ℕ) → Agree Q s a (their g t q f b₀ F) (onward (plain (O.head (g .context .«picture_type») t (sliceOf g A q f b₀ o))) G)
   unfolding O.head S.forVector S.backVector plain bind onward leave
   intra-head h h8 h4 k a =
       let x = O.flagged t (sliceOf g A q f b₀ o) in
-      let rest : Bool → Slice → Prog Slice = λ b z. cond b (done (O.still z)) (O.vectors (g .given .type) (dcReset z)) in
+      let rest : Bool → Slice → Prog Slice = λ b z. cond b (done (O.still z)) (O.vectors (g .context .«picture_type») (dcReset z)) in
       a-same (sym (plain-bind-on (O.scale t x) (rest (flag t 1)) G s a)) (
       a-onward _ _ (scale-agrees t x a) (λ q z e w.
       subst (λ (z : Slice). Agree Q s e (onward (S.forVector g t f) (λ f. onward (S.backVector g t b₀) (F q f))) (onward (plain (rest (flag t 1) z)) G))
       (sym w) (
-      a-same (ap (λ (b : Bool). run (onward (plain (rest b (scaleAs q x))) G) s e) (sym h)) (go q e (eqb (g .given .type) 2)))))
+      a-same (ap (λ (b : Bool). run (onward (plain (rest b (scaleAs q x))) G) s e) (sym h)) (go q e (eqb (g .context .«picture_type») 2)))))
     where
       go : (q e : ℕ) (p : Bool) → Agree Q s e
           (onward (cond (flag t 8) (S.vector (g .forward) f) (cond p (give S.zero-vector) (give f)))

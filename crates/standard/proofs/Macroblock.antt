@@ -13,8 +13,10 @@ use Rattle.laws.proofs.Ints.{v, lit, _⊕_, _⊖_, le-yes, yes-le, yes-lt, no-l
 use Rattle.bits.specs.Bounds.{longestStream}
 use Rattle.bits.specs.Programs.{Prog, done, run, bind}
 use Rattle.codes.specs.Codes.{codeBlockPattern}
+use Rattle.picture.specs.declared.state.Context.{Context}
+use Rattle.picture.specs.declared.state.Matrices.{Matrices}
 use Rattle.picture.specs.declared.state.Slice.{Slice}
-use Rattle.picture.specs.State.{Given, World, world}
+use Rattle.picture.specs.State.{World, world, freshBlock}
 use Rattle.picture.specs.Ways.{Way, on, out, leave, onward, plain, step, give}
 use Rattle.picture.specs.Heads as H
 use Rattle.picture.specs.Heads.{flag, macroblockType}
@@ -44,7 +46,7 @@ either false p q = q refl
 
 -- the relation from its parts
 related : (g : S.Coding) (x : S.Variables) (w : World) (o : Own) (f b : S.Vector) → forNext g false x ≡ f → backNext g false x ≡ b
-    → In (g .forward) f → In (g .backward) b → w ≡ world (sliceOf g (x .«previous_macroblock_address») (x .«quantizer_scale») f b o) (x .pels)
+    → In (g .forward) f → In (g .backward) b → w ≡ world (sliceOf g (x .«previous_macroblock_address») (x .«quantizer_scale») f b o) freshBlock (x .pels)
     → o .forSet ≡ flag (x .«macroblock_type») 8 → o .backSet ≡ flag (x .«macroblock_type») 4
     → pastStart (x .«previous_macroblock_address» +ℤ pos 1) x ≡ eights o → leZ (x .«past_intra_address») (x .«previous_macroblock_address») ≡ true
     → Related g false x w
@@ -60,9 +62,9 @@ related g x w o f b p q i j e s t d h =
       start = λ z. absurd (false≢true z);
     }
 
-module _ (rule : Rule) (g : Given) (df db : S.Direction) (s : List ℕ) (first : Bool) (n : ℕ) (x : S.Variables) (l : List ℕ) (t : ℕ) where
+module _ (rule : Rule) (g : Context) (m : Matrices) (df db : S.Direction) (s : List ℕ) (first : Bool) (n : ℕ) (x : S.Variables) (l : List ℕ) (t : ℕ) where
   abbrev G : S.Coding
-  G = coding rule g df db
+  G = coding rule g m df db
 
   abbrev A : ℤ
   A = x .«previous_macroblock_address» +ℤ pos n
@@ -90,7 +92,7 @@ module _ (rule : Rule) (g : Given) (df db : S.Direction) (s : List ℕ) (first :
   abbrev oursRest : Bool → Bool → Slice → Prog (Way World)
   oursRest intra pattern y =
       onward (step (cond intra (on l) (P.predict g (natAbs (y .«macroblock_address»)) y l))) (λ l.
-      onward (plain (cond pattern (codeBlockPattern) (cond intra (done 63) (done 0)))) (λ c. O.blocks g intra c (world y l)))
+      onward (plain (cond pattern (codeBlockPattern) (cond intra (done 63) (done 0)))) (λ c. O.blocks g m intra c (world y freshBlock l)))
 
   -- 2.4.4.1: behind an intra macroblock the pasts are kept for the next address
   intra-rest : (q : ℕ) (f b : S.Vector) (a : ℕ) (y cb cr : ℤ) → flag t 1 ≡ true → flag t 8 ≡ false → pastStart A x ≡ eights (own (flag t 8) (flag t 4) y cb cr)
@@ -99,10 +101,10 @@ module _ (rule : Rule) (g : Given) (df db : S.Direction) (s : List ℕ) (first :
   unfolding onward leave bind plain O.blocks
   intra-rest q f b a y cb cr h1 h8 p =
       a-after (after true q f b)
-      (intra-blocks rule g df db A q S.zero-vector S.zero-vector s (S.far A x) (flag t 8) (flag t 4) 0 6 (omega arith) _ _ a
+      (intra-blocks rule g m df db A q S.zero-vector S.zero-vector s (S.far A x) (flag t 8) (flag t 4) 0 6 (omega arith) _ _ a
       (record { y = y; cb = cb; cr = cr; is = refl; past = left-six (S.far A x) (x .past) ∙ p })) (λ z w r.
-      related G (after true q f b z) w (own (flag t 8) (flag t 4) (r .y) (r .cb) (r .cr)) S.zero-vector S.zero-vector (for-0 (eqb (g .type) 2))
-      (rw h1 (back-0 (eqb (g .type) 3))) (zero-in df) (zero-in db) (r .is) refl refl
+      related G (after true q f b z) w (own (flag t 8) (flag t 4) (r .y) (r .cb) (r .cr)) S.zero-vector S.zero-vector (for-0 (eqb (g .«picture_type») 2))
+      (rw h1 (back-0 (eqb (g .«picture_type») 3))) (zero-in df) (zero-in db) (r .is) refl refl
       (rw (no-lt (lit 1) (v A ⊕ lit 1 ⊖ v A) (omega arith)) (r .past)) (yes-le (v A) (v A) (omega arith)))
     where
       for-0 : (p2 : Bool) → cond (cond p2 (not (flag t 8)) (flag t 1)) S.zero-vector f ≡ S.zero-vector
@@ -114,18 +116,20 @@ module _ (rule : Rule) (g : Given) (df db : S.Direction) (s : List ℕ) (first :
       back-0 false = refl
 
   -- behind any other they are not used again, and ours are 128
-  inter-rest : (q : ℕ) (f b : S.Vector) (a : ℕ) → flag t 1 ≡ false → In df f → In db b → (flag t 8 ≡ false → eqb (g .type) 2 ≡ true → f ≡ S.zero-vector)
-      → (eqb (g .type) 3 ≡ false → b ≡ S.zero-vector) → leZ (x .«past_intra_address») (x .«previous_macroblock_address») ≡ true → 1 ≤ n
+  inter-rest : (q : ℕ) (f b : S.Vector) (a : ℕ) → flag t 1 ≡ false → In df f → In db b
+      → (flag t 8 ≡ false → eqb (g .«picture_type») 2 ≡ true → f ≡ S.zero-vector)
+      → (eqb (g .«picture_type») 3 ≡ false → b ≡ S.zero-vector) → leZ (x .«past_intra_address») (x .«previous_macroblock_address») ≡ true → 1 ≤ n
       → Agree (Related G false) s a (theirRest false (flag t 2) q f b) (oursRest false (flag t 2) (sliceOf G A q f b (reset t)))
   unfolding O.blocks plain bind
   inter-rest q f b a h1 i j kf kb order some =
       a-onward _ _ (a-step _ _ (predicted-meets G A q f b (reset t) t (natAbs A) l (λ e. (refl, refl)))) (λ p p′ e same.
       subst (λ (p′ : List ℕ). Agree (Related G false) s e (afterPrediction p) (ourPattern p′)) same (
       a-onward _ _ (patterns (flag t 2) e) (λ cbp c e z.
-      subst (λ (c : ℕ). Agree (Related G false) s e (theirBlocks p cbp) (O.lastBlocks g false c 6 (world (sliceOf G A q f b (reset t)) p))) z (
+      subst (λ (c : ℕ). Agree (Related G false) s e (theirBlocks p cbp) (ourBlocks p c)) z (
       a-after (after false q f b)
-      (inter-blocks rule g df db A q f b s (S.far A x) (reset t) (x .past) cbp 6 (omega arith) _ _ e (record { is = refl; past = refl })) (λ z w r.
-      related G (after false q f b z) w (reset t) f b (for-is (eqb (g .type) 2) kf (flag t 8) refl) (back-is (eqb (g .type) 3) refl) i j (r .is) refl refl
+      (inter-blocks rule g m df db A q f b s (S.far A x) (reset t) (x .past) cbp 6 (omega arith) _ _ e (record { is = refl; past = refl })) (λ z w r.
+      related G (after false q f b z) w (reset t) f b (for-is (eqb (g .«picture_type») 2) kf (flag t 8) refl) (back-is (eqb (g .«picture_type») 3) refl)
+      i j (r .is) refl refl
       (rw (yes-lt (lit 1) (v (x .«previous_macroblock_address») ⊕ lit n ⊕ lit 1 ⊖ v (x .«past_intra_address»))
       (omega (arith, le-yes (v (x .«past_intra_address»)) (v (x .«previous_macroblock_address»)) order))) refl)
       (yes-le (v (x .«past_intra_address»)) (v (x .«previous_macroblock_address») ⊕ lit n)
@@ -137,8 +141,11 @@ module _ (rule : Rule) (g : Given) (df db : S.Direction) (s : List ℕ) (first :
       afterPrediction : List ℕ → Prog (Way S.Variables)
       afterPrediction p = onward (cond (flag t 2) (plain codeBlockPattern) (give 0)) (theirBlocks p)
 
+      ourBlocks : List ℕ → ℕ → Prog (Way World)
+      ourBlocks p c = O.lastBlocks g m false c 6 (world (sliceOf G A q f b (reset t)) freshBlock p)
+
       ourPattern : List ℕ → Prog (Way World)
-      ourPattern p = onward (plain (cond (flag t 2) (codeBlockPattern) (done 0))) (λ c. O.lastBlocks g false c 6 (world (sliceOf G A q f b (reset t)) p))
+      ourPattern p = onward (plain (cond (flag t 2) (codeBlockPattern) (done 0))) (ourBlocks p)
 
       patterns : (b : Bool) (e : ℕ) → Agree _≡_ s e (cond b (plain codeBlockPattern) (give 0)) (plain (cond b (codeBlockPattern) (done 0)))
       patterns true e = a-same-both _ e
@@ -150,53 +157,54 @@ module _ (rule : Rule) (g : Given) (df db : S.Direction) (s : List ℕ) (first :
       for-is true k false e = rw e (sym (k e refl))
       for-is false k h8 e = rw h1
 
-      back-is : (p3 : Bool) → eqb (g .type) 3 ≡ p3 → cond (not p3 || flag t 1) S.zero-vector b ≡ b
+      back-is : (p3 : Bool) → eqb (g .«picture_type») 3 ≡ p3 → cond (not p3 || flag t 1) S.zero-vector b ≡ b
       back-is true e = rw h1
       back-is false e = sym (kb e)
 
 -- ---- from the type on
 
-module _ (rule : Rule) (g : Given) (df db : S.Direction) (s : List ℕ) where
+module _ (rule : Rule) (g : Context) (m : Matrices) (df db : S.Direction) (s : List ℕ) where
   abbrev C : S.Coding
-  C = coding rule g df db
+  C = coding rule g m df db
 
-  start-0 : (first : Bool) (u : ℕ) (x : S.Variables) → eqb (g .type) 3 ≡ false → S.backStart C first u x ≡ S.zero-vector
+  start-0 : (first : Bool) (u : ℕ) (x : S.Variables) → eqb (g .«picture_type») 3 ≡ false → S.backStart C first u x ≡ S.zero-vector
   start-0 true u x e = refl
   start-0 false u x e = rw e
 
   coded-agrees : (first : Bool) (n u : ℕ) (x : S.Variables) (l : List ℕ) (w : World) (a : ℕ) → Ready C first n u x l w
-      → Agree (Related C false) s a (S.coded C first n u x l) (M.body g w)
+      → Agree (Related C false) s a (S.coded C first n u x l) (M.body g m w)
   unfolding S.coded M.body M.predictUnlessIntra H.pattern
   coded-agrees first n u x l w a r =
-      let p = macroblockType (g .type) in
+      let p = macroblockType (g .«picture_type») in
       let t = run p s a .value in
       let e = run p s a .at in
       let A = x .«previous_macroblock_address» +ℤ pos n in
       let f = S.forStart C first u x in
       let b = S.backStart C first u x in
       let o = r .o in
-      let F : ℕ → S.Vector → S.Vector → Prog (Way S.Variables) = theirRest rule g df db s first n x l t (flag t 1) (flag t 2) in
-      let K : Slice → Prog (Way World) = oursRest rule g df db s first n x l t (flag t 1) (flag t 2) in
-      let intra : S.inTable (g .type) t ≡ true → flag t 1 ≡ true
+      let F : ℕ → S.Vector → S.Vector → Prog (Way S.Variables) = theirRest rule g m df db s first n x l t (flag t 1) (flag t 2) in
+      let K : Slice → Prog (Way World) = oursRest rule g m df db s first n x l t (flag t 1) (flag t 2) in
+      let intra : S.inTable (g .«picture_type») t ≡ true → flag t 1 ≡ true
       → Agree (Related C false) s e (their C t (x .«quantizer_scale») f b F)
-      (onward (plain (H.head (g .type) t (sliceOf C A (x .«quantizer_scale») f b o))) K) = λ tab h.
-      let q = intra-alone (g .type) t tab h in
+      (onward (plain (H.head (g .«picture_type») t (sliceOf C A (x .«quantizer_scale») f b o))) K) = λ tab h.
+      let q = intra-alone (g .«picture_type») t tab h in
       intra-head C A (x .«quantizer_scale») f b o t (r .for) (r .back) F K h (q .0) (q .1) (λ q′ f′ e.
       let y = sliceOf C A q′ S.zero-vector S.zero-vector (own (flag t 8) (flag t 4) (o .y) (o .cb) (o .cr)) in
-      subst (λ (z : Bool). Agree (Related C false) s e (theirRest rule g df db s first n x l t z (flag t 2) q′ f′ b)
-      (oursRest rule g df db s first n x l t z (flag t 2) y)) (sym h) (
-      subst (λ (z : Bool). Agree (Related C false) s e (theirRest rule g df db s first n x l t true z q′ f′ b)
-      (oursRest rule g df db s first n x l t true z y)) (sym (q .2)) (
-      intra-rest rule g df db s first n x l t q′ f′ b e (o .y) (o .cb) (o .cr) h (q .0) (r .past)))) e in
-      let inter : S.inTable (g .type) t ≡ true → flag t 1 ≡ false
+      subst (λ (z : Bool). Agree (Related C false) s e (theirRest rule g m df db s first n x l t z (flag t 2) q′ f′ b)
+      (oursRest rule g m df db s first n x l t z (flag t 2) y)) (sym h) (
+      subst (λ (z : Bool). Agree (Related C false) s e (theirRest rule g m df db s first n x l t true z q′ f′ b)
+      (oursRest rule g m df db s first n x l t true z y)) (sym (q .2)) (
+      intra-rest rule g m df db s first n x l t q′ f′ b e (o .y) (o .cb) (o .cr) h (q .0) (r .past)))) e in
+      let inter : S.inTable (g .«picture_type») t ≡ true → flag t 1 ≡ false
       → Agree (Related C false) s e (their C t (x .«quantizer_scale») f b F)
-      (onward (plain (H.head (g .type) t (sliceOf C A (x .«quantizer_scale») f b o))) K) = λ tab h.
+      (onward (plain (H.head (g .«picture_type») t (sliceOf C A (x .«quantizer_scale») f b o))) K) = λ tab h.
       inter-head C A (x .«quantizer_scale») f b o t (r .for) (r .back) F K h (λ q′ f′ b′ e i j kf kb.
       let y = sliceOf C A q′ f′ b′ (reset t) in
-      subst (λ (z : Bool). Agree (Related C false) s e (theirRest rule g df db s first n x l t z (flag t 2) q′ f′ b′)
-      (oursRest rule g df db s first n x l t z (flag t 2) y)) (sym h) (
-      inter-rest rule g df db s first n x l t q′ f′ b′ e h i j kf (λ z. kb (no-backward (g .type) t tab z) ∙ start-0 first u x z) (r .order) (r .some))) e in
-      subst (λ (w : World). Agree (Related C false) s a (S.coded C first n u x l) (M.body g w)) (sym (r .is)) (
+      subst (λ (z : Bool). Agree (Related C false) s e (theirRest rule g m df db s first n x l t z (flag t 2) q′ f′ b′)
+      (oursRest rule g m df db s first n x l t z (flag t 2) y)) (sym h) (
+      inter-rest rule g m df db s first n x l t q′ f′ b′ e h i j kf (λ z. kb (no-backward (g .«picture_type») t tab z) ∙ start-0 first u x z) (r .order)
+      (r .some))) e in
+      subst (λ (w : World). Agree (Related C false) s a (S.coded C first n u x l) (M.body g m w)) (sym (r .is)) (
       a-plain p p _ _ refl (a-shall _ _ (λ tab. either (flag t 1) (intra tab) (inter tab))))
 
   -- ---- the whole
@@ -215,7 +223,7 @@ module _ (rule : Rule) (g : Given) (df db : S.Direction) (s : List ℕ) where
   address-is first x w r = ap (λ (w : World). w .slice .«macroblock_address») (r .is)
 
   begins : (x : S.Variables) (w : World) → Related C true x w → (n : ℕ) → 1 ≤ n → (e : ℕ) → inside (x .«previous_macroblock_address» +ℤ pos n) ≡ true
-      → Agree (Related C false) s e (onward (step (S.skipped C true n x)) (S.coded C true n (S.lastType C true n x) x)) (M.firstOf g n w)
+      → Agree (Related C false) s e (onward (step (S.skipped C true n x)) (S.coded C true n (S.lastType C true n x) x)) (M.firstOf g m n w)
   unfolding S.skipped onward leave bind M.firstOf
   begins x w r n some e h =
       let low : ltZ (w .slice .«macroblock_address» +ℤ pos n) (pos 0) ≡ false = ap (λ (z : ℤ). ltZ (z +ℤ pos n) (pos 0)) (address-is true x w r)
@@ -227,7 +235,7 @@ module _ (rule : Rule) (g : Given) (df db : S.Direction) (s : List ℕ) where
       (coded-agrees true n (S.lastType C true n x) x (x .pels) (M.further n w) e (first-ready C x w n some r))
 
   goes-on : (x : S.Variables) (w : World) → Related C false x w → (n : ℕ) → 1 ≤ n → (e : ℕ) → inside (x .«previous_macroblock_address» +ℤ pos n) ≡ true
-      → Agree (Related C false) s e (onward (step (S.skipped C false n x)) (S.coded C false n (S.lastType C false n x) x)) (M.laterOf g n w)
+      → Agree (Related C false) s e (onward (step (S.skipped C false n x)) (S.coded C false n (S.lastType C false n x) x)) (M.laterOf g m n w)
   unfolding M.laterOf
   goes-on x w r n some e h =
       let high : leZ (pos (g .sizes .«mb_size»)) (w .slice .«macroblock_address» +ℤ pos n)
@@ -238,11 +246,11 @@ module _ (rule : Rule) (g : Given) (df db : S.Direction) (s : List ℕ) where
 
   -- 2.4.2.7, 2.4.4: the standard's macroblock() and ours
   pub macroblock-agrees : length s ≤ longestStream → (first : Bool) (x : S.Variables) (w : World) (a : ℕ) → Related C first x w
-      → Agree (Related C false) s a (S.macroblock C first x) (M.macroblock g first w)
+      → Agree (Related C false) s a (S.macroblock C first x) (M.macroblock g m first w)
   unfolding S.macroblock M.macroblock
   macroblock-agrees l first x w a r =
-      a-onward _ _ (increment-agrees s l a) (λ n m e i.
-      subst (λ (m : ℕ). Agree (Related C false) s e (counted first x n) (cond first (M.firstOf g m w) (M.laterOf g m w))) (i .same) (
+      a-onward _ _ (increment-agrees s l a) (λ n k e i.
+      subst (λ (k : ℕ). Agree (Related C false) s e (counted first x n) (cond first (M.firstOf g m k w) (M.laterOf g m k w))) (i .same) (
       a-shall _ _ (λ h. go first x w r n (i .some) e h)))
     where
       counted : Bool → S.Variables → ℕ → Prog (Way S.Variables)
@@ -254,6 +262,6 @@ module _ (rule : Rule) (g : Given) (df db : S.Direction) (s : List ℕ) where
       go : (first : Bool) (x : S.Variables) (w : World) → Related C first x w → (n : ℕ) → 1 ≤ n → (e : ℕ)
           → (leZ (pos 0) (x .«previous_macroblock_address» +ℤ pos n) && ltZ (x .«previous_macroblock_address» +ℤ pos n) (pos (g .sizes .«mb_size»))) ≡ true
           → Agree (Related C false) s e (onward (step (S.skipped C first n x)) (S.coded C first n (S.lastType C first n x) x))
-          (cond first (M.firstOf g n w) (M.laterOf g n w))
+          (cond first (M.firstOf g m n w) (M.laterOf g m n w))
       go true x w r n some e h = begins x w r n some e h
       go false x w r n some e h = goes-on x w r n some e h

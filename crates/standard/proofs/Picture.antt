@@ -15,7 +15,7 @@ use Rattle.picture.specs.declared.state.Sizes.{Sizes}
 use Rattle.picture.specs.declared.state.Matrices.{Matrices}
 use Rattle.picture.specs.declared.state.Stores.{Stores}
 use Rattle.picture.specs.declared.state.Picture.{Picture}
-use Rattle.picture.specs.State.{storesAs}
+use Rattle.picture.specs.State.{storesAs, freshBlock}
 use Rattle.picture.specs.Ways.{Way, on, out, leave, onward, plain, give}
 use Rattle.picture.specs.Pictures as P
 use Rattle.standard.specs.Standard as S
@@ -25,62 +25,81 @@ use Rattle.standard.proofs.Slice.{Begun}
 use Rattle.standard.proofs.Slices.{slices-agree}
 use Rattle.standard.proofs.Header.{header-agrees}
 
--- the picture's header, its pels, the stores with their roles for the next picture, and a start code that is no picture's
+-- the picture's header, its pels, the stores with their roles for the next picture, nothing left over, and a start code that is no picture's
 pub record Result (d : S.Decoded) (f : P.Frame) : Type 0 where
   pub pels : f .store ≡ d .pels
   pub stores : f .picture .stores ≡ d .stores
   pub type : f .picture .«picture_type» ≡ d .header .«picture_coding_type»
   pub begun : Begun (d .header .forward) (d .header .backward) (f .picture .slice)
+  pub left : f .«block_data» ≡ freshBlock
   pub code : eqZ (f .picture .«start_code») (pos 0) ≡ false
 
-module _ (rule : Rule) (s : List ℕ) (long : length s ≤ longestStream) (z : Sizes) (m : Matrices) (l : List ℕ) where
+module _ (rule : Rule) (s : List ℕ) (long : length s ≤ longestStream) (z : Sizes) (m : Matrices) where
   -- behind the header
-  abbrev theirs : S.Direction → S.Direction → ℕ → Stores → Stores → Prog (Way S.Decoded)
-  theirs f b type before after =
-      onward (S.slices (coding rule (record { type = type; sizes = z; stores = before; matrices = m }) f b) l) (λ x.
+  abbrev theirs : S.Direction → S.Direction → ℕ → Stores → Stores → List ℕ → Prog (Way S.Decoded)
+  theirs f b type before after l =
+      onward (S.slices (coding rule (record { «picture_type» = type; sizes = z; stores = before }) m f b) l) (λ x.
       give (record { header = record { «picture_coding_type» = type; forward = f; backward = b }; stores = after; pels = x }))
 
-  coded-agrees : (f b : S.Direction) (q : Picture) (e : ℕ) → Begun f b (q .slice)
-      → Agree Result s e (theirs f b (q .«picture_type») (S.references (q .«picture_type») (q .stores)) (S.turned (q .«picture_type») (q .stores)))
-      (P.coded z m q l)
+  coded-agrees : (f b : S.Direction) (y : P.Frame) (e : ℕ) → Begun f b (y .picture .slice) → y .«block_data» ≡ freshBlock
+      → Agree Result s e (theirs f b (y .picture .«picture_type») (S.references (y .picture .«picture_type») (y .picture .stores))
+      (S.turned (y .picture .«picture_type») (y .picture .stores)) (y .store)) (P.coded z m y)
   unfolding P.coded
-  coded-agrees f b q e begun = go (eqb (q .«picture_type») 3)
+  coded-agrees f b y e begun none = go (eqb (q .«picture_type») 3)
     where
+      q : Picture
+      q = y .picture
+
       t : Stores
       t = q .stores
 
       q′ : Picture
       q′ = storesAs (P.before t) q
 
-      go : (x : Bool) → Agree Result s e (theirs f b (q .«picture_type») (cond x t (P.before t)) (cond x t (P.after t)))
-          (cond x (P.slices (P.given z m q) (P.frame q l))
-          (onward (P.slices (P.given z m q′) (P.frame q′ l)) (λ f. give (P.frame (storesAs (P.after t) (f .picture)) (f .store)))))
+      go : (x : Bool) → Agree Result s e (theirs f b (q .«picture_type») (cond x t (P.before t)) (cond x t (P.after t)) (y .store))
+          (cond x (P.slices (P.contextOf z q) m y)
+          (onward (P.slices (P.contextOf z q′) m (P.inPicture q′ y)) (λ f. give (P.inPicture (storesAs (P.after t) (f .picture)) f))))
       go true =
-          a-after _ (slices-agree rule (P.given z m q) f b s long (q .«picture_type») t (P.frame q l) e begun refl refl)
-          (λ y k r. record { pels = r .shown .pels; stores = r .shown .stores; type = r .shown .type; begun = r .shown .begun; code = r .code })
+          a-after _ (slices-agree rule (P.contextOf z q) m f b s long (q .«picture_type») t y e begun none refl refl)
+          (λ l k r. record {
+            pels = r .shown .pels;
+            stores = r .shown .stores;
+            type = r .shown .type;
+            begun = r .shown .begun;
+            left = r .shown .left;
+            code = r .code;
+          })
       go false =
-          a-onward _ _ (slices-agree rule (P.given z m q′) f b s long (q .«picture_type») (P.before t) (P.frame q′ l) e begun refl refl)
-          (λ y k e r. a-give (record { pels = r .shown .pels; stores = refl; type = r .shown .type; begun = r .shown .begun; code = r .code }))
+          a-onward _ _ (slices-agree rule (P.contextOf z q′) m f b s long (q .«picture_type») (P.before t) (P.inPicture q′ y) e begun none refl refl)
+          (λ l k e r. a-give (record {
+            pels = r .shown .pels;
+            stores = refl;
+            type = r .shown .type;
+            begun = r .shown .begun;
+            left = r .shown .left;
+            code = r .code;
+          }))
 
   -- 2.4.2.5, 2.4.4: the standard's picture() and ours
-  pub picture-agrees : (p : Picture) (df db : S.Direction) (a : ℕ) → Begun df db (p .slice)
-      → Agree Result s a (S.picture (rule .rules) z m (p .stores) df db l) (P.picture z m p l)
+  pub picture-agrees : (y : P.Frame) (df db : S.Direction) (a : ℕ) → Begun df db (y .picture .slice) → y .«block_data» ≡ freshBlock
+      → Agree Result s a (S.picture (rule .rules) z m (y .picture .stores) df db (y .store)) (P.picture z m y)
   unfolding S.picture P.picture
-  picture-agrees p df db a b =
-      let K : Bool → P.Headed → Prog (Way P.Frame) = λ t h. cond t (P.coded z m (h .picture) l) (give (P.frame (h .picture) l)) in
+  picture-agrees y df db a b none =
+      let p = y .picture in
+      let K : Bool → P.Headed → Prog (Way P.Frame) = λ t h. cond t (P.coded z m (P.inPicture (h .picture) y)) (give (P.inPicture (h .picture) y)) in
       let K′ : P.Headed → Prog (Way P.Frame) = λ h. K (h .decoded) h in
       a-same (run-plain (P.pictureHeader p) K′ s a ∙ sym (run-bind (P.pictureHeader p) K′ s a)) (
       a-onward _ _ (header-agrees s p df db b a) (λ h x e r.
+      let q = x .picture in
+      let their : ℕ → Stores → Prog (Way S.Decoded) = λ type t.
+      theirs (h .forward) (h .backward) type (S.references type t) (S.turned type t) (y .store) in
       a-same (ap (λ (t : Bool). run (K t x) s e) (sym (r .decoded))) (
-      subst (λ (type : ℕ). Agree Result s e (theirs (h .forward) (h .backward) type (S.references type (p .stores)) (S.turned type (p .stores)))
-      (P.coded z m (x .picture) l)) (r .type) (
-      subst (λ (t : Stores). Agree Result s e
-      (theirs (h .forward) (h .backward) (x .picture .«picture_type») (S.references (x .picture .«picture_type») t)
-      (S.turned (x .picture .«picture_type») t)) (P.coded z m (x .picture) l)) (r .stores) (
-      coded-agrees (h .forward) (h .backward) (x .picture) e (r .begun))))))
+      subst (λ (type : ℕ). Agree Result s e (their type (p .stores)) (P.coded z m (P.inPicture q y))) (r .type) (
+      subst (λ (t : Stores). Agree Result s e (their (q .«picture_type») t) (P.coded z m (P.inPicture q y))) (r .stores) (
+      coded-agrees (h .forward) (h .backward) (P.inPicture q y) e (r .begun) none)))))
 
   -- so a picture that conforms never ends with 8 or 9 (RULES Q8, Q9)
-  pub never-leaves : (p : Picture) (df db : S.Direction) (a : ℕ) → Begun df db (p .slice)
-      → S.conforms (run (S.picture (rule .rules) z m (p .stores) df db l) s a .value) ≡ true
-      → (n : ℕ) (k : List ℕ) → run (P.picture z m p l) s a .value ≡ out n k → ⊥
-  never-leaves p df db a b c n k e = absurd (true≢false (sym c ∙ left-forbidden (picture-agrees p df db a b) n k e))
+  pub never-leaves : (y : P.Frame) (df db : S.Direction) (a : ℕ) → Begun df db (y .picture .slice) → y .«block_data» ≡ freshBlock
+      → S.conforms (run (S.picture (rule .rules) z m (y .picture .stores) df db (y .store)) s a .value) ≡ true
+      → (n : ℕ) (k : List ℕ) → run (P.picture z m y) s a .value ≡ out n k → ⊥
+  never-leaves y df db a b none c n k e = absurd (true≢false (sym c ∙ left-forbidden (picture-agrees y df db a b none) n k e))

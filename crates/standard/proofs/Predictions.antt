@@ -106,7 +106,7 @@ module _ (p : Place) (size : (p .size ≡ 8) ⊎ (p .size ≡ 16)) (right down :
 
 -- one plane
 plane-meets : (g : S.Coding) (m : Macroblock) (k : ℕ) (average : Bool) (q : Plane) (right down : ℤ) (l : List ℕ)
-    → WayMeets _≡_ (S.predictedPlane g m k average q right down l) (P.unlessRefused (ofStores m k (g .given .stores .cur) average q right down l))
+    → WayMeets _≡_ (S.predictedPlane g m k average q right down l) (P.unlessRefused (ofStores m k (g .context .stores .cur) average q right down l))
 unfolding S.predictedPlane P.unlessRefused follow
 plane-meets g m k average q right down l = go (S.inPicture p right down) refl
   where
@@ -117,7 +117,7 @@ plane-meets g m k average q right down l = go (S.inPicture p right down) refl
     from = planeStart k q (macroblocks m)
 
     to : ℕ
-    to = planeStart (g .given .stores .cur) q (macroblocks m)
+    to = planeStart (g .context .stores .cur) q (macroblocks m)
 
     go : (t : Bool) → S.inPicture p right down ≡ t
         → WayMeets _≡_ (cond t (on (putMid to (bytes p) l (S.pels p (midOf from (bytes p) l) (midOf to (bytes p) l) right down average))) S.forbidden)
@@ -129,14 +129,14 @@ plane-meets g m k average q right down l = go (S.inPicture p right down) refl
 
 -- the three planes
 pub from-meets : (g : S.Coding) (address k : ℕ) (d : S.Direction) (set : Bool) (x : S.Vector) (average : Bool) (l : List ℕ)
-    → WayMeets _≡_ (S.predictedFrom g address k d x average l) (P.predictFrom (g .given) address k (motionOf d set x) average l)
+    → WayMeets _≡_ (S.predictedFrom g address k d x average l) (P.predictFrom (g .context) address k (motionOf d set x) average l)
 unfolding S.predictedFrom P.predictFrom predictedPlanes
 from-meets g address k d set x average l =
-    let m = macroblockAt (g .given .sizes .«mb_width») (g .given .sizes .«mb_height») address in
+    let m = macroblockAt (g .context .sizes .«mb_width») (g .context .sizes .«mb_height») address in
     let right = inHalves (d .«full_pel_vector») (x .right) in
     let down = inHalves (d .«full_pel_vector») (x .down) in
     let plane = plane-meets g m k average in
-    let ours = ofStores m k (g .given .stores .cur) average in
+    let ours = ofStores m k (g .context .stores .cur) average in
     subst (WayMeets _≡_ (S.predictedFrom g address k d x average l))
     (sym (refused-next (ours Y right down l) (λ s. next (ours Cr (chroma right) (chroma down) s) (ours Cb (chroma right) (chroma down))))) (
     also-meets _≡_ (S.predictedPlane g m k average Y right down l) (P.unlessRefused (ours Y right down l)) _ _ (plane Y right down l) (λ a b e.

@@ -7,14 +7,15 @@ use lib.Dec.{eqb}
 use lib.IntN.{ℤ, pos, negsuc, _+ℤ_, _*ℤ_}
 use borrow.Author.Tests.{eqb-true}
 use Rattle.bits.specs.Programs.{eqZ}
-use lib.ListN.{replicate}
 use lib.Signed.{ltZ, leZ}
 use Rattle.coefficients.specs.Dequantise.{quantiser, dequantised}
 use Rattle.coefficients.specs.Standard.{dctRecon}
 use Rattle.motion.specs.Displacement.{InRange}
+use Rattle.picture.specs.declared.state.Context.{Context}
+use Rattle.picture.specs.declared.state.Matrices.{Matrices}
 use Rattle.picture.specs.declared.state.Motion.{Motion}
 use Rattle.picture.specs.declared.state.Slice.{Slice}
-use Rattle.picture.specs.State.{Given, World, world}
+use Rattle.picture.specs.State.{World, world, freshBlock}
 use Rattle.picture.specs.Heads.{flag}
 use Rattle.standard.specs.Standard as S
 use Rattle.standard.specs.Standard.{Direction, Vector, Coding, Pasts, pasts, Variables, far}
@@ -40,7 +41,7 @@ pub record Own : Type 0 where
 abbrev pub own : Bool → Bool → ℤ → ℤ → ℤ → Own
 own f b y cb cr = record { forSet = f; backSet = b; y = y; cb = cb; cr = cr }
 
--- our slice, with nothing left over
+-- our slice
 abbrev pub sliceOf : Coding → ℤ → ℕ → Vector → Vector → Own → Slice
 sliceOf g address scale for back o = record {
   «quantizer_scale» = scale;
@@ -48,7 +49,6 @@ sliceOf g address scale for back o = record {
   «motion_forward» = motionOf (g .forward) (o .forSet) for;
   «motion_backward» = motionOf (g .backward) (o .backSet) back;
   «dc_predictor» = o .y ∷ o .cb ∷ o .cr ∷ [];
-  «block_data» = replicate 64 (pos 0);
 }
 
 -- 2.4.4.1 in units of 8: our predictors are pasts
@@ -66,14 +66,15 @@ forNext g first v = S.forStart g first (v .«macroblock_type») v
 abbrev pub backNext : Coding → Bool → Variables → Vector
 backNext g first v = S.backStart g first (v .«macroblock_type») v
 
--- before a macroblock: vectors and predictors as they are used if it is the next in the picture; the flags are those of the last type, as a skip in a B
--- picture needs them
+-- before a macroblock: vectors and predictors as they are used if it is the next in the picture, and nothing left over; the flags are those of the last
+-- type, as a skip in a B picture needs them
 pub record Related (g : Coding) (first : Bool) (v : Variables) (w : World) : Type 0 where
   pub o : Own
-  pub is : w ≡ world (sliceOf g (v .«previous_macroblock_address») (v .«quantizer_scale») (forNext g first v) (backNext g first v) o) (v .pels)
+  pub is : w ≡ world (sliceOf g (v .«previous_macroblock_address») (v .«quantizer_scale») (forNext g first v) (backNext g first v) o) freshBlock (v .pels)
   pub for : In (g .forward) (forNext g first v)
   pub back : In (g .backward) (backNext g first v)
-  pub flags : eqb (g .given .type) 3 ≡ true → first ≡ false → (o .forSet ≡ flag (v .«macroblock_type») 8) × (o .backSet ≡ flag (v .«macroblock_type») 4)
+  pub flags : eqb (g .context .«picture_type») 3 ≡ true → first ≡ false
+      → (o .forSet ≡ flag (v .«macroblock_type») 8) × (o .backSet ≡ flag (v .«macroblock_type») 4)
   pub past : pastStart (v .«previous_macroblock_address» +ℤ pos 1) v ≡ eights o
   pub order : leZ (v .«past_intra_address») (v .«previous_macroblock_address») ≡ true
   pub start : first ≡ true → ltZ (v .«past_intra_address») (v .«previous_macroblock_address») ≡ true
@@ -100,5 +101,5 @@ same-by (negsuc m) (negsuc n) e = ap negsuc (eqb-true m n e)
 pub printed : Rule
 printed = record { rules = R.printed; same = λ i z s q e. same-by (dctRecon i z s q) (dequantised (quantiser i s) z q) e; transform = λ recon. refl }
 
-abbrev pub coding : Rule → Given → Direction → Direction → Coding
-coding rule g f b = record { given = g; forward = f; backward = b; rules = rule .rules }
+abbrev pub coding : Rule → Context → Matrices → Direction → Direction → Coding
+coding rule g m f b = record { context = g; matrices = m; forward = f; backward = b; rules = rule .rules }

@@ -10,7 +10,7 @@ use lib.IntN.{ℤ, pos, natAbs, _+ℤ_}
 use lib.Signed.{ltZ, leZ}
 use Rattle.laws.proofs.Tests.{both}
 use Rattle.laws.proofs.Ints.{v, lit, _⊕_, _⊖_, le-yes, lt-yes, yes-lt}
-use Rattle.picture.specs.State.{World, world}
+use Rattle.picture.specs.State.{World, world, freshBlock}
 use Rattle.picture.specs.Ways.{Way, on, out, also}
 use Rattle.picture.specs.Predictions as P
 use Rattle.picture.specs.Macroblocks as M
@@ -24,28 +24,28 @@ use Rattle.standard.proofs.Predictions.{also-meets, from-meets}
 -- ---- predictions
 
 module _ (g : S.Coding) (A : ℤ) (q : ℕ) (for back : S.Vector) (o : Own) (t address : ℕ) (l : List ℕ) where
-  pub predicted-meets : (eqb (g .given .type) 3 ≡ true → (o .forSet ≡ flag t 8) × (o .backSet ≡ flag t 4))
-      → WayMeets _≡_ (S.predicted g t address for back l) (P.predict (g .given) address (sliceOf g A q for back o) l)
+  pub predicted-meets : (eqb (g .context .«picture_type») 3 ≡ true → (o .forSet ≡ flag t 8) × (o .backSet ≡ flag t 4))
+      → WayMeets _≡_ (S.predicted g t address for back l) (P.predict (g .context) address (sliceOf g A q for back o) l)
   unfolding S.predicted P.predict P.predictBoth also
-  predicted-meets e = go (eqb (g .given .type) 3) e
+  predicted-meets e = go (eqb (g .context .«picture_type») 3) e
     where
       X : Way (List ℕ)
-      X = S.predictedFrom g address (g .given .stores .fwd) (g .forward) for false l
+      X = S.predictedFrom g address (g .context .stores .fwd) (g .forward) for false l
 
       X′ : Way (List ℕ)
-      X′ = P.predictFrom (g .given) address (g .given .stores .fwd) (motionOf (g .forward) (o .forSet) for) false l
+      X′ = P.predictFrom (g .context) address (g .context .stores .fwd) (motionOf (g .forward) (o .forSet) for) false l
 
       Y : List ℕ → Way (List ℕ)
-      Y = S.predictedFrom g address (g .given .stores .bwd) (g .backward) back true
+      Y = S.predictedFrom g address (g .context .stores .bwd) (g .backward) back true
 
       Y′ : List ℕ → Way (List ℕ)
-      Y′ = P.predictFrom (g .given) address (g .given .stores .bwd) (motionOf (g .backward) (o .backSet) back) true
+      Y′ = P.predictFrom (g .context) address (g .context .stores .bwd) (motionOf (g .backward) (o .backSet) back) true
 
       Z : Way (List ℕ)
-      Z = S.predictedFrom g address (g .given .stores .bwd) (g .backward) back false l
+      Z = S.predictedFrom g address (g .context .stores .bwd) (g .backward) back false l
 
       Z′ : Way (List ℕ)
-      Z′ = P.predictFrom (g .given) address (g .given .stores .bwd) (motionOf (g .backward) (o .backSet) back) false l
+      Z′ = P.predictFrom (g .context) address (g .context .stores .bwd) (motionOf (g .backward) (o .backSet) back) false l
 
       idle : (w u : Way (List ℕ)) → WayMeets _≡_ w u → WayMeets _≡_ w (also u (λ l. on l))
       idle (on x) (on y) h = h
@@ -54,10 +54,11 @@ module _ (g : S.Coding) (A : ℤ) (q : ℕ) (for back : S.Vector) (o : Own) (t a
 
       flags : (F B : Bool) → WayMeets _≡_ (cond (F && B) (also X Y) (cond F X (cond B Z S.forbidden))) (cond F (also X′ (λ l. cond B (Y′ l) (on l))) Z′)
       flags true true =
-          also-meets _≡_ X X′ Y Y′ (from-meets g address (g .given .stores .fwd) (g .forward) (o .forSet) for false l)
-          (λ x y h. subst (λ (y : List ℕ). WayMeets _≡_ (Y x) (Y′ y)) h (from-meets g address (g .given .stores .bwd) (g .backward) (o .backSet) back true x))
-      flags true false = idle X X′ (from-meets g address (g .given .stores .fwd) (g .forward) (o .forSet) for false l)
-      flags false true = from-meets g address (g .given .stores .bwd) (g .backward) (o .backSet) back false l
+          also-meets _≡_ X X′ Y Y′ (from-meets g address (g .context .stores .fwd) (g .forward) (o .forSet) for false l)
+          (λ x y h. subst (λ (y : List ℕ). WayMeets _≡_ (Y x) (Y′ y)) h
+          (from-meets g address (g .context .stores .bwd) (g .backward) (o .backSet) back true x))
+      flags true false = idle X X′ (from-meets g address (g .context .stores .fwd) (g .forward) (o .forSet) for false l)
+      flags false true = from-meets g address (g .context .stores .bwd) (g .backward) (o .backSet) back false l
       flags false false = tt
 
       go : (b : Bool) → (b ≡ true → (o .forSet ≡ flag t 8) × (o .backSet ≡ flag t 4))
@@ -69,24 +70,25 @@ module _ (g : S.Coding) (A : ℤ) (q : ℕ) (for back : S.Vector) (o : Own) (t a
           (subst (λ (B : Bool). WayMeets _≡_ (cond (flag t 8 && flag t 4) (also X Y) (cond (flag t 8) X (cond (flag t 4) Z S.forbidden)))
           (cond (flag t 8) (also X′ (λ l. cond B (Y′ l) (on l))) Z′)) (sym (e refl .1))
           (flags (flag t 8) (flag t 4)))
-      go false e = from-meets g address (g .given .stores .fwd) (g .forward) (o .forSet) for false l
+      go false e = from-meets g address (g .context .stores .fwd) (g .forward) (o .forSet) for false l
 
-module _ (g : S.Coding) (A : ℤ) (q : ℕ) (for back : S.Vector) (o : Own) (t : ℕ) (e : eqb (g .given .type) 3 ≡ true
+module _ (g : S.Coding) (A : ℤ) (q : ℕ) (for back : S.Vector) (o : Own) (t : ℕ) (e : eqb (g .context .«picture_type») 3 ≡ true
     → (o .forSet ≡ flag t 8) × (o .backSet ≡ flag t 4)) where
   skipped-meets : (address n : ℕ) (l : List ℕ)
-      → WayMeets _≡_ (S.skippedFrom g t for back address n l) (P.predictSkipped (g .given) (sliceOf g A q for back o) address n l)
+      → WayMeets _≡_ (S.skippedFrom g t for back address n l) (P.predictSkipped (g .context) (sliceOf g A q for back o) address n l)
   unfolding S.skippedFrom P.predictSkipped
   skipped-meets address zero l = refl
   skipped-meets address (suc n) l =
       also-meets _≡_ (S.predicted g t address for back l) _ _ _ (predicted-meets g A q for back o t address l e)
       (λ x y h. subst (λ (y : List ℕ). WayMeets _≡_ (S.skippedFrom g t for back (address + 1) n x)
-      (P.predictSkipped (g .given) (sliceOf g A q for back o) (address + 1) n y)) h (skipped-meets (address + 1) n x))
+      (P.predictSkipped (g .context) (sliceOf g A q for back o) (address + 1) n y)) h (skipped-meets (address + 1) n x))
 
 -- ---- before the type is read: address, vectors and predictors as the macroblock behind one of the type t will use them
 
 pub record Ready (g : S.Coding) (first : Bool) (n t : ℕ) (x : S.Variables) (l : List ℕ) (w : World) : Type 0 where
   pub o : Own
-  pub is : w ≡ world (sliceOf g (x .«previous_macroblock_address» +ℤ pos n) (x .«quantizer_scale») (S.forStart g first t x) (S.backStart g first t x) o) l
+  pub is : w ≡ world (sliceOf g (x .«previous_macroblock_address» +ℤ pos n) (x .«quantizer_scale») (S.forStart g first t x) (S.backStart g first t x) o)
+      freshBlock l
   pub for : In (g .forward) (S.forStart g first t x)
   pub back : In (g .backward) (S.backStart g first t x)
   pub past : pastStart (x .«previous_macroblock_address» +ℤ pos n) x ≡ eights o
@@ -113,7 +115,7 @@ not-true true e = absurd (false≢true e)
 not-true false e = refl
 
 abbrev ours : S.Coding → S.Variables → Own → World
-ours g x o = world (sliceOf g (x .«previous_macroblock_address») (x .«quantizer_scale») (forNext g false x) (backNext g false x) o) (x .pels)
+ours g x o = world (sliceOf g (x .«previous_macroblock_address») (x .«quantizer_scale») (forNext g false x) (backNext g false x) o) freshBlock (x .pels)
 
 abbrev dcs : Own → Own
 dcs o = own (o .forSet) (o .backSet) (pos 128) (pos 128) (pos 128)
@@ -137,25 +139,25 @@ module _ (g : S.Coding) (x : S.Variables) (w : World) (n : ℕ) (some : 1 ≤ n)
 
   -- our state at this address, where a macroblock has been skipped
   abbrev skippedTo : ℤ → S.Vector → S.Vector → Own → List ℕ → World
-  skippedTo A f b o l = world (sliceOf g A (x .«quantizer_scale») f b (dcs o)) l
+  skippedTo A f b o l = world (sliceOf g A (x .«quantizer_scale») f b (dcs o)) freshBlock l
 
   abbrev Goal : World → Type 0
-  Goal w = WayMeets (Ready g false n (S.lastType g false n x) x) (S.skipped g false n x) (M.advance (g .given) n w)
+  Goal w = WayMeets (Ready g false n (S.lastType g false n x) x) (S.skipped g false n x) (M.advance (g .context) n w)
 
   module _ (r : Related g false x w) where
     -- none is skipped
     next-ready : 1 ≡ n → Goal (ours g x (r .o))
     unfolding S.skipped M.advance
     next-ready e =
-        subst (λ (n : ℕ). WayMeets (Ready g false n (S.lastType g false n x) x) (S.skipped g false n x) (M.advance (g .given) n (ours g x (r .o)))) e
+        subst (λ (n : ℕ). WayMeets (Ready g false n (S.lastType g false n x) x) (S.skipped g false n x) (M.advance (g .context) n (ours g x (r .o)))) e
         (record { o = r .o; is = refl; for = r .for; back = r .back; past = r .past; order = r .order; some = omega arith })
 
     module _ (h : 2 ≤ n) where
       -- skipped macroblocks of the type t with the vectors f and b, from which the next one starts as if behind a macroblock of the type u
-      skips-ready : (t u : ℕ) (f b : S.Vector) → (eqb (g .given .type) 3 ≡ true → (r .o .forSet ≡ flag t 8) × (r .o .backSet ≡ flag t 4))
+      skips-ready : (t u : ℕ) (f b : S.Vector) → (eqb (g .context .«picture_type») 3 ≡ true → (r .o .forSet ≡ flag t 8) × (r .o .backSet ≡ flag t 4))
           → S.forStart g false u x ≡ f → S.backStart g false u x ≡ b → In (g .forward) f → In (g .backward) b
           → WayMeets (Ready g false n u x) (S.skippedFrom g t f b from (n - 1) (x .pels))
-          (also (P.predictSkipped (g .given) (skippedTo (x .«previous_macroblock_address») f b (r .o) [] .slice) from (n - 1) (x .pels))
+          (also (P.predictSkipped (g .context) (skippedTo (x .«previous_macroblock_address») f b (r .o) [] .slice) from (n - 1) (x .pels))
           (λ l. on (skippedTo (x .«previous_macroblock_address» +ℤ pos n) f b (r .o) l)))
       skips-ready t u f b k ef eb i j =
           right-meets (Ready g false n u x) (S.skippedFrom g t f b from (n - 1) (x .pels)) _ _
@@ -170,25 +172,25 @@ module _ (g : S.Coding) (x : S.Variables) (w : World) (n : ℕ) (some : 1 ≤ n)
           })
 
       -- in a P picture
-      p-ready : eqb (g .given .type) 2 ≡ true → Goal (ours g x (r .o))
+      p-ready : eqb (g .context .«picture_type») 2 ≡ true → Goal (ours g x (r .o))
       unfolding S.skipped M.advance M.skipReset
       p-ready p =
-          let b : eqb (g .given .type) 3 ≡ false = ap (λ (k : ℕ). eqb k 3) (eqb-true (g .given .type) 2 p) in
+          let b : eqb (g .context .«picture_type») 3 ≡ false = ap (λ (k : ℕ). eqb k 3) (eqb-true (g .context .«picture_type») 2 p) in
           rw (le-ltb n 2 h, lt-ltb 1 n h, p, b)
           (skips-ready 0 0 S.zero-vector S.zero-vector (λ e. absurd (false≢true (sym b ∙ e))) (rw p refl) (rw b refl) (zero-in (g .forward))
           (zero-in (g .backward)))
 
       -- in a B picture
-      b-ready : eqb (g .given .type) 2 ≡ false → Goal (ours g x (r .o))
+      b-ready : eqb (g .context .«picture_type») 2 ≡ false → Goal (ours g x (r .o))
       unfolding S.skipped M.advance M.skipReset
-      b-ready p = go (eqb (g .given .type) 3 && not (flag (x .«macroblock_type») 1)) refl
+      b-ready p = go (eqb (g .context .«picture_type») 3 && not (flag (x .«macroblock_type») 1)) refl
         where
           t : ℕ
           t = x .«macroblock_type»
 
-          go : (y : Bool) → (eqb (g .given .type) 3 && not (flag t 1)) ≡ y → Goal (ours g x (r .o))
+          go : (y : Bool) → (eqb (g .context .«picture_type») 3 && not (flag t 1)) ≡ y → Goal (ours g x (r .o))
           go true e =
-              let c = both (eqb (g .given .type) 3) (not (flag t 1)) e in
+              let c = both (eqb (g .context .«picture_type») 3) (not (flag t 1)) e in
               let i : flag t 1 ≡ false = not-true _ (c .1) in
               let kept : Bool → S.Vector = λ z. cond z S.zero-vector (x .forPrev) in
               let f : forNext g false x ≡ x .forPrev = ap (λ (z : Bool). kept (cond z (not (flag t 8)) (flag t 1))) p ∙ ap kept i in
@@ -198,9 +200,9 @@ module _ (g : S.Coding) (x : S.Variables) (w : World) (n : ℕ) (some : 1 ≤ n)
           go false e = rw (le-ltb n 2 h, p, e) tt
 
     pub later-ready : Goal w
-    later-ready = subst Goal (sym (r .is)) (go (ltb n 2) refl (eqb (g .given .type) 2) refl)
+    later-ready = subst Goal (sym (r .is)) (go (ltb n 2) refl (eqb (g .context .«picture_type») 2) refl)
       where
-        go : (t : Bool) → ltb n 2 ≡ t → (p : Bool) → eqb (g .given .type) 2 ≡ p → Goal (ours g x (r .o))
+        go : (t : Bool) → ltb n 2 ≡ t → (p : Bool) → eqb (g .context .«picture_type») 2 ≡ p → Goal (ours g x (r .o))
         go true e p q = next-ready (omega (arith, ltb-true n 2 e))
         go false e true q = p-ready (ltb-false n 2 e) q
         go false e false q = b-ready (ltb-false n 2 e) q

@@ -6,7 +6,7 @@ use Prim.Native.Nat.{ℕ, _-_, _*_, _≤_}
 use native.Mathlib.Omega.{arith}
 use lib.Dec.{eqb}
 use lib.IntN.{ℤ, pos, negsuc, _+ℤ_}
-use lib.ListN.{length, replicate}
+use lib.ListN.{length}
 use lib.Signed.{ltZ, leZ}
 use Rattle.laws.specs.Turns.{Turn, again, stop}
 use Rattle.laws.proofs.Ints.{v, lit, _⊕_, _⊖_, yes-lt, yes-le, le-yes, lt-yes}
@@ -14,8 +14,10 @@ use Rattle.bits.specs.Bounds.{longestStream}
 use Rattle.bits.specs.Bits.{has, got}
 use Rattle.bits.specs.Programs.{Prog, Out, done, run, bind, bits, nonZero, many}
 use Rattle.bits.proofs.Programs.{run-bind}
+use Rattle.picture.specs.declared.state.Context.{Context}
+use Rattle.picture.specs.declared.state.Matrices.{Matrices}
 use Rattle.picture.specs.declared.state.Slice.{Slice}
-use Rattle.picture.specs.State.{Given, World, world}
+use Rattle.picture.specs.State.{World, inSlice, freshBlock}
 use Rattle.picture.specs.Ways.{Way, on, out}
 use Rattle.picture.specs.Macroblocks as M
 use Rattle.picture.specs.Slices as O
@@ -25,7 +27,7 @@ use Rattle.standard.proofs.Related.{motionOf, own, Related, Rule, codin
 use Rattle.standard.proofs.Heads.{zero-in}
 use Rattle.standard.proofs.Macroblock.{macroblock-agrees}
 
--- our state before a slice: full-pel flags and r of the picture's header, and nothing left over
+-- our state before a slice: full-pel flags and r of the picture's header
 pub record Begun (f b : S.Direction) (x : Slice) : Type 0 where
   pub forSet : Bool
   pub backSet : Bool
@@ -33,16 +35,15 @@ pub record Begun (f b : S.Direction) (x : Slice) : Type 0 where
   pub back : S.Vector
   pub forward : x .«motion_forward» ≡ motionOf f forSet for
   pub backward : x .«motion_backward» ≡ motionOf b backSet back
-  pub left : x .«block_data» ≡ replicate 64 (pos 0)
 
 -- between two macroblocks
 record Between (g : S.Coding) (x : S.Slicing) (y : O.Slicing) : Type 0 where
   first : y .first ≡ x .first
   same : Related g (x .first) (x .variables) (y .world)
 
-module _ (rule : Rule) (g : Given) (df db : S.Direction) (s : List ℕ) (long : length s ≤ longestStream) where
+module _ (rule : Rule) (g : Context) (m : Matrices) (df db : S.Direction) (s : List ℕ) (long : length s ≤ longestStream) where
   abbrev C : S.Coding
-  C = coding rule g df db
+  C = coding rule g m df db
 
   abbrev Turns : Out (Turn S.Slicing (Way S.Variables)) → Out (Turn O.Slicing (Way World)) → Type 0
   Turns o u = TurnMeets (Between C) (Related C false) (o .value) (o .at) (u .value) (u .at)
@@ -94,19 +95,19 @@ module _ (rule : Rule) (g : Given) (df db : S.Direction) (s : List ℕ) (long : 
   unfolding S.pastMacroblock run
   left n l e u = tt
 
-  turn-meets : (x : S.Slicing) (y : O.Slicing) (a : ℕ) → Between C x y → Turns (run (S.sliceTurn C x) s a) (run (O.sliceTurn g y) s a)
+  turn-meets : (x : S.Slicing) (y : O.Slicing) (a : ℕ) → Between C x y → Turns (run (S.sliceTurn C x) s a) (run (O.sliceTurn g m y) s a)
   unfolding S.sliceTurn O.sliceTurn
   turn-meets x y a i =
       let o = run (S.macroblock C (x .first) (x .variables)) s a in
-      let u = run (M.macroblock g (y .first) (y .world)) s a in
-      let m : Agree (Related C false) s a (S.macroblock C (x .first) (x .variables)) (M.macroblock g (y .first) (y .world)) =
-      rw (i .first) (macroblock-agrees rule g df db s long (x .first) (x .variables) (y .world) a (i .same)) in
+      let u = run (M.macroblock g m (y .first) (y .world)) s a in
+      let r : Agree (Related C false) s a (S.macroblock C (x .first) (x .variables)) (M.macroblock g m (y .first) (y .world)) =
+      rw (i .first) (macroblock-agrees rule g m df db s long (x .first) (x .variables) (y .world) a (i .same)) in
       rw (
         run-bind (S.macroblock C (x .first) (x .variables)) (S.pastMacroblock C) s a,
-        run-bind (M.macroblock g (y .first) (y .world))
+        run-bind (M.macroblock g m (y .first) (y .world))
             (O.pastMacroblock g) s a,
       )
-      (go (o .value) (o .at) (u .value) (u .at) (m .is))
+      (go (o .value) (o .at) (u .value) (u .at) (r .is))
     where
       go : (x : Way S.Variables) (e : ℕ) (y : Way World) (j : ℕ) → Meets (Related C false) x e y j
           → Turns (run (S.pastMacroblock C x) s e) (run (O.pastMacroblock g y) s j)
@@ -118,29 +119,29 @@ module _ (rule : Rule) (g : Given) (df db : S.Direction) (s : List ℕ) (long : 
   -- ---- the whole
 
   -- the state at the beginning of a slice
-  start-related : (position q : ℕ) (w : World) → Begun df db (w .slice)
-      → Related C true (S.sliceStart C position q (w .store)) (world (O.sliceStart g position q (w .slice)) (w .store))
-  start-related position q w b =
-      let m = (position - 1) * g .sizes .«mb_width» in
+  start-related : (position q : ℕ) (w : World) → Begun df db (w .slice) → w .«block_data» ≡ freshBlock
+      → Related C true (S.sliceStart C position q (w .store)) (inSlice (O.sliceStart g position q (w .slice)) w)
+  start-related position q w b none =
+      let before = (position - 1) * g .sizes .«mb_width» in
       record {
         o = own (b .forSet) (b .backSet) (pos 128) (pos 128) (pos 128);
-        is = rw (b .forward, b .backward, b .left);
+        is = rw (b .forward, b .backward, none);
         for = zero-in df;
         back = zero-in db;
         flags = λ e f. absurd (false≢true (sym f));
-        past = rw (yes-lt (lit 1) (lit m ⊖ lit 1 ⊕ lit 1 ⊖ v (negsuc 1)) (omega arith)) refl;
-        order = yes-le (v (negsuc 1)) (lit m ⊖ lit 1) (omega arith);
-        start = λ e. yes-lt (v (negsuc 1)) (lit m ⊖ lit 1) (omega arith);
+        past = rw (yes-lt (lit 1) (lit before ⊖ lit 1 ⊕ lit 1 ⊖ v (negsuc 1)) (omega arith)) refl;
+        order = yes-le (v (negsuc 1)) (lit before ⊖ lit 1) (omega arith);
+        start = λ e. yes-lt (v (negsuc 1)) (lit before ⊖ lit 1) (omega arith);
       }
 
   -- 2.4.2.6, 2.4.4: the standard's slice() and ours, from behind the start code on
-  pub slice-agrees : (position : ℕ) (w : World) (a : ℕ) → Begun df db (w .slice)
-      → Agree (Related C false) s a (S.slice C position (w .store)) (O.slice g position w)
+  pub slice-agrees : (position : ℕ) (w : World) (a : ℕ) → Begun df db (w .slice) → w .«block_data» ≡ freshBlock
+      → Agree (Related C false) s a (S.slice C position (w .store)) (O.slice g m position w)
   unfolding S.slice O.slice
-  slice-agrees position w a b =
+  slice-agrees position w a b none =
       let o = run (bits 5) s a in
       let e = run O.extra s (o .at) in
       let q = o .value in
       a-by _ _ (run-plain (bits 5) _ s a ∙ run-plain O.extra _ s (o .at)) (run-bind (bits 5) _ s a ∙ run-bind O.extra _ s (o .at))
-      (a-loop (Between C) (Related C false) s (S.sliceTurn C) (O.sliceTurn g) (on w) turn-meets many _ _ (e .at)
-      (record { first = refl; same = start-related position q w b }) .is)
+      (a-loop (Between C) (Related C false) s (S.sliceTurn C) (O.sliceTurn g m) (on w) turn-meets many _ _ (e .at)
+      (record { first = refl; same = start-related position q w b none }) .is)

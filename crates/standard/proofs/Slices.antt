@@ -14,9 +14,11 @@ use Rattle.bits.specs.Bounds.{longestStream}
 use Rattle.bits.specs.Bits.{has, found}
 use Rattle.bits.specs.Programs.{Out, done, run, bind, many, eqZ}
 use Rattle.bits.proofs.Programs.{run-bind}
+use Rattle.picture.specs.declared.state.Context.{Context}
+use Rattle.picture.specs.declared.state.Matrices.{Matrices}
 use Rattle.picture.specs.declared.state.Stores.{Stores}
 use Rattle.picture.specs.declared.state.Picture.{Picture}
-use Rattle.picture.specs.State.{Given, World, world, startCodeAs, sliceAs}
+use Rattle.picture.specs.State.{World, world, startCodeAs, sliceAs, freshBlock}
 use Rattle.picture.specs.Ways.{Way, on, out, leave}
 use Rattle.picture.specs.Slices as O
 use Rattle.picture.specs.Pictures as P
@@ -31,9 +33,9 @@ not-picture (pos zero) h = absurd (false≢true h)
 not-picture (pos (suc n)) h = ne-eqb (suc n) 0 (λ e. omega arith)
 not-picture (negsuc n) h = absurd (false≢true h)
 
-module _ (rule : Rule) (g : Given) (df db : S.Direction) (s : List ℕ) (long : length s ≤ longestStream) (ty : ℕ) (st : Stores) where
+module _ (rule : Rule) (g : Context) (m : Matrices) (df db : S.Direction) (s : List ℕ) (long : length s ≤ longestStream) (ty : ℕ) (st : Stores) where
   abbrev C : S.Coding
-  C = coding rule g df db
+  C = coding rule g m df db
 
   -- a macroblock leaves what a slice begins with
   begun-again : (x : S.Variables) (w : World) → Related C false x w → Begun df db (w .slice)
@@ -45,13 +47,13 @@ module _ (rule : Rule) (g : Given) (df db : S.Direction) (s : List ℕ) (long : 
         back = backNext C false x;
         forward = ap (λ (w : World). w .slice .«motion_forward») (r .is);
         backward = ap (λ (w : World). w .slice .«motion_backward») (r .is);
-        left = ap (λ (w : World). w .slice .«block_data») (r .is);
       }
 
   -- what the standard knows of a frame between slices, and behind them
   pub record Shown (l : List ℕ) (f : P.Frame) : Type 0 where
     pub pels : f .store ≡ l
     pub begun : Begun df db (f .picture .slice)
+    pub left : f .«block_data» ≡ freshBlock
     pub type : f .picture .«picture_type» ≡ ty
     pub stores : f .picture .stores ≡ st
 
@@ -82,13 +84,21 @@ module _ (rule : Rule) (g : Given) (df db : S.Direction) (s : List ℕ) (long : 
       address : leZ (pos n) (w .slice .«macroblock_address» +ℤ pos 1) ≡ leZ (pos n) (prev +ℤ pos 1)
       address = ap (λ (w : World). leZ (pos n) (w .slice .«macroblock_address» +ℤ pos 1)) (r .is)
 
-      shown : Shown (x .pels) (P.frame (sliceAs (w .slice) p) (w .store))
-      shown = record { pels = ap (λ (w : World). w .store) (r .is); begun = begun-again x w r; type = pt; stores = ps }
+      after : P.Frame
+      after = P.frame (sliceAs (w .slice) p) (w .«block_data») (w .store)
+
+      shown : Shown (x .pels) after
+      shown = record {
+        pels = ap (λ (w : World). w .store) (r .is);
+        begun = begun-again x w r;
+        left = ap (λ (w : World). w .«block_data») (r .is);
+        type = pt;
+        stores = ps;
+      }
 
       go : (more : Bool) → ltZ (prev +ℤ pos 1) (pos n) ≡ more → (last : Bool) → leZ (pos n) (w .slice .«macroblock_address» +ℤ pos 1) ≡ last
           → Turns (run (cond more (done (again (record { begun = true; pels = x .pels }))) (done (stop (on (x .pels))))) s e)
-          (run (cond last (done (stop (on (P.frame (sliceAs (w .slice) p) (w .store)))))
-          (done (again (P.slicesOf true (P.frame (sliceAs (w .slice) p) (w .store)))))) s e)
+          (run (cond last (done (stop (on after))) (done (again (P.slicesOf true after)))) s e)
       go true h false k = (refl, record { same = refl; shown = shown })
       go false h true k = (refl, record { shown = shown; code = pc })
       go true h true k =
@@ -108,14 +118,14 @@ module _ (rule : Rule) (g : Given) (df db : S.Direction) (s : List ℕ) (long : 
 
   -- a slice, in the frame that has kept its start code
   slice-meets : (c : ℤ) (l : List ℕ) (p : Picture) → p .«picture_type» ≡ ty → p .stores ≡ st → eqZ (p .«start_code») (pos 0) ≡ false
-      → (k : List ℕ) (e : ℕ) → k ≡ l → Begun df db (p .slice)
-      → Turns (run (bind (S.slice C (natAbs c) l) (S.pastSlice C)) s e) (run (bind (O.slice g (natAbs c) (world (p .slice) k)) (P.pastSlice g p)) s e)
-  slice-meets c l p pt ps pc k e same b =
+      → (w : World) (e : ℕ) → w .store ≡ l → Begun df db (w .slice) → w .«block_data» ≡ freshBlock
+      → Turns (run (bind (S.slice C (natAbs c) l) (S.pastSlice C)) s e) (run (bind (O.slice g m (natAbs c) w) (P.pastSlice g p)) s e)
+  slice-meets c l p pt ps pc w e same b none =
       subst (λ (l : List ℕ). Turns (run (bind (S.slice C (natAbs c) l) (S.pastSlice C)) s e)
-      (run (bind (O.slice g (natAbs c) (world (p .slice) k)) (P.pastSlice g p)) s e)) same
-      (rw (run-bind (S.slice C (natAbs c) k) (S.pastSlice C) s e, run-bind (O.slice g (natAbs c) (world (p .slice) k)) (P.pastSlice g p) s e)
-      (go (run (S.slice C (natAbs c) k) s e .value) (run (S.slice C (natAbs c) k) s e .at) _ _
-      (slice-agrees rule g df db s long (natAbs c) (world (p .slice) k) e b .is)))
+      (run (bind (O.slice g m (natAbs c) w) (P.pastSlice g p)) s e)) same
+      (rw (run-bind (S.slice C (natAbs c) (w .store)) (S.pastSlice C) s e, run-bind (O.slice g m (natAbs c) w) (P.pastSlice g p) s e)
+      (go (run (S.slice C (natAbs c) (w .store)) s e .value) (run (S.slice C (natAbs c) (w .store)) s e .at) _ _
+      (slice-agrees rule g m df db s long (natAbs c) w e b none .is)))
     where
       go : (x : Way S.Variables) (e : ℕ) (y : Way World) (j : ℕ) → Meets (Related C false) x e y j
           → Turns (run (S.pastSlice C x) s e) (run (P.pastSlice g p y) s j)
@@ -124,7 +134,7 @@ module _ (rule : Rule) (g : Given) (df db : S.Direction) (s : List ℕ) (long : 
       go (on x) e (out n l) j m = absurd m
       go (out n l) e y j m = left n l e _
 
-  turn-meets : (x : S.Slices) (y : P.Slices) (a : ℕ) → Kept x y → Turns (run (S.slicesTurn C x) s a) (run (P.slicesTurn g y) s a)
+  turn-meets : (x : S.Slices) (y : P.Slices) (a : ℕ) → Kept x y → Turns (run (S.slicesTurn C x) s a) (run (P.slicesTurn g m y) s a)
   unfolding S.slicesTurn P.slicesTurn bind run
   turn-meets x y a i = go (P.isSlice (found s a .code)) refl (P.isExtra (found s a .code)) (y .begun) (x .begun) (i .same)
     where
@@ -137,23 +147,28 @@ module _ (rule : Rule) (g : Given) (df db : S.Direction) (s : List ℕ) (long : 
       p : Picture
       p = startCodeAs c (y .frame .picture)
 
+      w : World
+      w = world (p .slice) (y .frame .«block_data») (y .frame .store)
+
       go : (t : Bool) → P.isSlice c ≡ t → (u yb xb : Bool) → yb ≡ xb
           → Turns (run (cond t (bind (S.slice C (natAbs c) (x .pels)) (S.pastSlice C))
           (cond (u && not xb) (done (again (record { begun = false; pels = x .pels }))) (done (stop S.forbidden)))) s e)
-          (run (cond t (bind (O.slice g (natAbs c) (world (p .slice) (y .frame .store))) (P.pastSlice g p))
-          (cond (u && not yb) (done (again (P.slicesOf false (P.frame p (y .frame .store))))) (done (stop (on (P.frame p (y .frame .store))))))) s e)
-      go true h u yb xb q = slice-meets c (x .pels) p (i .shown .type) (i .shown .stores) (not-picture c h) (y .frame .store) e (i .shown .pels)
-          (i .shown .begun)
+          (run (cond t (bind (O.slice g m (natAbs c) w) (P.pastSlice g p))
+          (cond (u && not yb) (done (again (P.slicesOf false (P.inPicture p (y .frame))))) (done (stop (on (P.inPicture p (y .frame))))))) s e)
+      go true h u yb xb q = slice-meets c (x .pels) p (i .shown .type) (i .shown .stores) (not-picture c h) w e (i .shown .pels)
+          (i .shown .begun) (i .shown .left)
       go false h false yb xb q = tt
       go false h true false false q =
-          (refl, record { same = refl; shown = record { pels = i .shown .pels; begun = i .shown .begun; type = i .shown .type; stores = i .shown .stores } })
+          let k = i .shown in
+          (refl, record { same = refl; shown = record { pels = k .pels; begun = k .begun; left = k .left; type = k .type; stores = k .stores } })
       go false h true false true q = tt
       go false h true true false q = absurd (false≢true (sym q))
       go false h true true true q = tt
 
   -- 2.4.2.5: the standard's slices of a picture and ours: the same store, at the same place
-  pub slices-agree : (f : P.Frame) (a : ℕ) → Begun df db (f .picture .slice) → f .picture .«picture_type» ≡ ty → f .picture .stores ≡ st
-      → Agree Ended s a (S.slices C (f .store)) (P.slices g f)
+  pub slices-agree : (f : P.Frame) (a : ℕ) → Begun df db (f .picture .slice) → f .«block_data» ≡ freshBlock → f .picture .«picture_type» ≡ ty
+      → f .picture .stores ≡ st
+      → Agree Ended s a (S.slices C (f .store)) (P.slices g m f)
   unfolding S.slices P.slices
-  slices-agree f a b pt ps = a-loop Kept Ended s (S.slicesTurn C) (P.slicesTurn g) (on f) turn-meets many _ (P.slicesOf false f) a
-      (record { same = refl; shown = record { pels = refl; begun = b; type = pt; stores = ps } })
+  slices-agree f a b none pt ps = a-loop Kept Ended s (S.slicesTurn C) (P.slicesTurn g m) (on f) turn-meets many _ (P.slicesOf false f) a
+      (record { same = refl; shown = record { pels = refl; begun = b; left = none; type = pt; stores = ps } })

@@ -76,13 +76,13 @@ pub record Spared (cur n : ℕ) (l k : List ℕ) : Type 0 where
   pub long : length k ≡ length l
   pub same : (i : ℕ) → (i < cur * (384 * n)) ⊎ (cur * (384 * n) + 384 * n ≤ i) → getD k i 0 ≡ getD l i 0
 
-module _ (g : S.Coding) (l : List ℕ) (three : g .given .stores .cur * (384 * g .given .sizes .«mb_size») + 384 * g .given .sizes .«mb_size» ≤ length l)
-    (area : g .given .sizes .«mb_size» ≡ g .given .sizes .«mb_width» * g .given .sizes .«mb_height») where
+module _ (g : S.Coding) (l : List ℕ) (three : g .context .stores .cur * (384 * g .context .sizes .«mb_size») + 384 * g .context .sizes .«mb_size» ≤ length l)
+    (area : g .context .sizes .«mb_size» ≡ g .context .sizes .«mb_width» * g .context .sizes .«mb_height») where
   abbrev n : ℕ
-  n = g .given .sizes .«mb_size»
+  n = g .context .sizes .«mb_size»
 
   abbrev cur : ℕ
-  cur = g .given .stores .cur
+  cur = g .context .stores .cur
 
   abbrev Same : List ℕ → Type 0
   Same k = Spared cur n l k
@@ -115,10 +115,10 @@ module _ (g : S.Coding) (l : List ℕ) (three : g .given .stores .cur * (384 * g
   bytes-are m Cb = omega arith
 
   plane-spared : (a k : ℕ) (average : Bool) (q : Plane) (right down : ℤ) (x : List ℕ) → Same x
-      → WayIs Same (S.predictedPlane g (macroblockAt (g .given .sizes .«mb_width») (g .given .sizes .«mb_height») a) k average q right down x)
+      → WayIs Same (S.predictedPlane g (macroblockAt (g .context .sizes .«mb_width») (g .context .sizes .«mb_height») a) k average q right down x)
   unfolding S.predictedPlane
   plane-spared a k average q right down x h =
-      let m = macroblockAt (g .given .sizes .«mb_width») (g .given .sizes .«mb_height») a in
+      let m = macroblockAt (g .context .sizes .«mb_width») (g .context .sizes .«mb_height») a in
       let p = blockOf m (blockSize q) in
       let to = planeStart cur q (macroblocks m) in
       let stores : cur * (384 * n) ≡ cur * (384 * macroblocks m) = ap (λ (k : ℕ). cur * (384 * k)) area in
@@ -137,9 +137,9 @@ module _ (g : S.Coding) (l : List ℕ) (three : g .given .stores .cur * (384 * g
   predicted-spared : (t a : ℕ) (f b : S.Vector) (x : List ℕ) → Same x → WayIs Same (S.predicted g t a f b x)
   unfolding S.predicted
   predicted-spared t a f b x h =
-      let past = g .given .stores .fwd in
-      let future = g .given .stores .bwd in
-      by-case (WayIs Same) (not (eqb (g .given .type) 3)) (λ e. from-spared a past (g .forward) f false x h) (λ e.
+      let past = g .context .stores .fwd in
+      let future = g .context .stores .bwd in
+      by-case (WayIs Same) (not (eqb (g .context .«picture_type») 3)) (λ e. from-spared a past (g .forward) f false x h) (λ e.
       by-case (WayIs Same) (S.«macroblock_motion_forward» t && S.«macroblock_motion_backward» t)
       (λ e. is-also Same Same _ _ (from-spared a past (g .forward) f false x h) (λ x h. from-spared a future (g .backward) b true x h)) (λ e.
       by-case (WayIs Same) (S.«macroblock_motion_forward» t) (λ e. from-spared a past (g .forward) f false x h) (λ e.
@@ -154,8 +154,8 @@ module _ (g : S.Coding) (l : List ℕ) (three : g .given .stores .cur * (384 * g
   unfolding S.skipped
   skipped-spared first k v h =
       by-case (WayIs Same) (first || ltb k 2) (λ e. h) (λ e.
-      by-case (WayIs Same) (eqb (g .given .type) 2) (λ e. skips-spared 0 S.zero-vector S.zero-vector _ _ (v .pels) h) (λ e.
-      by-case (WayIs Same) (eqb (g .given .type) 3 && not (S.«macroblock_intra» (v .«macroblock_type»)))
+      by-case (WayIs Same) (eqb (g .context .«picture_type») 2) (λ e. skips-spared 0 S.zero-vector S.zero-vector _ _ (v .pels) h) (λ e.
+      by-case (WayIs Same) (eqb (g .context .«picture_type») 3 && not (S.«macroblock_intra» (v .«macroblock_type»)))
       (λ e. skips-spared (v .«macroblock_type») (v .forPrev) (v .backPrev) _ _ (v .pels) h) (λ e. tt)))
 
   -- ---- blocks
@@ -163,7 +163,7 @@ module _ (g : S.Coding) (l : List ℕ) (three : g .given .stores .cur * (384 * g
   written-spared : (intra : Bool) (i a : ℕ) (f : S.Filled) (x : List ℕ) → Same x → Same (S.written g intra i a f x)
   unfolding S.written
   written-spared intra i a f x h =
-      let m = macroblockAt (g .given .sizes .«mb_width») (g .given .sizes .«mb_height») a in
+      let m = macroblockAt (g .context .sizes .«mb_width») (g .context .sizes .«mb_height») a in
       let start = planeStart cur (planeOf i) n in
       let size = planeLength (planeOf i) n in
       let before = midOf start size x in
@@ -262,15 +262,16 @@ module _ (r : S.Rules) (z : Sizes) (m : Matrices) (t : Stores) (l s : List ℕ) 
       g-then _ _ (λ h.
       g-onward {P = Spared (t .cur) (z .«mb_size») l} _ (go h (eqb (h .«picture_coding_type») 3)) (λ x i. g-done (record { spared = i; stores = refl })))
     where
-      given : S.Header → Stores → S.Coding
-      given h t = record {
-        given = record { type = h .«picture_coding_type»; sizes = z; stores = t; matrices = m };
+      coding : S.Header → Stores → S.Coding
+      coding h t = record {
+        context = record { «picture_type» = h .«picture_coding_type»; sizes = z; stores = t };
+        matrices = m;
         forward = h .forward;
         backward = h .backward;
         rules = r;
       }
 
       go : (h : S.Header) (b : Bool)
-          → Gives s (WayIs (Spared (t .cur) (z .«mb_size») l)) (S.slices (given h (cond b t (record { cur = t .cur; fwd = t .bwd; bwd = t .bwd }))) l)
-      go h true = slices-spared (given h t) l three area
-      go h false = slices-spared (given h (record { cur = t .cur; fwd = t .bwd; bwd = t .bwd })) l three area
+          → Gives s (WayIs (Spared (t .cur) (z .«mb_size») l)) (S.slices (coding h (cond b t (record { cur = t .cur; fwd = t .bwd; bwd = t .bwd }))) l)
+      go h true = slices-spared (coding h t) l three area
+      go h false = slices-spared (coding h (record { cur = t .cur; fwd = t .bwd; bwd = t .bwd })) l three area

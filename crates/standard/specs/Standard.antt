@@ -9,7 +9,7 @@ unfoldable pub use State.*
 unfoldable pub use Prediction.*
 unfoldable pub use Block.*
 use Rattle.codes.specs.Codes.{macroblockAddressIncrement, codeBlockPattern}
-use Rattle.picture.specs.{declared.state.Stores.Stores, declared.state.Sizes.Sizes, declared.state.Matrices.Matrices}
+use Rattle.picture.specs.{declared.state.Stores.Stores, declared.state.Sizes.Sizes}
 use Rattle.picture.specs.{Heads.macroblockType, Slices.extra}
 
 -- 2.4.2.7: macroblock_stuffing, macroblock_escape (each adds 33), macroblock_address_increment (Table B.1)
@@ -25,8 +25,8 @@ increment = do
 unfoldable pub coded : Coding → Bool → ℕ → ℕ → Variables → List ℕ → Prog (Way Variables)
 coded g first n last v l = do
   let address = v .«previous_macroblock_address» +ℤ pos n
-  t ← plain (macroblockType (g .given .type))
-  shall (inTable (g .given .type) t)
+  t ← plain (macroblockType (g .context .«picture_type»))
+  shall (inTable (g .context .«picture_type») t)
   scale ← if «macroblock_quant» t then plain (bits 5) else give (v .«quantizer_scale»)
   for ← forVector g t (forStart g first last v)
   back ← backVector g t (backStart g first last v)
@@ -49,7 +49,7 @@ unfoldable pub macroblock : Coding → Bool → Variables → Prog (Way Variable
 macroblock g first v = do
   n ← increment
   let address = v .«previous_macroblock_address» +ℤ pos n
-  shall (leZ (pos 0) address && ltZ address (pos (g .given .sizes .«mb_size»)))
+  shall (leZ (pos 0) address && ltZ address (pos (g .context .sizes .«mb_size»)))
   l ← step (skipped g first n v)
   coded g first n (lastType g first n v) v l
 
@@ -60,7 +60,7 @@ pub record Slicing : Type 0 where
 
 -- behind the last macroblock of the picture there is no other
 abbrev pub isMore : Coding → Variables → Bool
-isMore g v = ltZ (v .«previous_macroblock_address» +ℤ pos 1) (pos (g .given .sizes .«mb_size»))
+isMore g v = ltZ (v .«previous_macroblock_address» +ℤ pos 1) (pos (g .context .sizes .«mb_size»))
 
 -- 2.4.2.6: do macroblock() while (nextbits() != '000 0000 0000 0000 0000 0000')
 unfoldable pub pastMacroblock : Coding → Way Variables → Prog (Turn Slicing (Way Variables))
@@ -76,7 +76,7 @@ sliceTurn g x = bind (macroblock g (x .first) (x .variables)) (pastMacroblock g)
 -- 2.4.3.6: previous_macroblock_address = (slice_vertical_position - 1) * mb_width - 1. 2.4.4.1: past_intra_address = -2. What else stands is not used
 abbrev pub sliceStart : Coding → ℕ → ℕ → List ℕ → Variables
 sliceStart g position q l = record {
-  «previous_macroblock_address» = pos ((position - 1) * g .given .sizes .«mb_width») -ℤ pos 1;
+  «previous_macroblock_address» = pos ((position - 1) * g .context .sizes .«mb_width») -ℤ pos 1;
   «past_intra_address» = negsuc 1;
   «quantizer_scale» = q;
   «macroblock_type» = 0;
@@ -157,6 +157,6 @@ unfoldable pub picture : Rules → Sizes → Matrices → Stores → Direction �
 picture r z m t f b l = do
   h ← header f b
   let type = h .«picture_coding_type»
-  let g : Given = record { type = type; sizes = z; stores = references type t; matrices = m }
-  x ← slices (record { given = g; forward = h .forward; backward = h .backward; rules = r }) l
+  let g : Context = record { «picture_type» = type; sizes = z; stores = references type t }
+  x ← slices (record { context = g; matrices = m; forward = h .forward; backward = h .backward; rules = r }) l
   give (record { header = h; stores = turned type t; pels = x })

@@ -19,7 +19,7 @@ unfoldable pub reconstructed : Coding → Bool → ℕ → Filled → List Pair 
 reconstructed g intra scale f [] = on f
 reconstructed g intra scale f (p ∷ ps) =
     let place = getD zigZag (f .n + p .run) 0 in
-    let quant = getD (matrixFor (g .given) intra) place 0 in
+    let quant = getD (matrixFor (g .matrices) intra) place 0 in
     if g .rules .admitted intra (p .level) scale quant then
     reconstructed g intra scale (record { recon = set (f .recon) place (g .rules .dctRecon intra (p .level) scale quant); n = f .n + p .run + 1 }) ps
     else forbidden
@@ -56,9 +56,9 @@ pub record Blocks : Type 0 where
 -- 2.4.4.1, 2.4.4.2: the pels of block i in its plane become the transformed values, or these are added to them; clipped to 0 to 255
 unfoldable pub written : Coding → Bool → ℕ → ℕ → Filled → List ℕ → List ℕ
 written g intra i address f l =
-    let m = macroblockAt (g .given .sizes .«mb_width») (g .given .sizes .«mb_height») address in
-    let start = planeStart (g .given .stores .cur) (planeOf i) (g .given .sizes .«mb_size») in
-    let size = planeLength (planeOf i) (g .given .sizes .«mb_size») in
+    let m = macroblockAt (g .context .sizes .«mb_width») (g .context .sizes .«mb_height») address in
+    let start = planeStart (g .context .stores .cur) (planeOf i) (g .context .sizes .«mb_size») in
+    let size = planeLength (planeOf i) (g .context .sizes .«mb_size») in
     let before = midOf start size l in
     let x = g .rules .transform (f .recon) in
     putMid start size l (if intra then overwrite before (blockPlace m i) (blockWidth m i) x else addBlock before (blockPlace m i) (blockWidth m i) x)

@@ -15,11 +15,11 @@ use Rattle.standard.specs.Standard.State.{«macroblock_motion_forward»,
 -- macroblock_motion_forward. 2.4.4.3 (B): and where the last one was intra
 abbrev pub forStart : Coding → Bool → ℕ → Variables → Vector
 forStart g first t v =
-    if first || (if eqb (g .given .type) 2 then not («macroblock_motion_forward» t) else «macroblock_intra» t) then zero-vector else v .forPrev
+    if first || (if eqb (g .context .«picture_type») 2 then not («macroblock_motion_forward» t) else «macroblock_intra» t) then zero-vector else v .forPrev
 
 -- 2.4.4.3 (B): the same of recon_.._back_prev; other pictures have no backward vectors
 abbrev pub backStart : Coding → Bool → ℕ → Variables → Vector
-backStart g first t v = if first || not (eqb (g .given .type) 3) || «macroblock_intra» t then zero-vector else v .backPrev
+backStart g first t v = if first || not (eqb (g .context .«picture_type») 3) || «macroblock_intra» t then zero-vector else v .backPrev
 
 -- 2.4.2.7, 2.4.4.2: motion_horizontal_.., then motion_vertical_.., each with its residual
 unfoldable pub vector : Direction → Vector → Prog (Way Vector)
@@ -31,7 +31,7 @@ vector d prev = do
 -- 2.4.4.2: without data the vector is 0 in a P picture. 2.4.4.3: in a B picture it is the one before
 unfoldable pub forVector : Coding → ℕ → Vector → Prog (Way Vector)
 forVector g t prev =
-    if «macroblock_motion_forward» t then vector (g .forward) prev else (if eqb (g .given .type) 2 then give zero-vector else give prev)
+    if «macroblock_motion_forward» t then vector (g .forward) prev else (if eqb (g .context .«picture_type») 2 then give zero-vector else give prev)
 
 unfoldable pub backVector : Coding → ℕ → Vector → Prog (Way Vector)
 backVector g t prev = if «macroblock_motion_backward» t then vector (g .backward) prev else give prev
@@ -59,13 +59,13 @@ unfoldable pub predictedPlane : Coding → Macroblock → ℕ → Bool → Plane
 predictedPlane g m k average q right down l =
     let p = blockOf m (blockSize q) in
     let from = planeStart k q (macroblocks m) in
-    let to = planeStart (g .given .stores .cur) q (macroblocks m) in
+    let to = planeStart (g .context .stores .cur) q (macroblocks m) in
     if inPicture p right down then on (putMid to (bytes p) l (pels p (midOf from (bytes p) l) (midOf to (bytes p) l) right down average)) else forbidden
 
 -- from one reference: a full-pel vector is doubled, and for Cr and Cb the vector is halved
 unfoldable pub predictedFrom : Coding → ℕ → ℕ → Direction → Vector → Bool → List ℕ → Way (List ℕ)
 predictedFrom g address k d x average l =
-    let m = macroblockAt (g .given .sizes .«mb_width») (g .given .sizes .«mb_height») address in
+    let m = macroblockAt (g .context .sizes .«mb_width») (g .context .sizes .«mb_height») address in
     let right = inHalves (d .«full_pel_vector») (x .right) in
     let down = inHalves (d .«full_pel_vector») (x .down) in
     also (predictedPlane g m k average Y right down l) λ l.
@@ -74,9 +74,9 @@ predictedFrom g address k d x average l =
 -- 2.4.4.3 (B): by macroblock_motion_forward and macroblock_motion_backward. 2.4.4.2 (P): forward, by the vector 0 where there is none
 unfoldable pub predicted : Coding → ℕ → ℕ → Vector → Vector → List ℕ → Way (List ℕ)
 predicted g t address for back l =
-    let forward = predictedFrom g address (g .given .stores .fwd) (g .forward) for false l in
-    let backward = predictedFrom g address (g .given .stores .bwd) (g .backward) back in
-    if not (eqb (g .given .type) 3) then forward
+    let forward = predictedFrom g address (g .context .stores .fwd) (g .forward) for false l in
+    let backward = predictedFrom g address (g .context .stores .bwd) (g .backward) back in
+    if not (eqb (g .context .«picture_type») 3) then forward
     else (if «macroblock_motion_forward» t && «macroblock_motion_backward» t then also forward (backward true)
     else (if «macroblock_motion_forward» t then forward
     else (if «macroblock_motion_backward» t then backward false l else forbidden)))
@@ -93,10 +93,10 @@ skipped g first n v =
     let from = natAbs (v .«previous_macroblock_address» +ℤ pos 1) in
     let t = v .«macroblock_type» in
     if first || ltb n 2 then on (v .pels)
-    else (if eqb (g .given .type) 2 then skippedFrom g 0 zero-vector zero-vector from (n - 1) (v .pels)
-    else (if eqb (g .given .type) 3 && not («macroblock_intra» t) then skippedFrom g t (v .forPrev) (v .backPrev) from (n - 1) (v .pels)
+    else (if eqb (g .context .«picture_type») 2 then skippedFrom g 0 zero-vector zero-vector from (n - 1) (v .pels)
+    else (if eqb (g .context .«picture_type») 3 && not («macroblock_intra» t) then skippedFrom g t (v .forPrev) (v .backPrev) from (n - 1) (v .pels)
     else forbidden))
 
 -- 2.4.4.4: macroblock_type of the last macroblock decoded: in a P picture a skipped one has no flag
 abbrev pub lastType : Coding → Bool → ℕ → Variables → ℕ
-lastType g first n v = if not first && ltb 1 n && eqb (g .given .type) 2 then 0 else v .«macroblock_type»
+lastType g first n v = if not first && ltb 1 n && eqb (g .context .«picture_type») 2 then 0 else v .«macroblock_type»

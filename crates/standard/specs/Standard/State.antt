@@ -1,6 +1,6 @@
 -- What a picture's slices are given, the variables of the decoding process (2.4.4), and macroblock_type.
 use Rattle.codes.specs.Standard.{Code, macroblockTypeIntraCodes, macroblockTypePredictiveCodes, macroblockTypeBCodes}
-use Rattle.standard.specs.Standard.Words.{Bool, false, _||_, List, [], _∷_, ℕ, eqb, ℤ, pos, if_then_else_, Given, flag}
+use Rattle.standard.specs.Standard.Words.{Bool, false, _||_, List, [], _∷_, ℕ, eqb, ℤ, pos, if_then_else_, Context, Matrices, flag}
 
 -- 2.4.4.2: a vector in the units of the stream: recon_right_.., recon_down_..
 pub record Vector : Type 0 where
@@ -21,9 +21,10 @@ pub record Rules : Type 0 where
   pub admitted : Bool → ℤ → ℕ → ℕ → Bool
   pub transform : List ℤ → List ℤ
 
--- of sequence header and picture header (2.4.3.2, 2.4.3.4): picture_coding_type is `type` in `given`, beside sizes, matrices and the roles of the stores
+-- of sequence header and picture header (2.4.3.2, 2.4.3.4): picture_coding_type is `picture_type` in `context`, beside sizes and the roles of the stores
 pub record Coding : Type 0 where
-  pub given : Given
+  pub context : Context
+  pub matrices : Matrices
   pub forward : Direction
   pub backward : Direction
   pub rules : Rules

@@ -10,10 +10,9 @@ use lib.ListN.{getD}
 use mir.Syntax.{w32}
 use mir.Val.{toZ, ofZ}
 use Rattle.coefficients.specs.Dcs.{dcInside}
-use Rattle.coefficients.specs.Dequantise.{quantiser}
 use Rattle.coefficients.specs.Blocks.{readOf}
 use Rattle.coefficients.proofs.Kept.{Kept}
-use Rattle.picture.specs.Blocks.{predictorOf}
+use Rattle.picture.specs.Blocks.{predictorOf, quantiserOf}
 use Rattle.picture.proofs.Signed.{inside-read, address-read}
 use Rattle.blocks.proofs.BlockEnds.{kept, block-out, block-on}
 use Rattle.blocks.proofs.blocks.one_block.Statement.{statement}
@@ -36,7 +35,7 @@ abbrev written : tie.After-predicted → tie.After-write-block
 written c = c .before .before .before .before
 
 quantiser-is : (c : tie.After-predictor-of) → let a = entry c .args in
-    c .before .before .quantiser-of .result ≡ quantiser (a .coded .intra) (a .state .«quantizer_scale»)
+    c .before .before .quantiser-of .result ≡ quantiserOf (a .coded .context) (a .coded .intra) (a .state)
 quantiser-is c = c .before .before .quantiser-of .ensures
 
 -- the predictor, as the code reads it
@@ -54,7 +53,7 @@ read-kept : (c : tie.After-read-block) → Kept (readOf (c .read-block .last .1 
 read-kept c =
     let s = entry (predictor c) in
     let a = s .args in
-    kept (a .coded .setting) (now (a .tables)) (a .coded .intra) (a .number) (a .state) (now (a .values)) (now (a .store)) (s .pre .0) (s .pre .1 .1)
+    kept (a .coded .context) (now (a .tables)) (a .coded .intra) (a .number) (a .state) (now (a .values)) (now (a .store)) (s .pre .0) (s .pre .1 .1)
     (quantiser-is (predictor c)) (predictor-is (predictor c)) (c .read-block .ensures)
 
 read-block-requires : tie.Need-read-block-requires
@@ -68,7 +67,7 @@ returns c =
     let x = c .before .before .before in
     let s = entry (predictor x) in
     let a = s .args in
-    block-out (a .coded .setting) (now (a .tables)) (a .coded .intra) (a .number) (a .state) (now (a .values)) (now (a .store)) (s .pre .0) (s .pre .1 .1)
+    block-out (a .coded .context) (now (a .tables)) (a .coded .intra) (a .number) (a .state) (now (a .values)) (now (a .store)) (s .pre .0) (s .pre .1 .1)
     (quantiser-is (predictor x)) (predictor-is (predictor x)) (x .read-block .ensures) (c .enum-told .given .1)
 
 write-block-requires : tie.Need-write-block-requires
@@ -87,7 +86,7 @@ returns-2 c =
     let s = entry (predictor x) in
     let a = s .args in
     let e = rw (address-read (s .pre .0 .reads .slice)) at (w .write-block .ensures) in
-    block-on (a .coded .setting) (now (a .tables)) (a .coded .intra) (a .number) (a .state) (now (a .values)) (now (a .store)) (s .pre .0) (s .pre .1 .1)
+    block-on (a .coded .context) (now (a .tables)) (a .coded .intra) (a .number) (a .state) (now (a .values)) (now (a .store)) (s .pre .0) (s .pre .1 .1)
     (quantiser-is (predictor x)) (predictor-is (predictor x)) (x .read-block .ensures) (ended w .match .keys2) (e .0) (e .1)
     (rw (inside-read _ (read-kept x .predictor)) at (c .predicted .ensures)) (w .write-block .kept .0)
 

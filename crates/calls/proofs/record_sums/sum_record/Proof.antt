@@ -11,11 +11,10 @@ unfolding R.recordSum
 returns c =
     let l = c .before in
     let s = l .before .before in
-    let p = s .before .before .before in
-    let d = p .before .before .before .args .d in
+    let d = s .before .before .before .before .args .d in
     c .sum-matrices .ensures
     ∙ ap (λ (x : ℕ). R.matrixSum x (d .sequence .matrices))
-    (l .sum-left .ensures .0 ∙ ap (λ (x : ℕ). summedBelow x (R.signedAt (d .picture .slice .«block_data»)) 64) (s .sum-scalars .ensures .0))
+    (l .sum-left .ensures .0 ∙ ap (λ (x : ℕ). summedBelow x (R.signedAt (d .«block_data»)) 64) (s .sum-scalars .ensures .0))
 
 pub sum-record-spec : {M : Type 1} → statement M
 sum-record-spec =

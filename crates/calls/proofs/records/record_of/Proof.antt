@@ -6,10 +6,13 @@ returns : tie.Need-returns
 unfolding recordOf
 returns c =
     let x = c .before .before .before in
+    let p = x .before .before .before in
     rw (
-      x .before .before .before .size-at .ensures,
-      x .before .before .sequence-of .ensures,
-      x .before .picture-of .ensures,
+      p .before .before .size-at .ensures,
+      p .before .sequence-of .ensures,
+      p .picture-of .ensures,
+      x .before .block-of .ensures,
+      x .before .before .part .ensures,
       x .clock-of .ensures,
       c .before .before .flag-at .ensures,
       c .before .number-at .ensures,
@@ -17,4 +20,6 @@ returns c =
     )
 
 pub record-of-spec : {M : Type 1} → statement M
-record-of-spec = tie.close (tie.spec (λ c κs. tt) (λ c κs. tt) (λ c κs. tt) (λ c κs. tt) (λ c κs. tt) (λ c κs. tt) (λ c κs. tt) returns)
+record-of-spec =
+    tie.close
+    (tie.spec (λ c κs. tt) (λ c κs. tt) (λ c κs. tt) (λ c κs. tt) (λ c κs. tt) (λ c κs. tt) (λ c κs. tt) (λ c κs. tt) (λ c κs. tt) returns)

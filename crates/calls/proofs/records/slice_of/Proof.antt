@@ -6,8 +6,7 @@ use Rattle.calls.proofs.records.slice_of.Tie as tie
 returns : tie.Need-returns
 unfolding sliceOf
 returns c =
-    let x = c .before .before in
-    let m = x .before .before .before in
+    let m = c .before .before .before in
     let y = m .before .before .before .before in
     rw (
       y .before .number-at .ensures,
@@ -16,15 +15,12 @@ returns c =
       m .before .before .before .part .ensures,
       m .motion-of2 .ensures,
       m .before .part2 .ensures,
-      given (x .before .before .signed-at2 .ok) (x .before .before .signed-at2 .ensures),
-      given (x .before .signed-at3 .ok) (x .before .signed-at3 .ensures),
-      given (x .signed-at4 .ok) (x .signed-at4 .ensures),
-      c .block-of .ensures,
-      c .before .part3 .ensures,
+      given (c .before .before .signed-at2 .ok) (c .before .before .signed-at2 .ensures),
+      given (c .before .signed-at3 .ok) (c .before .signed-at3 .ensures),
+      given (c .signed-at4 .ok) (c .signed-at4 .ensures),
     )
 
 pub slice-of-spec : {M : Type 1} → statement M
 slice-of-spec =
     tie.close
-    (tie.spec (λ c κs. tt) (λ c κs. tt) (λ c κs. tt) (λ c κs. tt) (λ c κs. tt) (λ c κs. tt) (λ c κs. tt) (λ c κs. tt) (λ c κs. tt)
-    (λ c κs. tt) (λ c κs. tt) returns)
+    (tie.spec (λ c κs. tt) (λ c κs. tt) (λ c κs. tt) (λ c κs. tt) (λ c κs. tt) (λ c κs. tt) (λ c κs. tt) (λ c κs. tt) (λ c κs. tt) returns)

@@ -5,15 +5,13 @@ use Rattle.decoder.proofs.possible.possible.Tie as tie
 
 returns : tie.Need-returns
 returns c =
-    let q = c .before .before in
-    possible-by _ (c .possible-state .result) (q .before .possible-numbers .ensures) (q .possible-sequence .ensures) (c .before .picture-state .ensures)
-    (c .possible-state .ensures) (q .before .before .bounded .ensures)
+    let q = c .before in
+    possible-by _ (q .before .possible-numbers .ensures) (q .possible-sequence .ensures) (c .possible-picture .ensures) (q .before .before .bounded .ensures)
 
 pub possible-spec : {M : Type 1} → statement M
 possible-spec =
     tie.close
     (tie.spec
-    (λ c κs. search needs)
     (λ c κs. search needs)
     (λ c κs. search needs)
     (λ c κs. search needs)

@@ -2,7 +2,7 @@
 use denote.Ref.{now}
 use mathlib.Core.Path.{_∙_}
 use borrow.Author.Needs.{needs}
-use Rattle.picture.specs.Views.{pictureOf}
+use Rattle.decoder.specs.Record.{frameOf}
 use Rattle.decoder.specs.State.{decoderOf}
 use Rattle.decoder.proofs.Turning.{runs-of, decoded-out, decoded-on}
 use Rattle.decoder.proofs.turns.decoded.Statement.{statement}
@@ -23,13 +23,16 @@ read-picture-requires c κs =
       record { place = f .place; stream = s .pre .1 .0 },
       (
         f .picture,
-        record {
-          across = f .across;
-          down = f .down;
-          size = f .size;
-          stores = record { cur = t .cur; fwd = t .fwd; bwd = t .bwd; cur-fwd = t .cur-fwd; cur-bwd = t .cur-bwd };
-          whole = s .pre .1 .1;
-        },
+        (
+          f .block,
+          record {
+            across = f .across;
+            down = f .down;
+            size = f .size;
+            stores = record { cur = t .cur; fwd = t .fwd; bwd = t .bwd; cur-fwd = t .cur-fwd; cur-bwd = t .cur-bwd };
+            whole = s .pre .1 .1;
+          },
+        ),
       ),
     )
 
@@ -38,12 +41,12 @@ returns c =
     let r = read (c .before) in
     let a = entry r .args in
     let p = r .read-picture .result in
-    let x = pictureOf (p .picture) (r .read-picture .last .1 .1 .1 .0) in
+    let left = r .read-picture .last .1 .1 .1 .0 in
     record {
       is = λ q mark z m.
           let d = decoderOf q mark (a .d) (now (a .values)) in
-          decoded-out (now (a .s)) d (now (a .store)) x (r .read-picture .last .1 .1 .0) (p .stop)
-          (runs-of q (d .picture) (now (a .store)) z m (r .read-picture .ensures .runs)) (c .if1 .taken) _ _;
+          decoded-out (now (a .s)) d (now (a .store)) (p .picture) left (r .read-picture .last .1 .1 .0) (p .stop)
+          (runs-of q (frameOf d (now (a .store))) z m (r .read-picture .ensures .runs)) (c .if1 .taken) _ _;
     }
 
 returns-2 : tie.Need-returns-2
@@ -58,8 +61,8 @@ returns-2 c =
       is = λ q mark z m.
           let d = decoderOf q mark (a .d) (now (a .values)) in
           c .shown .ensures .is q mark left l
-          ∙ decoded-on (now (a .s)) d (now (a .store)) (pictureOf (p .picture) left) l (p .stop)
-          (runs-of q (d .picture) (now (a .store)) z m (r .read-picture .ensures .runs)) (i .if1 .left);
+          ∙ decoded-on (now (a .s)) d (now (a .store)) (p .picture) left l (p .stop)
+          (runs-of q (frameOf d (now (a .store))) z m (r .read-picture .ensures .runs)) (i .if1 .left);
     }
 
 pub decoded-spec : {M : Type 1} → statement M

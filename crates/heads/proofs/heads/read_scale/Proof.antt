@@ -12,13 +12,13 @@ returns c =
     let f = c .before .before in
     let r = c .before .read .ensures in
     record {
-      runs = λ left. r-yes _ (sym (f .before .flag .ensures) ∙ f .if1 .taken) (r-call _ (r-reads 5 (omega arith) (r .runs)) r-done);
+      runs = r-yes _ (sym (f .before .flag .ensures) ∙ f .if1 .taken) (r-call _ (r-reads 5 (omega arith) (r .runs)) r-done);
       inside = r .inside;
     }
 
 returns-2 : tie.Need-returns-2
 unfolding scale
-returns-2 c = record { runs = λ left. r-no _ (sym (c .before .flag .ensures) ∙ c .if1 .left) r-done; inside = c .before .before .before .pre }
+returns-2 c = record { runs = r-no _ (sym (c .before .flag .ensures) ∙ c .if1 .left) r-done; inside = c .before .before .before .pre }
 
 pub read-scale-spec : {M : Type 1} → statement M
 read-scale-spec = tie.close (tie.spec (λ c κs. search needs) (λ c κs. search needs) returns returns-2)

@@ -9,7 +9,7 @@ unfolding vectors
 returns c =
     let b = c .before .before .before in
     let r = b .read-backward .ensures in
-    record { runs = λ left. r-call _ (b .before .read-forward .ensures .runs) (r-call _ (r .runs) r-done); inside = r .inside }
+    record { runs = r-call _ (b .before .read-forward .ensures .runs) (r-call _ (r .runs) r-done); inside = r .inside }
 
 pub read-vectors-spec : {M : Type 1} → statement M
 read-vectors-spec = tie.close (tie.spec (λ c κs. search needs) (λ c κs. search needs) returns)

@@ -2,8 +2,8 @@
 use denote.Ref.{now}
 use borrow.Author.Needs.{needs}
 use Rattle.picture.specs.Possible.{PossibleSlice}
-use Rattle.picture.specs.Views.{sliceOf}
-use Rattle.macroblocks.proofs.Bodies.{motions-possible, headed-possible, headed-here, body-refused, blocks-ready, body-on}
+use Rattle.picture.specs.Views.{matricesIn}
+use Rattle.macroblocks.proofs.Bodies.{headed-possible, headed-here, body-refused, blocks-ready, body-on}
 use Rattle.macroblocks.proofs.body.body.Statement.{statement}
 use Rattle.macroblocks.proofs.body.body.Tie as tie
 
@@ -21,7 +21,7 @@ predicted n = n .before .before .before .before
 read-head-requires : tie.Need-read-head-requires
 read-head-requires c κs =
     let p = start c .pre in
-    (c .read-macroblock-type .ensures .inside, (p .1, motions-possible (p .0 .reads .slice)))
+    (c .read-macroblock-type .ensures .inside, (p .1, p .0 .reads .slice))
 
 predict-unless-intra-requires : tie.Need-predict-unless-intra-requires
 predict-unless-intra-requires c κs =
@@ -29,7 +29,7 @@ predict-unless-intra-requires c κs =
     let t = h .before in
     let r = start t .pre .0 in
     let k = headed-possible r (t .read-macroblock-type .ensures) (h .read-head .ensures) in
-    (r .held, (headed-here r (t .read-macroblock-type .ensures) (h .read-head .ensures), motions-possible k))
+    (r .held, (headed-here r (t .read-macroblock-type .ensures) (h .read-head .ensures), k))
 
 returns : tie.Need-returns
 returns c =
@@ -37,7 +37,7 @@ returns c =
     let h = headed u in
     let t = h .before in
     body-refused (start t .pre .0) (t .read-macroblock-type .ensures) (h .read-head .ensures) (u .predict-unless-intra .ensures)
-    (u .predict-unless-intra .kept .0) (now (start t .args .tables)) (c .enum-told2 .given .1)
+    (u .predict-unless-intra .kept .0) (matricesIn (now (start t .args .tables))) (c .enum-told2 .given .1)
 
 read-blocks-requires : tie.Need-read-blocks-requires
 read-blocks-requires c κs =
@@ -58,7 +58,7 @@ returns-2 c =
     let h = headed u in
     let t = h .before in
     body-on (start t .pre .0) (t .read-macroblock-type .ensures) (h .read-head .ensures) (u .predict-unless-intra .ensures)
-    (u .predict-unless-intra .kept .0) (p .read-pattern .ensures) (now (start t .args .tables)) (p .before .enum-told .given .1)
+    (u .predict-unless-intra .kept .0) (p .read-pattern .ensures) (matricesIn (now (start t .args .tables))) (p .before .enum-told .given .1)
     (rw (f .flag .ensures) at (b .read-blocks .ensures))
 
 pub body-spec : {M : Type 1} → statement M

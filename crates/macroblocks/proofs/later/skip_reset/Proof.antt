@@ -1,18 +1,18 @@
 use borrow.Author.Needs.{needs}
 use borrow.Author.Tests.{eq-eqb, ne-eqb}
-use Rattle.picture.specs.Views.{skipOf}
+use Rattle.picture.specs.Macroblocks.{skipReset}
 use Rattle.macroblocks.proofs.later.skip_reset.Statement.{statement}
 use Rattle.macroblocks.proofs.later.skip_reset.Tie as tie
 
 returns : tie.Need-returns
-unfolding skipOf
+unfolding skipReset
 returns c =
     let i = c .before in
     let r = i .before .before in
     rw (eq-eqb (r .before .args .g .«picture_type») 2 (i .if1 .taken), c .zeroed .ensures, r .reset .ensures)
 
 returns-2 : tie.Need-returns-2
-unfolding skipOf
+unfolding skipReset
 returns-2 c =
     let r = c .before .before in
     rw (ne-eqb (r .before .args .g .«picture_type») 2 (c .if1 .left), r .reset .ensures)

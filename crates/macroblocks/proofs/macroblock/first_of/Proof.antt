@@ -5,6 +5,7 @@ use denote.Ref.{now}
 use lib.IntN.{ℤ, pos}
 use lib.Signed.{ltZ, leZ}
 use borrow.Author.Needs.{needs}
+use Rattle.picture.specs.Views.{matricesIn}
 use Rattle.picture.proofs.Signed.{address-read}
 use Rattle.blocks.proofs.Stores.{size-most}
 use Rattle.macroblocks.proofs.Firsts.{further-possible, first-nowhere, first-ready, first-body}
@@ -34,7 +35,7 @@ returns : tie.Need-returns
 returns c =
     let o = c .before in
     let f = reached o in
-    first-nowhere (start f .pre .0) (f .further .ensures) (tested o) (now (start f .args .tables)) (c .if1 .taken)
+    first-nowhere (start f .pre .0) (f .further .ensures) (tested o) (matricesIn (now (start f .args .tables))) (c .if1 .taken)
 
 body-requires : tie.Need-body-requires
 body-requires c κs =
@@ -47,7 +48,7 @@ returns-2 c =
     let b = c .before .before in
     let i = b .before .before .before in
     let f = reached (i .before) in
-    first-body (start f .pre .0) (f .further .ensures) (tested (i .before)) (now (start f .args .tables)) (i .if1 .left) (b .body .ensures)
+    first-body (start f .pre .0) (f .further .ensures) (tested (i .before)) (matricesIn (now (start f .args .tables))) (i .if1 .left) (b .body .ensures)
 
 pub first-of-spec : {M : Type 1} → statement M
 first-of-spec =

@@ -5,9 +5,9 @@ use denote.Ref.{now}
 use lib.IntN.{ℤ, pos, _+ℤ_}
 use lib.Signed.{leZ}
 use borrow.Author.Needs.{needs}
+use Rattle.picture.specs.Views.{matricesIn}
 use Rattle.picture.proofs.Signed.{address-read}
 use Rattle.blocks.proofs.Stores.{size-most}
-use Rattle.macroblocks.proofs.Bodies.{motions-possible}
 use Rattle.macroblocks.proofs.Laters.{later-past, later-stop, later-ready, later-body}
 use Rattle.macroblocks.proofs.macroblock.later_of.Statement.{statement}
 use Rattle.macroblocks.proofs.macroblock.later_of.Tie as tie
@@ -38,7 +38,7 @@ past-requires c κs =
     (size-most (k .held), rw (address-read (k .reads .slice)) (k .adds))
 
 returns : tie.Need-returns
-returns c = let o = c .before in later-past (start o .pre .0) (now (start o .args .tables)) (sym (tested o) ∙ c .if1 .taken)
+returns c = let o = c .before in later-past (start o .pre .0) (matricesIn (now (start o .args .tables))) (sym (tested o) ∙ c .if1 .taken)
 
 -- there are more macroblocks, where the advance begins
 more : (i : tie.Else1) → let a = start (i .before) .args in leZ (pos (a .g .sizes .«mb_size»)) (a .state .«macroblock_address» +ℤ pos (a .n)) ≡ false
@@ -48,13 +48,13 @@ advance-requires : tie.Need-advance-requires
 advance-requires c κs =
     let i = c .before in
     let k = start (i .before) .pre .0 in
-    (k .held, (motions-possible (k .reads .slice), more i))
+    (k .held, (k .reads .slice, more i))
 
 returns-2 : tie.Need-returns-2
 returns-2 c =
     let v = stopped c in
     let s = start (inside v .before) in
-    later-stop (s .pre .0) (more (inside v)) (v .advance .ensures) (v .advance .kept .0) (now (s .args .tables)) (c .if2 .taken)
+    later-stop (s .pre .0) (more (inside v)) (v .advance .ensures) (v .advance .kept .0) (matricesIn (now (s .args .tables))) (c .if2 .taken)
 
 body-requires : tie.Need-body-requires
 body-requires c κs =
@@ -69,7 +69,7 @@ returns-3 c =
     let z = b .before .before .before in
     let v = advanced z in
     let s = start (inside v .before) in
-    later-body (s .pre .0) (more (inside v)) (v .advance .ensures) (v .advance .kept .0) (now (s .args .tables)) (z .if2 .left) (b .body .ensures)
+    later-body (s .pre .0) (more (inside v)) (v .advance .ensures) (v .advance .kept .0) (matricesIn (now (s .args .tables))) (z .if2 .left) (b .body .ensures)
 
 pub later-of-spec : {M : Type 1} → statement M
 later-of-spec =

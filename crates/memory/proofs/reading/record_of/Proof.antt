@@ -5,9 +5,11 @@ use Rattle.memory.proofs.reading.record_of.Tie as tie
 
 returns : tie.Need-returns
 unfolding recordOf
-returns c = let p = c .before .before .before .before in rw (p .before .sequence-in .ensures, p .picture-in .ensures, c .clock-in .ensures)
+returns c =
+    let b = c .before .before .before .before in
+    rw (b .before .before .sequence-in .ensures, b .before .picture-in .ensures, b .block-in .ensures, c .clock-in .ensures)
 
 pub record-of-spec : {M : Type 1} → statement M
 record-of-spec =
-    tie.close (tie.spec (λ c. search needs) (λ c κs. search needs) (λ c κs. search needs) (λ c. search needs) (λ c. search needs) (λ c. search needs)
-    (λ c. search needs) (λ c. search needs) (λ c κs. search needs) returns)
+    tie.close (tie.spec (λ c. search needs) (λ c κs. search needs) (λ c κs. search needs) (λ c κs. search needs) (λ c. search needs) (λ c. search needs)
+    (λ c. search needs) (λ c. search needs) (λ c. search needs) (λ c κs. search needs) returns)

@@ -5,7 +5,7 @@ use Rattle.picture.proofs.limits.possible_slice.Statement.{statement}
 use Rattle.picture.proofs.limits.possible_slice.Tie as tie
 
 returns : tie.Need-returns
-returns c left =
+returns c =
     let b = c .before .before .before in
     rw (
       b .between .ensures,

@@ -13,8 +13,7 @@ returns c =
     let i = t .before in
     let f = i .before .before .before in
     record {
-      runs = λ left.
-          r-call _ (f .read-direction .ensures .runs)
+      runs = r-call _ (f .read-direction .ensures .runs)
           (r-yes _ (and-yes _ _ (i .if1 .taken) (t .if2 .taken)) (r-call _ (b .read-direction2 .ensures .runs) r-done));
       inside = b .read-direction2 .ensures .inside;
     }
@@ -25,7 +24,7 @@ returns-2 c =
     let i = c .before in
     let f = i .before .before .before .read-direction .ensures in
     let other = and-no _ _ (⊎-elim (λ w. inr (w .1 .left)) (λ w. inl (w .left)) (i .if1 .came)) in
-    record { runs = λ left. r-call _ (f .runs) (r-no _ other r-done); inside = f .inside }
+    record { runs = r-call _ (f .runs) (r-no _ other r-done); inside = f .inside }
 
 pub read-directions-spec : {M : Type 1} → statement M
 read-directions-spec = tie.close (tie.spec (λ c κs. search needs) (λ c κs. search needs) returns returns-2)

@@ -34,7 +34,7 @@ returns c =
     let t = e .before in
     let u = without _ (⊎-elim (λ w. inl (w .taken)) (λ w. inr (w .1 .taken)) (c .if1 .came)) in
     record {
-      runs = λ left. fields _ (t .before .skip .ensures .runs) (t .read .ensures .runs) (e .skip2 .ensures .runs) (r-yes _ u r-done);
+      runs = fields _ (t .before .skip .ensures .runs) (t .read .ensures .runs) (e .skip2 .ensures .runs) (r-yes _ u r-done);
       inside = e .skip2 .ensures .inside;
     }
 
@@ -46,8 +46,7 @@ returns-2 c =
     let t = e .before in
     let w = within _ (d .before .if1 .left) (d .if2 .left) in
     record {
-      runs = λ left.
-          fields _ (t .before .skip .ensures .runs) (t .read .ensures .runs) (e .skip2 .ensures .runs)
+      runs = fields _ (t .before .skip .ensures .runs) (t .read .ensures .runs) (e .skip2 .ensures .runs)
           (r-no _ w (r-yes _ (eq-eqb _ 1 (c .if3 .taken)) r-done));
       inside = e .skip2 .ensures .inside;
     }
@@ -62,9 +61,8 @@ returns-3 c =
     let w = within _ (d .before .if1 .left) (d .if2 .left) in
     let f = c .read-directions .ensures in
     record {
-      runs = λ left.
-          fields _ (t .before .skip .ensures .runs) (t .read .ensures .runs) (e .skip2 .ensures .runs)
-          (r-no _ w (r-no _ (ne-eqb _ 1 (o .if3 .left)) (f .runs left)));
+      runs = fields _ (t .before .skip .ensures .runs) (t .read .ensures .runs) (e .skip2 .ensures .runs)
+          (r-no _ w (r-no _ (ne-eqb _ 1 (o .if3 .left)) (f .runs)));
       inside = f .inside;
     }
 

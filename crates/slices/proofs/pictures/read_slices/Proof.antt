@@ -6,14 +6,14 @@ use Prim.Native.Nat.{_-_, _*_}
 use native.Mathlib.Omega.{arith}
 use lib.ListN.{length}
 use borrow.Author.Tests.{not-true, not-false}
-use Rattle.picture.specs.Views.{frameOf}
+use Rattle.picture.specs.Views.{matricesIn, frameOf}
 use Rattle.slices.proofs.PictureLoop.{AtSlices, at-slices, slices-end, slices-less, slices-on}
 use Rattle.slices.proofs.pictures.read_slices.Statement.{statement}
 use Rattle.slices.proofs.pictures.read_slices.Tie as tie
 
 abbrev Inv-loop : tie.InvT-loop
 Inv-loop s store₀ values₀ tables g before from₀ state₀ begun₀ store values from state begun =
-    AtSlices g tables s from₀ (frameOf g (toZ w32 before) state₀ values₀ store₀) begun from state values store
+    AtSlices g (matricesIn tables) s from₀ (frameOf g (toZ w32 before) state₀ values₀ store₀) begun from state values store
 
 abbrev μ-loop : tie.MeasureT-loop
 μ-loop s store₀ values₀ tables g before from₀ state₀ begun₀ store values from state begun = length s * 8 - from .at .0

@@ -7,6 +7,7 @@ use borrow.Author.Needs.{needs}
 use lib.IntN.{ℤ}
 use Rattle.blocks.proofs.Stores.{size-most}
 use Rattle.picture.specs.Pictures.{isSlice}
+use Rattle.picture.specs.Views.{matricesIn}
 use Rattle.slices.proofs.SliceLoop.{adds-one}
 use Rattle.slices.proofs.PictureLoop.{code-read, slice-cast, slice-number, turned-slice, turned-other}
 use Rattle.slices.proofs.pictures.slices_turn.Statement.{statement}
@@ -43,7 +44,7 @@ read-slice-requires c κs =
     let t = c .before .before in
     let n = found (t .before) in
     let p = entry n .pre in (
-      record { inside = n .next-start-code .ensures .0 .inside; slice = p .0 .slice },
+      record { inside = n .next-start-code .ensures .0 .inside; slice = p .0 .slice; block = p .0 .block },
       (p .1 .0, (p .1 .1, rw (code-is n) (slice-number (code n) (sym (tested (t .before)) ∙ t .if1 .taken)))),
     )
 
@@ -61,7 +62,7 @@ returns c =
     let a = s .args in
     let f = n .next-start-code .ensures in
     rw (c .past-slice .ensures, code-is n)
-    (turned-slice (s .pre .0) (s .pre .1 .0) (now (a .tables)) (a .begun) (f .0) (f .1) (sym (tested o) ∙ w .before .before .before .if1 .taken)
+    (turned-slice (s .pre .0) (s .pre .1 .0) (matricesIn (now (a .tables))) (a .begun) (f .0) (f .1) (sym (tested o) ∙ w .before .before .before .if1 .taken)
     (w .read-slice .result) (rw (code-is n) at (w .read-slice .ensures)))
 
 returns-2 : tie.Need-returns-2
@@ -72,7 +73,7 @@ returns-2 c =
     let a = s .args in
     let f = n .next-start-code .ensures in
     rw (code-is n)
-    (turned-other (s .pre .0) (s .pre .1 .0) (now (a .tables)) (a .begun) (f .0) (f .1) (sym (tested o) ∙ c .before .if1 .left)
+    (turned-other (s .pre .0) (s .pre .1 .0) (matricesIn (now (a .tables))) (a .begun) (f .0) (f .1) (sym (tested o) ∙ c .before .if1 .left)
     (c .passes-over .result) (rw (code-is n) at (c .passes-over .ensures)))
 
 pub slices-turn-spec : {M : Type 1} → statement M

@@ -3,6 +3,7 @@ use Prim.Native.Nat.{_-_, _*_}
 use native.Mathlib.Omega.{arith}
 use lib.ListN.{length}
 use borrow.Author.Tests.{not-true, not-false}
+use Rattle.picture.specs.Views.{matricesIn}
 use Rattle.blocks.proofs.Stores.{size-most}
 use Rattle.slices.proofs.SliceLoop.{AtMacroblock, at-macroblock, adds-one, slice-end, slice-less, slice-on}
 use Rattle.slices.proofs.slices.read_macroblocks.Statement.{statement}
@@ -10,7 +11,7 @@ use Rattle.slices.proofs.slices.read_macroblocks.Tie as tie
 
 abbrev Inv-loop : tie.InvT-loop
 Inv-loop s store₀ values₀ tables g from₀ state₀ first₀ store values from state first =
-    AtMacroblock g tables s from₀ state₀ values₀ store₀ first from state values store
+    AtMacroblock g (matricesIn tables) s from₀ state₀ values₀ store₀ first from state values store
 
 abbrev μ-loop : tie.MeasureT-loop
 μ-loop s store₀ values₀ tables g from₀ state₀ first₀ store values from state first = length s * 8 - from .at .0

@@ -2,7 +2,8 @@
 use denote.Ref.{now}
 use borrow.Author.Needs.{needs}
 use Rattle.picture.specs.Ways.{on}
-use Rattle.picture.specs.Views.{worldOf}
+use Rattle.picture.specs.State.{world}
+use Rattle.picture.specs.Views.{matricesIn}
 use Rattle.slices.proofs.SliceLoop.{start-awaits, slice-runs}
 use Rattle.slices.proofs.slices.read_slice.Statement.{statement}
 use Rattle.slices.proofs.slices.read_slice.Tie as tie
@@ -29,11 +30,11 @@ returns c =
     let s = entry z in
     let a = s .args in
     let p = s .pre in
-    let w = m .read-macroblocks .ensures .passed (on (worldOf (a .state) (now (a .values)) (now (a .store)))) in
+    let w = m .read-macroblocks .ensures .passed (on (world (a .state) (now (a .values)) (now (a .store)))) in
     record {
       runs =
           slice-runs (p .0) (p .1 .0) (a .number) (p .1 .1 .1 .1) (z .before .before .read .ensures) (z .before .skip-extra .ensures)
-          (now (a .tables)) (z .slice-start .ensures) (w .runs);
+          (matricesIn (now (a .tables))) (z .slice-start .ensures) (w .runs);
       reads = w .reads;
       held = w .held;
     }

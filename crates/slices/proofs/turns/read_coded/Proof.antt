@@ -1,7 +1,7 @@
 -- `turns::read_coded` meets its contract: the tables have the matrices, and the stores turn.
 use denote.Ref.{now}
 use borrow.Author.Needs.{needs}
-use Rattle.picture.specs.Views.{pictureOf, matrices}
+use Rattle.picture.specs.Views.{matrices}
 use Rattle.slices.proofs.PictureLoop.{start-read}
 use Rattle.slices.proofs.Turning.{Made, made, held-during, coded-of}
 use Rattle.slices.proofs.turns.read_coded.Statement.{statement}
@@ -33,8 +33,8 @@ read-slices-requires c κs =
     let s = entry x in
     let a = s .args in
     let p = s .pre in (
-      record { inside = p .0; slice = p .1 .0 .slice },
-      (held-during (pictureOf (a .p) (now (a .values))) (a .sizes) (r .roles-of .ensures .0) (p .1 .1), lent x .lent),
+      record { inside = p .0; slice = p .1 .0 .slice; block = p .1 .1 .0 },
+      (held-during (a .p) (a .sizes) (r .roles-of .ensures .0) (p .1 .1 .1), lent x .lent),
     )
 
 returns : tie.Need-returns

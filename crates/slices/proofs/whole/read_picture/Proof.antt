@@ -6,16 +6,15 @@ use Rattle.bits.proofs.Rules.{r-call, r-yes, r-no, r-done}
 use Rattle.picture.specs.declared.state.Picture.{Picture}
 use Rattle.picture.specs.declared.state.Sizes.{Sizes}
 use Rattle.picture.specs.Possible.{PossiblePicture}
-use Rattle.picture.specs.Pictures.{picture}
-use Rattle.picture.specs.Views.{pictureOf, settingOf, Held}
+use Rattle.picture.specs.Pictures.{contextOf, picture}
+use Rattle.picture.specs.Views.{Held}
 use Rattle.picture.proofs.Syntax.{header-gives}
 use borrow.Author.Needs.{needs}
 use Rattle.slices.proofs.whole.read_picture.Statement.{statement}
 use Rattle.slices.proofs.whole.read_picture.Tie as tie
 
 -- another possible picture of these sizes has its stores there too
-held-as : (p : Picture) {q : Picture} (z : Sizes) {store : List ℕ} → Held (settingOf p z (p .stores)) store → PossiblePicture q
-    → Held (settingOf q z (q .stores)) store
+held-as : (p : Picture) {q : Picture} (z : Sizes) {store : List ℕ} → Held (contextOf z p) store → PossiblePicture q → Held (contextOf z q) store
 held-as p z k q =
     record {
       across = k .across;
@@ -45,8 +44,8 @@ read-coded-requires c κs =
     let s = start h in
     let a = s .args in
     let r = h .read-picture-header .ensures in
-    let k = given-by (header-gives (s .pre .1 .0)) (r .runs (now (a .values))) in
-    rw (w .with-header .ensures) (r .inside, (k, held-as (pictureOf (a .p) (now (a .values))) (a .sizes) (s .pre .1 .1) k))
+    let k = given-by (header-gives (s .pre .1 .0)) (r .runs) in
+    rw (w .with-header .ensures) (r .inside, (k, (s .pre .1 .1 .0, held-as (a .p) (a .sizes) (s .pre .1 .1 .1) k)))
 
 returns : tie.Need-returns
 unfolding picture
@@ -58,7 +57,7 @@ returns c =
     let r = d .read-coded .ensures in
     record {
       runs =
-          r-call _ (h .read-picture-header .ensures .runs (now (start h .args .values)))
+          r-call _ (h .read-picture-header .ensures .runs)
           (r-yes _ (t .if1 .taken) (rw (w .with-header .ensures) at (r .runs)));
       inside = r .inside;
     }
@@ -70,7 +69,7 @@ returns-2 c =
     let h = header w in
     let r = h .read-picture-header .ensures in
     record {
-      runs = rw (w .with-header .ensures) (r-call _ (r .runs (now (start h .args .values))) (r-no _ (c .if1 .left) r-done));
+      runs = rw (w .with-header .ensures) (r-call _ (r .runs) (r-no _ (c .if1 .left) r-done));
       inside = r .inside;
     }
 
