@@ -47,7 +47,7 @@ module _ (s : List ℕ) (from n dw j : ℕ) where
 -- the rows in the whole store are those of the plane
 row-by-row : {p : Place} → Placed p → (s : List ℕ) (from to a : ℕ) (h v : ℤ) (interpolate : Bool) → from + bytes p ≤ length s → to + bytes p ≤ length s
     → a + reach p h v ≤ maxAddress p
-    → laidRows interpolate s (to + address p) (width p) (p .size) (sampled s (from + a) (width p) (odd h) (odd v))
+    → laidRows interpolate (sampled (width p) (odd h) (odd v)) s (from + a) (to + address p) (width p) (p .size)
     ≡ putMid to (bytes p) s (predicted p (midOf from (bytes p) s) (midOf to (bytes p) s) h v interpolate a)
 unfolding predicted
 row-by-row {p} k s from to a h v interpolate fit room q =
@@ -89,6 +89,6 @@ module _ {p : Place} (k : Placed p) (s : List ℕ) (from to a : ℕ) (h v : ℤ)
 
   -- and what they make
   pub apart-copied : (interpolate : Bool) {last : List ℕ}
-      → last ≡ laidRows interpolate s (to + d) w (p .size) (sampled s (from + a) w (eqb right 1) (eqb below 1))
+      → last ≡ laidRows interpolate (sampled w (eqb right 1) (eqb below 1)) s (from + a) (to + d) w (p .size)
       → last ≡ putMid to (bytes p) s (predicted p (midOf from (bytes p) s) (midOf to (bytes p) s) h v interpolate a)
   apart-copied interpolate e = e ∙ rw (ew, ed, er .1, eb .1) (row-by-row k s from to a h v interpolate fit room q)

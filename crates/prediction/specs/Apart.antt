@@ -14,14 +14,18 @@ pub record Apart (n from to dw b e : ℕ) : Type 0 where
   pub target : to + (b - 1) * dw + b ≤ n
   pub beside : (from + (b - 1) * dw + b + e ≤ to) ⊎ (to + (b - 1) * dw + b ≤ from)
 
--- row y and column x of the block at `from`: the sample, averaged with the one that stands `other` further
-abbrev pub paired : List ℕ → ℕ → ℕ → ℕ → ℕ → ℕ → ℕ
-paired s from dw other y x = average2 (getD s (from + y * dw + x) 0) (getD s (from + y * dw + x + other) 0)
+-- RULES 6.7: the sample at i, averaged with the one that stands `other` further
+abbrev pub paired : ℕ → List ℕ → ℕ → ℕ
+paired other s i = average2 (getD s i 0) (getD s (i + other) 0)
 
--- the same by half samples
-abbrev pub sampled : List ℕ → ℕ → ℕ → Bool → Bool → ℕ → ℕ → ℕ
-sampled s from dw across down y x = sample s dw across down (from + y * dw + x)
+-- RULES 6.7: the same by half samples
+abbrev pub sampled : ℕ → Bool → Bool → List ℕ → ℕ → ℕ
+sampled dw across down s i = sample s dw across down i
 
--- the store with b rows of b at `to`, f y x in place of what stands there or averaged with it
-abbrev pub laidRows : Bool → List ℕ → ℕ → ℕ → ℕ → (ℕ → ℕ → ℕ) → List ℕ
-laidRows interpolate s to dw b f = storeRows s to dw b (λ y x. laid interpolate (getD s (to + y * dw + x) 0) (f y x)) b
+-- RULES 6.8: what f makes of the store at i, in place of what stands at o or averaged with it
+abbrev pub laidAt : Bool → (List ℕ → ℕ → ℕ) → List ℕ → ℕ → ℕ → ℕ
+laidAt interpolate f s i o = laid interpolate (getD s o 0) (f s i)
+
+-- RULES 6.7, 6.8: the store with b rows of b at `to`, made so of those at `from`
+abbrev pub laidRows : Bool → (List ℕ → ℕ → ℕ) → List ℕ → ℕ → ℕ → ℕ → ℕ → List ℕ
+laidRows interpolate f s from to dw b = storeRows s to dw b (λ y x. laidAt interpolate f s (from + y * dw + x) (to + y * dw + x)) b
