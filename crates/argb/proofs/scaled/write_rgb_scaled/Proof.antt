@@ -20,9 +20,16 @@ Inv-loop y cr cb size dst₀ dst-w dst-h width height row₀ shown₀ ty₀ dst 
 abbrev μ-loop : tie.MeasureT-loop
 μ-loop y cr cb size dst₀ dst-w dst-h width height row₀ shown₀ ty₀ dst row shown ty = dst-h - ty
 
--- where the function began, from the head of the loop
+-- where the function began: from the test of the width, and from the head of the loop
+abbrev known : tie.After-slice-known Inv-loop μ-loop → tie.Start Inv-loop μ-loop
+known k = k .before .before .before .before
+
 abbrev start : tie.At-loop Inv-loop μ-loop → tie.Start Inv-loop μ-loop
-start l = l .before .before .before .before .before .before
+start l = known (l .before .before)
+
+-- the turn in which a row of colours is spread
+abbrev spread-in : tie.After-spread-row-arg Inv-loop μ-loop → tie.In-loop Inv-loop μ-loop
+spread-in c = let made = c .before .before in made .before .before .before .before
 
 -- the picture that is written
 abbrev p : tie.Start Inv-loop μ-loop → Picture
@@ -30,7 +37,7 @@ p s = let a = s .args in picture (a .size .width) (a .size .height) (a .size .«
 
 returns : tie.Need-returns Inv-loop μ-loop
 returns c =
-    let s = c .before .before .before .before .before in
+    let s = known (c .before) in
     sym (scaled-none (p s) (s .args .dst-w) (s .args .dst-h) (now (s .args .dst)) (inl (c .if1 .taken)))
 
 -- a turn, at row ty
@@ -59,7 +66,7 @@ copy-row-requires c κs =
 
 spread-row-requires : tie.Need-spread-row-requires Inv-loop μ-loop
 spread-row-requires c κs =
-    let t = c .before .before .before .before .before .before in
+    let t = spread-in c in
     let w = s t .pre .0 .wide in
     ((w .0, omega arith, omega arith, omega arith), fits t)
 
