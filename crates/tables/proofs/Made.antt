@@ -1,13 +1,13 @@
 -- The tables that are made of the constant arrays, and that they are what is lent. Assumes nothing.
-use mathlib.Core.Path.{_≡_, refl, ap, sym, _∙_}
+use mathlib.Core.Path.{_≡_, refl, ap, ap₂, sym, subst, _∙_}
 use mathlib.Core.Bool.{Bool, true, false, cond}
-use mathlib.Core.List.{List, [], _∷_, _++_, append-assoc}
+use mathlib.Core.List.{List, [], _∷_, _++_, append-assoc, append-nil}
 use Prim.Native.Nat.{ℕ, zero, suc, _+_, _-_, _%_, _≤_, _<_}
 use native.Mathlib.Numerals.{add-one}
 use native.Mathlib.Omega.{arith}
 use lib.Dec.{T, ltb, ltb→lt, leb, leb→le}
 use lib.IntN.{ℤ, pos, natAbs, _+ℤ_}
-use lib.ListN.{length, getD, set, take, drop, length-set, length-append, length-take, length-drop}
+use lib.ListN.{length, getD, set, take, drop, length-append, length-take, length-drop, drop-of-length-le}
 use lib.Seq.{take-append-add, drop-drop, drop-paste, set-append-left, take-set-lt, drop-set-lt, take-at, drop-at}
 use lib.Seq.{getD-append-add, getD-drop, take-all, take-paste, length-paste, paste-zero, paste-suc, paste}
 use lib.Signed.{leZ, nonNeg}
@@ -85,43 +85,40 @@ entry-most i x h = go (leZ i (pos 0))
 
 -- ---- the tables as they are made
 
--- a loop that copies the table to the place `at` has copied k entries
-pub record Copied (before table : List ℕ) (at : ℕ) (now : List ℕ) (k : ℕ) : Type 0 where
-  pub most : k ≤ length table
+-- n entries of `part` stand at `at`, in a list that was `before`
+pub record Pasted (before : List ℕ) (at : ℕ) (part : List ℕ) (n : ℕ) (now : List ℕ) : Type 0 where
+  pub most : n ≤ length part
+  pub inside : at + length part ≤ length before
   pub long : length now ≡ length before
-  pub is : now ≡ paste before at table k
+  pub is : now ≡ paste before at part n
 
-module _ (before table : List ℕ) (at : ℕ) where
-  pub copied-none : Copied before table at before 0
-  copied-none = record { most = omega arith; long = refl; is = paste-zero before at table }
+module _ {before : List ℕ} {at : ℕ} {part : List ℕ} where
+  pub pasted : {n : ℕ} {now : List ℕ} → n ≤ length part → at + length part ≤ length before → now ≡ paste before at part n → Pasted before at part n now
+  pasted {n} l h e = record { most = l; inside = h; long = ap length e ∙ length-paste before at part n (omega arith) l; is = e }
 
-  pub copied-one : (now : List ℕ) (k : ℕ) → at + length table ≤ length before → k < length table → Copied before table at now k
-      → Copied before table at (set now (at + k) (getD table k 0)) (k + 1)
-  copied-one now k h l c =
-      record {
-        most = omega arith;
-        long = length-set now (at + k) (getD table k 0) ∙ c .long;
-        is = ap (λ (xs : List ℕ). set xs (at + k) (getD table k 0)) (c .is) ∙ paste-suc before at table k 0 (omega arith) l
-            ∙ ap (paste before at table) (sym (add-one k));
-      }
+  pub none-pasted : at + length part ≤ length before → Pasted before at part 0 before
+  none-pasted h = pasted (omega arith) h (paste-zero before at part)
 
-  pub copied-all : (now : List ℕ) (k : ℕ) → length table ≤ k → Copied before table at now k → now ≡ paste before at table (length table)
-  copied-all now k h c = let all : k ≡ length table = omega (arith, c .most) in c .is ∙ ap (paste before at table) all
+  -- a loop's turn: one entry more
+  pub pasted-on : {n : ℕ} {now : List ℕ} {x : ℕ} → Pasted before at part n now → n < length part → x ≡ getD part n 0
+      → Pasted before at part (n + 1) (set now (at + n) x)
+  pasted-on {n} {now} {x} p l e =
+      pasted (omega arith) (p .inside)
+      (ap₂ (λ (t : List ℕ) (v : ℕ). set t (at + n) v) (p .is) e ∙ paste-suc before at part n 0 (omega (arith, p .inside)) l
+      ∙ ap (paste before at part) (sym (add-one n)))
 
--- a loop that copies the table's entries from `first` on has copied those up to k
-module _ (before table : List ℕ) (at first k : ℕ) where
-  abbrev pub Part : List ℕ → ℕ → Type 0
-  Part now k = Copied before (drop first table) (at + first) now (k - first)
+  pub all-pasted : {n : ℕ} {now : List ℕ} → Pasted before at part n now → length part ≤ n → now ≡ paste before at part (length part)
+  all-pasted {n} p h = let all : n ≡ length part = omega (arith, p .most) in p .is ∙ ap (paste before at part) all
 
-  pub part-one : (now : List ℕ) (x : ℕ) → at + length table ≤ length before → first ≤ k → k < length table → x ≡ getD table k 0
-      → Part now k → Part (set now (at + k) x) (k + 1)
-  part-one now x h f l e c =
-      let rest = length-drop first table in
-      let place : at + first + (k - first) ≡ at + k = omega arith in
-      let count : k - first + 1 ≡ k + 1 - first = omega arith in
-      let entry : first + (k - first) ≡ k = omega arith in
-      rw (place, count, getD-drop first table (k - first) 0, entry, ← e) at
-      (copied-one before (drop first table) (at + first) now (k - first) (omega arith) (omega arith) c)
+-- a loop's turn over the entries of a table from `first` on: entry k
+pub pasted-from : {before now : List ℕ} (table : List ℕ) (at first k : ℕ) {x : ℕ} → Pasted before (at + first) (drop first table) (k - first) now → first ≤ k
+    → k < length table → x ≡ getD table k 0 → Pasted before (at + first) (drop first table) (k + 1 - first) (set now (at + k) x)
+pasted-from table at first k p f l e =
+    let rest = length-drop first table in
+    let place : at + first + (k - first) ≡ at + k = omega arith in
+    let count : k - first + 1 ≡ k + 1 - first = omega arith in
+    let entry : first + (k - first) ≡ k = omega arith in
+    rw (place, count) at (pasted-on p (omega arith) (e ∙ rw (getD-drop first table (k - first) 0, entry)))
 
 -- a store before the part that is pasted
 paste-behind : (d : List ℕ) (at : ℕ) (s : List ℕ) (n i : ℕ) (v : ℕ) → i < at → at ≤ length d
@@ -134,46 +131,31 @@ paste-behind d at s n i v l h =
     ∙ rw (take-set-lt at d i v l, drop-set-lt (at + n) d i v (omega arith))
 
 -- a loop that copies both matrices, one behind the other, has copied k entries of each
-pub record Beside (before intra other now : List ℕ) (k : ℕ) : Type 0 where
-  pub most : k ≤ 64
-  pub is : now ≡ paste (paste before intraMatrixAt intra k) otherMatrixAt other k
+abbrev pub Both : List ℕ → List ℕ → List ℕ → ℕ → List ℕ → Type 0
+Both before intra other k = Pasted (paste before intraMatrixAt intra k) otherMatrixAt other k
 
-module _ (before intra other : List ℕ) where
-  pub beside-none : Beside before intra other before 0
-  beside-none = record { most = omega arith; is = paste-zero before intraMatrixAt intra ∙ paste-zero (paste before intraMatrixAt intra 0) otherMatrixAt other }
+module _ (before intra other : List ℕ) (h : (length before ≡ tablesLength) × ((length intra ≡ 64) × (length other ≡ 64))) where
+  pub none-both : Both before intra other 0 before
+  none-both = subst (λ (t : List ℕ). Pasted t otherMatrixAt other 0 before) (paste-zero before intraMatrixAt intra) (none-pasted (omega arith))
 
-  module _ (l : length before ≡ tablesLength) (a : length intra ≡ 64) (b : length other ≡ 64) (now : List ℕ) (k : ℕ) (c : Beside before intra other now k) where
-    intra-long : (n : ℕ) → n ≤ 64 → length (paste before intraMatrixAt intra n) ≡ tablesLength
-    intra-long n h = length-paste before intraMatrixAt intra n (omega arith) (omega arith) ∙ l
+  pub both-on : {k : ℕ} {now : List ℕ} → Both before intra other k now → k < 64
+      → Both before intra other (k + 1) (set (set now (intraMatrixAt + k) (getD intra k 0)) (otherMatrixAt + k) (getD other k 0))
+  both-on {k} {now} p q =
+      let x = getD intra k 0 in
+      let m = paste before intraMatrixAt intra k in
+      let first : Pasted before intraMatrixAt intra (k + 1) (set m (intraMatrixAt + k) x) =
+      pasted-on (pasted (omega arith) (omega arith) refl) (omega arith) refl in
+      let second : Pasted (set m (intraMatrixAt + k) x) otherMatrixAt other k (set now (intraMatrixAt + k) x) =
+      pasted (p .most) (omega (arith, first .long))
+      (ap (λ (t : List ℕ). set t (intraMatrixAt + k) x) (p .is)
+      ∙ paste-behind m otherMatrixAt other k (intraMatrixAt + k) x (omega arith) (omega (arith, p .inside))) in
+      subst (λ (t : List ℕ). Pasted t otherMatrixAt other (k + 1) (set (set now (intraMatrixAt + k) x) (otherMatrixAt + k) (getD other k 0))) (first .is)
+      (pasted-on second (omega arith) refl)
 
-    pub beside-long : length now ≡ tablesLength
-    beside-long =
-        let h = intra-long k (c .most) in
-        ap length (c .is) ∙ length-paste (paste before intraMatrixAt intra k) otherMatrixAt other k (omega (arith, c .most)) (omega (arith, c .most)) ∙ h
-
-    pub beside-one : k < 64
-        → Beside before intra other (set (set now (intraMatrixAt + k) (getD intra k 0)) (otherMatrixAt + k) (getD other k 0)) (k + 1)
-    beside-one h =
-        let x = getD intra k 0 in
-        let y = getD other k 0 in
-        let m = intra-long k (c .most) in
-        let n = intra-long (suc k) (omega arith) in
-        record {
-          most = omega arith;
-          is =
-              ap (λ (t : List ℕ). set (set t (intraMatrixAt + k) x) (otherMatrixAt + k) y) (c .is)
-              ∙ ap (λ (t : List ℕ). set t (otherMatrixAt + k) y)
-              (paste-behind (paste before intraMatrixAt intra k) otherMatrixAt other k (intraMatrixAt + k) x (omega arith) (omega arith))
-              ∙ ap (λ (t : List ℕ). set (paste t otherMatrixAt other k) (otherMatrixAt + k) y)
-              (paste-suc before intraMatrixAt intra k 0 (omega arith) (omega arith))
-              ∙ paste-suc (paste before intraMatrixAt intra (suc k)) otherMatrixAt other k 0 (omega arith) (omega arith)
-              ∙ ap (λ (i : ℕ). paste (paste before intraMatrixAt intra i) otherMatrixAt other i) (sym (add-one k));
-        }
-
-    pub beside-all : 64 ≤ k → now ≡ paste (paste before intraMatrixAt intra 64) otherMatrixAt other 64
-    beside-all h =
-        let all : k ≡ 64 = omega (arith, c .most) in
-        c .is ∙ ap (λ (i : ℕ). paste (paste before intraMatrixAt intra i) otherMatrixAt other i) all
+  pub all-both : {k : ℕ} {now : List ℕ} → Both before intra other k now → 64 ≤ k → now ≡ paste (paste before intraMatrixAt intra 64) otherMatrixAt other 64
+  all-both {k} p q =
+      let all : k ≡ 64 = omega (arith, p .most) in
+      p .is ∙ ap (λ (i : ℕ). paste (paste before intraMatrixAt intra i) otherMatrixAt other i) all
 
 -- a table behind another
 paste-on : (t a b : List ℕ) (at n m : ℕ) → length a ≡ n → m ≤ length b → at + n + m ≤ length t
@@ -190,67 +172,41 @@ paste-on t a b at n m l k h =
     ∙ ap (λ (x : List ℕ). x ++ drop (at + (n + m)) t) (append-assoc (take at t) a (take m b))
     ∙ ap (λ (x : List ℕ). take at t ++ x ++ drop (at + (n + m)) t) (sym both)
 
--- of the numbers t the n from `at` on have become those of `laid`, which has as many
-pub record Laid (before : List ℕ) (at : ℕ) (laid : List ℕ) (n : ℕ) (t : List ℕ) : Type 0 where
-  pub long : length laid ≡ n
-  pub inside : at + n ≤ length before
-  pub is : t ≡ paste before at laid n
+-- all the n entries of `laid` stand at `at`
+abbrev pub Laid : List ℕ → ℕ → List ℕ → ℕ → List ℕ → Type 0
+Laid before at laid n now = Pasted before at laid n now × (length laid ≡ n)
 
-pub laid-none : (before : List ℕ) (at : ℕ) → at ≤ length before → Laid before at [] 0 before
-laid-none before at h = record { long = refl; inside = omega arith; is = paste-zero before at [] }
+pub none-laid : (before : List ℕ) (at : ℕ) → at ≤ length before → Laid before at [] 0 before
+none-laid before at h = (none-pasted (omega arith), refl)
 
 -- one table more, of m entries, which are k
-pub laid-on : {before t after laid : List ℕ} {at n : ℕ} (table : List ℕ) (k : ℕ) {m : ℕ} → length before ≡ tablesLength → Laid before at laid n t
+pub laid-on : {before now after laid : List ℕ} {at n : ℕ} (table : List ℕ) (k : ℕ) {m : ℕ} → length before ≡ tablesLength → Laid before at laid n now
     → length table ≡ k → T (leb (at + n + k) tablesLength) → m ≡ k
-    → after ≡ paste t (at + n) table m → Laid before at (laid ++ table) (n + k) after
-laid-on {before} {t} {after} {laid} {at} {n} table k l f w h q r =
+    → after ≡ paste now (at + n) table m → Laid before at (laid ++ table) (n + k) after
+laid-on {before} {now} {after} {laid} {at} {n} table k l (p, f) w h q r =
     let most = leb→le (at + n + k) tablesLength h in
-    record {
-      long = length-append laid table ∙ rw (f .long, w) refl;
-      inside = omega (arith, l, most);
-      is =
-          r ∙ ap (paste t (at + n) table) q
-          ∙ ap (λ (x : List ℕ). paste x (at + n) table k) (f .is)
-          ∙ paste-on before laid table at n k (f .long) (omega arith) (omega (arith, l, most));
-    }
+    let long : length (laid ++ table) ≡ n + k = length-append laid table ∙ rw (f, w) refl in (
+      pasted (omega arith) (omega (arith, l, most))
+          (r ∙ ap (paste now (at + n) table) q
+          ∙ ap (λ (x : List ℕ). paste x (at + n) table k) (p .is)
+          ∙ paste-on before laid table at n k f (omega arith) (omega (arith, l, most))),
+      long,
+    )
 
 -- a part of a code table more: k entries of it, from `first` on
-pub laid-codes : {before t after laid : List ℕ} {at n : ℕ} (table : List ℕ) (first k : ℕ) → length before ≡ tablesLength → Laid before at laid n t
+pub laid-codes : {before now after laid : List ℕ} {at n : ℕ} (table : List ℕ) (first k : ℕ) → length before ≡ tablesLength → Laid before at laid n now
     → T (leb (first + k) (length table)) → T (leb (at + n + k) tablesLength)
-    → after ≡ paste t (at + n) (drop first table) k → Laid before at (laid ++ take k (drop first table)) (n + k) after
-laid-codes {t = t} {at = at} {n = n} table first k l f w h r =
+    → after ≡ paste now (at + n) (drop first table) k → Laid before at (laid ++ take k (drop first table)) (n + k) after
+laid-codes {now = now} {at = at} {n = n} table first k l f w h r =
     let part = take k (drop first table) in
     let long : length part ≡ k = omega (arith, length-take k (drop first table), length-drop first table, leb→le (first + k) (length table) w) in
     laid-on part k l f long h refl
-    (r ∙ ap (λ (x : List ℕ). take (at + n) t ++ x ++ drop (at + n + k) t) (sym (take-all k part (omega arith))))
+    (r ∙ ap (λ (x : List ℕ). take (at + n) now ++ x ++ drop (at + n + k) now) (sym (take-all k part (omega arith))))
 
--- the first n of the numbers t are those of `front`
-pub record Front (t : List ℕ) (n : ℕ) (front : List ℕ) : Type 0 where
-  pub long : length t ≡ tablesLength
-  pub is : take n t ≡ front
-
-pub front-none : {t : List ℕ} → length t ≡ tablesLength → Front t 0 []
-front-none h = record { long = h; is = refl }
-
--- one table more, of m entries, which are n
-pub front-on : {t front after : List ℕ} (table : List ℕ) (at n : ℕ) {m : ℕ} → Front t at front → length table ≡ n → T (leb (at + n) tablesLength)
-    → m ≡ n
-    → after ≡ paste t at table m → Front after (at + n) (front ++ table)
-front-on {t} {front} {after} table at n f k h q r =
-    let most = leb→le (at + n) tablesLength h in
-    let e = r ∙ ap (paste t at table) q in
-    let l = f .long in
-    record {
-      long = ap length e ∙ length-paste t at table n (omega arith) (omega arith) ∙ l;
-      is =
-          ap (take (at + n)) e
-          ∙ take-paste t at table n (omega arith) (omega arith)
-          ∙ ap (λ (x : List ℕ). x ++ take n table) (f .is)
-          ∙ ap (λ (x : List ℕ). front ++ x) (take-all n table (omega arith));
-    }
-
-pub front-all : {t front : List ℕ} → Front t tablesLength front → t ≡ front
-front-all {t} f = sym (take-all tablesLength t (omega (arith, f .long))) ∙ f .is
+-- from the first place to the last
+pub all-laid : {before now laid : List ℕ} {n : ℕ} → Laid before 0 laid n now → length before ≡ n → now ≡ laid
+all-laid {before} {now} {laid} {n} (p, f) h =
+    p .is ∙ ap₂ (λ (x : List ℕ) (y : List ℕ). x ++ y) (take-all n laid (omega arith)) (drop-of-length-le before {i = 0 + n} (omega arith)) ∙ append-nil laid
 
 -- ---- what has been made is what is lent
 

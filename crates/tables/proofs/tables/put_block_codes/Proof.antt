@@ -12,7 +12,7 @@ use Rattle.codes.specs.Matrices.{zigZag, downFrom, diagonals, premultiplierMatr
 use Rattle.codes.specs.Lent.{joined, blockCodes}
 use Rattle.codes.specs.Tables.{motionIndex, motionValue, dctSizeLuminanceIndex, dctSizeLuminanceValue}
 use Rattle.codes.specs.Tables.{dctSizeChrominanceIndex, dctSizeChrominanceValue, dctCoeffIndex, dctCoeffValue}
-use Rattle.tables.proofs.Made.{laid-none, laid-on, laid-codes, macroblock-codes-length, block-codes-length}
+use Rattle.tables.proofs.Made.{none-laid, laid-on, laid-codes, macroblock-codes-length, block-codes-length}
 use Rattle.tables.proofs.tables.put_block_codes.Statement.{statement}
 use Rattle.tables.proofs.tables.put_block_codes.Tie as tie
 
@@ -28,7 +28,7 @@ returns c =
     let t = now (x1 .before .before .before .before .args .t) in
     let long = x1 .before .put-codes-arg .given .0 .1 in
     let vectors = joined motionIndex motionValue in
-    let l1 = laid-codes vectors 0 24 long (laid-none t 246 (omega (arith, long))) tt tt (x1 .put-codes .ensures) in
+    let l1 = laid-codes vectors 0 24 long (none-laid t 246 (omega (arith, long))) tt tt (x1 .put-codes .ensures) in
     let l2 = laid-codes vectors 24 24 long l1 tt tt (x2 .put-codes2 .ensures) in
     let l3 = laid-codes vectors 48 20 long l2 tt tt (x3 .put-codes3 .ensures) in
     let l4 = laid-codes (joined dctSizeLuminanceIndex (map pos dctSizeLuminanceValue)) 0 18 long l3 tt tt (x4 .put-codes4 .ensures) in
@@ -46,7 +46,7 @@ returns c =
     let l15 = laid-codes coefficients 216 8 long l14 tt tt (x15 .put-codes15 .ensures) in
     let order = laid-on zigZag 64 long l15 refl tt refl (z .put-bytes .ensures) in
     let all = laid-on (map natAbs premultiplierMatrix) 64 long order refl tt refl (c .put .ensures) in
-    all .is ∙ ap (paste t 246 blockCodes) (sym block-codes-length) ∙ ap (λ (k : ℕ). paste t k blockCodes (length blockCodes)) (sym macroblock-codes-length)
+    all .0 .is ∙ ap (paste t 246 blockCodes) (sym block-codes-length) ∙ ap (λ (k : ℕ). paste t k blockCodes (length blockCodes)) (sym macroblock-codes-length)
 
 pub put-block-codes-spec : {M : Type 1} → statement M
 put-block-codes-spec =

@@ -6,19 +6,19 @@ use native.Mathlib.Omega.{arith}
 use denote.Ref.{now}
 use borrow.Author.Needs.{needs, sfits-of}
 use lib.IntN.{ℤ, pos, natAbs}
-use lib.ListN.{drop, getD}
+use lib.ListN.{drop, getD, length-drop}
 use mir.Facts.{toZ-ofZ}
 use mir.Syntax.{w32}
 use Rattle.laws.proofs.Tests.{if-yes, if-no}
 use Rattle.codes.specs.Lent.{lentValue, joinedEntry, joined}
 use Rattle.codes.proofs.Joined.{joined-length, joined-at, near-at, Short, short-at}
-use Rattle.tables.proofs.Made.{index-is, index-cast, raised-fits, raised-cast, raised-is, entry-most, Copied, copied-none, part-one}
+use Rattle.tables.proofs.Made.{index-is, index-cast, raised-fits, raised-cast, raised-is, entry-most, Pasted, none-pasted, pasted-from}
 use Rattle.tables.proofs.tables.put_codes.Statement.{statement}
 use Rattle.tables.proofs.tables.put_codes.Tie as tie
 
 abbrev Inv-loop : tie.InvT-loop
 Inv-loop tables₀ at index value first last k₀ tables k =
-    Copied tables₀ (drop first (joined index value)) (at + first) tables (k - first) × (first ≤ k) × (k ≤ last)
+    Pasted tables₀ (at + first) (drop first (joined index value)) (k - first) tables × (first ≤ k) × (k ≤ last)
 
 abbrev μ-loop : tie.MeasureT-loop
 μ-loop tables₀ at index value first last k₀ tables k = last - k
@@ -27,7 +27,10 @@ loop-holds : tie.Need-loop-holds Inv-loop μ-loop
 loop-holds c =
     let a = c .args in
     let none : 0 ≡ a .first - a .first = omega arith in
-    (rw none at (copied-none (now (a .tables)) (drop (a .first) (joined (now (a .index)) (now (a .value)))) (a .at + a .first)), omega arith, omega arith)
+    let all = joined (now (a .index)) (now (a .value)) in
+    let rest = length-drop (a .first) all in
+    let long = joined-length (now (a .index)) (now (a .value)) in
+    (rw none at (none-pasted {before = now (a .tables)} {at = a .at + a .first} {part = drop (a .first) all} (omega arith)), omega arith, omega arith)
 
 -- the index and the value of the entry k
 abbrev index : tie.After-found Inv-loop μ-loop → ℤ
@@ -62,8 +65,7 @@ loop-again c =
     let k = x .loop .k in
     let long = joined-length (now (a .index)) (now (a .value)) in
     let laid = entry j ∙ sym (joined-at (now (a .index)) (now (a .value)) k (omega arith)) in (
-      part-one (now (a .tables)) (joined (now (a .index)) (now (a .value))) (a .at) (a .first) k (x .loop .tables) (j .if1 .entry) (omega arith) (omega arith)
-          (omega arith) laid (x .loop .inv .0),
+      pasted-from (joined (now (a .index)) (now (a .value))) (a .at) (a .first) k (x .loop .inv .0) (omega arith) (omega arith) laid,
       omega arith,
       omega arith,
     )

@@ -10,7 +10,7 @@ use Rattle.codes.specs.Lent.{joined, macroblockCodes}
 use Rattle.codes.specs.Tables.{macroblockAddressIncrementIndex, macroblockAddressIncrementValue, macroblockTypeIntraIndex, macroblockTypeIntraValue}
 use Rattle.codes.specs.Tables.{macroblockTypePredictiveIndex, macroblockTypePredictiveValue, macroblockTypeBIndex, macroblockTypeBValue}
 use Rattle.codes.specs.Tables.{codeBlockPatternIndex, codeBlockPatternValue}
-use Rattle.tables.proofs.Made.{laid-none, laid-codes, macroblock-codes-length}
+use Rattle.tables.proofs.Made.{none-laid, laid-codes, macroblock-codes-length}
 use Rattle.tables.proofs.tables.put_macroblock_codes.Statement.{statement}
 use Rattle.tables.proofs.tables.put_macroblock_codes.Tie as tie
 
@@ -26,7 +26,7 @@ returns c =
     let t = now (x1 .before .before .before .before .args .t) in
     let long = x1 .before .put-codes-arg .given .0 .1 in
     let increments = joined macroblockAddressIncrementIndex (map pos macroblockAddressIncrementValue) in
-    let l1 = laid-codes increments 0 24 long (laid-none t 0 (omega (arith, long))) tt tt (x1 .put-codes .ensures) in
+    let l1 = laid-codes increments 0 24 long (none-laid t 0 (omega (arith, long))) tt tt (x1 .put-codes .ensures) in
     let l2 = laid-codes increments 24 24 long l1 tt tt (x2 .put-codes2 .ensures) in
     let l3 = laid-codes increments 48 24 long l2 tt tt (x3 .put-codes3 .ensures) in
     let l4 = laid-codes increments 72 8 long l3 tt tt (x4 .put-codes4 .ensures) in
@@ -40,7 +40,7 @@ returns c =
     let l11 = laid-codes patterns 72 24 long l10 tt tt (x11 .put-codes11 .ensures) in
     let l12 = laid-codes patterns 96 24 long l11 tt tt (x12 .put-codes12 .ensures) in
     let l13 = laid-codes patterns 120 6 long l12 tt tt (c .put-codes13 .ensures) in
-    l13 .is ∙ ap (paste t 0 macroblockCodes) (sym macroblock-codes-length)
+    l13 .0 .is ∙ ap (paste t 0 macroblockCodes) (sym macroblock-codes-length)
 
 pub put-macroblock-codes-spec : {M : Type 1} → statement M
 put-macroblock-codes-spec =

@@ -2,12 +2,12 @@
 use Prim.Native.Nat.{_-_}
 use native.Mathlib.Omega.{arith}
 use denote.Ref.{now}
-use Rattle.tables.proofs.Made.{Beside, beside-none, beside-one, beside-all}
+use Rattle.tables.proofs.Made.{Both, none-both, both-on, all-both}
 use Rattle.tables.proofs.tables.put_matrices.Statement.{statement}
 use Rattle.tables.proofs.tables.put_matrices.Tie as tie
 
 abbrev Inv-loop : tie.InvT-loop
-Inv-loop tables₀ intra-matrix other-matrix k₀ tables k = Beside tables₀ intra-matrix other-matrix tables k
+Inv-loop tables₀ intra-matrix other-matrix k₀ tables k = Both tables₀ intra-matrix other-matrix k tables
 
 abbrev μ-loop : tie.MeasureT-loop
 μ-loop tables₀ intra-matrix other-matrix k₀ tables k = 64 - k
@@ -18,25 +18,24 @@ cast-intra c = omega (arith, c .shared-slice-known .given (c .before .before .lo
 cast-other : tie.Need-cast-other Inv-loop μ-loop
 cast-other c = omega (arith, c .shared-slice-known2 .given (c .before .before .before .loop .k))
 
+loop-holds : tie.Need-loop-holds Inv-loop μ-loop
+loop-holds c = let a = c .args in none-both (now (a .tables)) (now (a .intra-matrix)) (now (a .other-matrix)) (c .pre)
+
 loop-again : tie.Need-loop-again Inv-loop μ-loop
 loop-again c =
     let x = c .before .before .before in
-    let s = x .before in
-    let a = s .args in
-    beside-one (now (a .tables)) (now (a .intra-matrix)) (now (a .other-matrix)) (s .pre .0) (s .pre .1 .0) (s .pre .1 .1) (x .loop .tables) (x .loop .k)
-    (x .loop .inv) (c .before .before .loop-test .taken)
+    let a = x .before .args in
+    both-on (now (a .tables)) (now (a .intra-matrix)) (now (a .other-matrix)) (x .before .pre) (x .loop .inv) (c .before .before .loop-test .taken)
 
 returns : tie.Need-returns Inv-loop μ-loop
 returns c =
     let x = c .before in
-    let s = x .before in
-    let a = s .args in
-    beside-all (now (a .tables)) (now (a .intra-matrix)) (now (a .other-matrix)) (s .pre .0) (s .pre .1 .0) (s .pre .1 .1) (x .loop .tables) (x .loop .k)
-    (x .loop .inv) (c .loop-test .left)
+    let a = x .before .args in
+    all-both (now (a .tables)) (now (a .intra-matrix)) (now (a .other-matrix)) (x .before .pre) (x .loop .inv) (c .loop-test .left)
 
 pub put-matrices-spec : {M : Type 1} → statement M
 put-matrices-spec =
     tie.close
     (tie.spec
-    Inv-loop μ-loop (λ c. beside-none _ _ _) (λ c. omega arith) cast-intra (λ c. omega arith) cast-other (λ c. omega arith) (λ c. omega arith)
+    Inv-loop μ-loop loop-holds (λ c. omega arith) cast-intra (λ c. omega arith) cast-other (λ c. omega arith) (λ c. omega arith)
     (λ c. omega arith) (λ c. omega arith) (λ c. omega arith) (λ c. omega arith) (λ c. omega arith) (λ c. omega arith) loop-again returns)
