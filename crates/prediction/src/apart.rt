@@ -1,7 +1,7 @@
 // A predicted block, row by row, from one part of the store into another that is apart from it (RULES 6.7, 6.8). Each row is made in an array before it is
-// written, so that it is one move of 16 or 8 bytes. The sizes 16 and 8 stand in the texts, with both loops in one function: a loop that becomes one of 8 turns
-// by inlining only is unrolled byte by byte. The sample to the right or below stands at an offset that is a parameter: where the compiler sees that it is 1, it
-// loads a row once and shuffles it, which takes longer. An offset of 0 averages a sample with itself: a copy.
+// written, so that it is one move of 16 or 8 bytes. The sizes 16 and 8 stand in the texts, with both loops in one function: a loop that becomes one of 8
+// turns by inlining only is unrolled byte by byte. The sample to the right or below stands at an offset that is a parameter: where the compiler sees that
+// it is 1, it loads a row once and shuffles it, which takes longer. An offset of 0 averages a sample with itself: a copy.
 use crate::samples::average2;
 use crate::samples::average4;
 use crate::samples::laid;
