@@ -1,15 +1,17 @@
 // The operations of the reader, as the list reader.bin names them, and ours for each.
 use bits::bytes::Part;
+use bits::bytes::SkippedBytes;
 use bits::position::BytePosition;
 use bits::position::LONGEST_STREAM;
 use bits::reader::Peeked;
 use bits::reader::ReadBits;
 use bits::reader::Reader;
+use bits::reader::Told;
 use bits::start_codes::StartCode;
 use lists::numbers::held;
 use lists::numbers::signed;
 ghost use mathlib.Core.Path.{_≡_};
-ghost use Prim.Native.Nat.{_≤_};
+ghost use Prim.Native.Nat.{_≤_, _<_};
 ghost use lib.ListN.{length};
 ghost use mir.Syntax.{w32};
 ghost use mir.Val.{ofZ};
@@ -133,6 +135,22 @@ fn peeked(s: &[u8], reader: Reader, count: usize) -> Outcome
     given(ahead.reader, bytes as u32 + 1)
 }
 
+// The place in bytes.
+fn told(place: Told) -> Outcome
+    requires { ⌜ place .at .0 < 4294967296 ⌝ }
+    ensures { λ r. ⌜ r ≡ gives (place .at .0) (place .reader .at .0) ⌝ }
+{
+    given(place.reader, place.at.0 as u32)
+}
+
+// How many bytes were passed.
+fn passed(bytes: SkippedBytes) -> Outcome
+    requires { ⌜ bytes .count < 4294967296 ⌝ }
+    ensures { λ r. ⌜ r ≡ gives (bytes .count) (bytes .reader .at .0) ⌝ }
+{
+    given(bytes.reader, bytes.count as u32)
+}
+
 // Ours, on the stream s.
 pub fn operate(s: &[u8], reader: Reader, op: Operation, argument: u32) -> Outcome
     requires { ⌜ Inside (now s) reader ⌝ }
@@ -148,10 +166,7 @@ pub fn operate(s: &[u8], reader: Reader, op: Operation, argument: u32) -> Outcom
         Operation::HasEnded => flagged(reader.has_ended(s)),
         Operation::Skip => given(reader.skip(s, count), 0),
         Operation::Align => given(reader.align(), 0),
-        Operation::Tell => {
-            let r = reader.tell();
-            given(r.reader, r.at.0 as u32)
-        }
+        Operation::Tell => told(reader.tell()),
         Operation::Seek => {
             if LONGEST_STREAM < count {
                 return refused(reader);
@@ -162,8 +177,7 @@ pub fn operate(s: &[u8], reader: Reader, op: Operation, argument: u32) -> Outcom
             if 255 < argument {
                 return refused(reader);
             }
-            let r = reader.skip_bytes(s, argument as u8);
-            given(r.reader, r.count as u32)
+            passed(reader.skip_bytes(s, argument as u8))
         }
         Operation::NextStartCode => coded(reader.next_start_code(s)),
         Operation::FindStartCode => coded(reader.find_start_code(s, signed(argument))),
