@@ -22,7 +22,7 @@ use Rattle.decoder.specs.Run.{begin, behind, pictureIn}
 use Rattle.decoder.specs.Listing.{Line, line, linesFrom, linesOf, listing}
 use Rattle.demands.proofs.RunCall.{Between, call-on, few}
 use Rattle.demands.proofs.Run.{opening-begins}
-use Rattle.listing.specs.Text.{Wrote, lineText, linesText, names, listingText}
+use Rattle.listing.specs.Text.{Wrote, Opens, lineText, linesText, names, listingText}
 use Rattle.listing.proofs.Writing.{wrote-on, wrote-length, wrote-take}
 
 -- ---- the whole
@@ -80,7 +80,6 @@ pub record Listed (s page₀ : List ℕ) (at₀ : ℕ) (page : List ℕ) (at : �
   pub bytes : (k : ℕ) → getD s k 0 < 256
   pub run : Between s (going d l) n
   pub long : length page ≡ length page₀
-  pub store : length l ≡ 55296
   pub place : at ≤ 25 + 84 * n
   pub so-far : List ℕ
   pub wrote : Wrote page₀ at₀ so-far page at
@@ -107,11 +106,11 @@ module _ {s page₀ : List ℕ} {at₀ : ℕ} {page : List ℕ} {at : ℕ} {l : 
       (ap (λ (t : List ℕ). h .so-far ++ t) (sym (append-nil (lineText (line n 0 0 a)))) ∙ following (left (H.Refused a) e m) q)
       (wrote-on (h .wrote) w)
 
-  pub listed-one : {after : List ℕ} {next : ℕ} (i : Shown) (e : Decoder) (m : List ℕ) → left (H.Picture i) e m ≡ handOut d s l → length m ≡ length l
+  pub listed-one : {after : List ℕ} {next : ℕ} (i : Shown) (e : Decoder) (m : List ℕ) → left (H.Picture i) e m ≡ handOut d s l
       → Wrote page at (lineText (line (n + 1) (i .store) (e .picture .«picture_type») 0)) after next → next ≤ at + 84
       → Listed s page₀ at₀ after next m e (n + 1)
   unfolding linesText
-  listed-one {after} {next} i e m q k w z =
+  listed-one {after} {next} i e m q w z =
       let x = h .short in
       let y = h .place in
       record {
@@ -119,7 +118,6 @@ module _ {s page₀ : List ℕ} {at₀ : ℕ} {page : List ℕ} {at : ℕ} {l : 
         bytes = h .bytes;
         run = subst (λ (r : Left Outcome). Between s (behind r) (n + pictureIn (r .answer))) (sym q) (call-on s (omega arith) (h .bytes) (h .run) .0);
         long = wrote-length w ∙ h .long;
-        store = k ∙ h .store;
         place = omega arith;
         so-far = h .so-far ++ lineText (line (n + 1) (i .store) (e .picture .«picture_type») 0);
         wrote = wrote-on (h .wrote) w;
@@ -127,16 +125,15 @@ module _ {s page₀ : List ℕ} {at₀ : ℕ} {page : List ℕ} {at : ℕ} {l : 
       }
 
 pub listed-first : {s page₀ : List ℕ} {at : ℕ} (l : List ℕ) (d : Decoder) → length s ≤ 65536 → ((k : ℕ) → getD s k 0 < 256)
-    → left O.Ready d l ≡ opening s (replicate 55296 0) → length l ≡ 55296 → at ≡ 25 → Listed s page₀ at page₀ at l d 0
+    → Opens s d l → at ≤ 25 → Listed s page₀ at page₀ at l d 0
 unfolding linesOf
-listed-first {s} {page₀} {at} l d h b e k p = record {
+listed-first {s} {page₀} {at} l d h b e p = record {
   short = h;
   bytes = b;
   run =
       subst (λ (r : Left Opening). Between s (going (r .decoder) (r .store)) 0) (sym e)
       (opening-begins s (omega arith) b (replicate 55296 0));
   long = refl;
-  store = k;
   place = omega arith;
   so-far = [];
   wrote = record { bytes = refl; place = omega arith };

@@ -4,10 +4,14 @@ use mathlib.Core.Path.{_≡_}
 use mathlib.Core.Bool.{cond}
 use Prim.Native.Nat.{ℕ, zero, suc, _+_, _/_, _%_}
 use lib.Dec.{ltb}
-use lib.ListN.{length}
+use lib.ListN.{length, replicate}
 use lib.Seq.{sets}
+use Rattle.decoder.specs.declared.record.Decoder.{Decoder}
+use Rattle.decoder.specs.declared.answers.Opening.the-variants as O
 use Rattle.decoder.specs.declared.answers.Outcome.{Outcome}
 use Rattle.decoder.specs.declared.answers.Outcome.the-variants as H
+use Rattle.decoder.specs.Record.{left}
+use Rattle.decoder.specs.Opening.{opening}
 use Rattle.decoder.specs.Listing.{Line, listing}
 
 -- a number in decimal digits, with no 0 in front, where n digits are enough
@@ -36,6 +40,10 @@ names =
 -- RULES L: what the program prints of the stream s
 unfoldable pub listingText : List ℕ → List ℕ
 listingText s = names ++ linesText (listing s)
+
+-- RULES L.1: opening the stream s over an empty store leaves the record d and the store l
+abbrev pub Opens : List ℕ → Decoder → List ℕ → Type 0
+Opens s d l = left O.Ready d l ≡ opening s (replicate 55296 0)
 
 -- RULES L.3: the number that ends the calls
 abbrev pub numberIn : Outcome → ℕ
