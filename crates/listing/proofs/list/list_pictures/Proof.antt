@@ -59,10 +59,9 @@ answered d o e = ap (λ (y : Outcome). left y (d .decode .result .decoder) (d .d
 
 loop-holds : tie.Need-loop-holds Inv-loop μ-loop
 loop-holds c =
-    let s = c .before .before .before in (
-      listed-first (now (s .args .store)) (s .args .opened) (s .pre .0 .0) (λ k. c .before .before .shared-slice-known .given k .fits) (s .pre .0 .1) (s .pre .1 .0),
-      refl,
-    )
+    let s = c .before .before .before in
+    let bytes = c .before .before .shared-slice-known .given in
+    (listed-first (now (s .args .store)) (s .args .opened) (s .pre .0 .0) (λ k. bytes k .fits) (s .pre .0 .1) (s .pre .1 .0), refl)
 
 returns : tie.Need-returns Inv-loop μ-loop
 returns c =
