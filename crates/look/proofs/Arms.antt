@@ -1,5 +1,5 @@
--- The arms of a `match` over the numbers below n, of which the last is its default. Assumes nothing.
-use mathlib.Core.Path.{_≡_, ap, sym}
+-- The default arm of a `match` over the numbers below n. Assumes nothing.
+use mathlib.Core.Path.{_≡_}
 use mathlib.Core.Bool.{Bool, true, false, true≢false, _||_}
 use Prim.Native.Nat.{ℕ, zero, suc, _≤_, _<_}
 use native.Mathlib.Omega.{arith}
@@ -17,10 +17,6 @@ None x (suc n) = None x n × (x ≡ n → ⊥)
 pub none-below : (x n : ℕ) → None x n → n ≤ x
 none-below x zero r = omega arith
 none-below x (suc n) r = let h = none-below x n (r .0) in let k = r .1 in omega arith
-
--- an arm of the function f: the number k
-pub arm : (f : ℕ → ℕ) {x k : ℕ} → x ≡ k → f k ≡ f x
-arm f e = ap f (sym e)
 
 -- the default arm, if f is v from m on
 pub rest : (m n v : ℕ) (f : ℕ → ℕ) → allBelow n (λ x. ltb x m || eqb v (f x)) ≡ true → {x : ℕ} → None x m → x < n → v ≡ f x
