@@ -72,15 +72,16 @@ fn add_const_row(d: &mut [u8], at: usize, value: i32)
     requires { ⌜ natAbs value ≤ 131072 ⌝ }
     ensures { λ _. ⌜ now (d .exit) ≡ storeRow (now (d .entry)) at (λ x. clamp255 (pos (getD (now (d .entry)) (at + x) 0) +ℤ value)) 8 ⌝ }
 {
+    let old = &*d;
     let v = [
-        added_const(d, at, value, 0),
-        added_const(d, at, value, 1),
-        added_const(d, at, value, 2),
-        added_const(d, at, value, 3),
-        added_const(d, at, value, 4),
-        added_const(d, at, value, 5),
-        added_const(d, at, value, 6),
-        added_const(d, at, value, 7),
+        added_const(old, at, value, 0),
+        added_const(old, at, value, 1),
+        added_const(old, at, value, 2),
+        added_const(old, at, value, 3),
+        added_const(old, at, value, 4),
+        added_const(old, at, value, 5),
+        added_const(old, at, value, 6),
+        added_const(old, at, value, 7),
     ];
     put_eight(d, at, &v);
 }
@@ -92,15 +93,16 @@ fn add_row(d: &mut [u8], at: usize, s: &[i32; 64], from: usize)
     ensures { λ _. ⌜ now (d .exit) ≡ storeRow (now (d .entry)) at
         (λ x. clamp255 (pos (getD (now (d .entry)) (at + x) 0) +ℤ getD (now (s .entry)) (from + x) (pos 0))) 8 ⌝ }
 {
+    let old = &*d;
     let v = [
-        added_at(d, at, s, from, 0),
-        added_at(d, at, s, from, 1),
-        added_at(d, at, s, from, 2),
-        added_at(d, at, s, from, 3),
-        added_at(d, at, s, from, 4),
-        added_at(d, at, s, from, 5),
-        added_at(d, at, s, from, 6),
-        added_at(d, at, s, from, 7),
+        added_at(old, at, s, from, 0),
+        added_at(old, at, s, from, 1),
+        added_at(old, at, s, from, 2),
+        added_at(old, at, s, from, 3),
+        added_at(old, at, s, from, 4),
+        added_at(old, at, s, from, 5),
+        added_at(old, at, s, from, 6),
+        added_at(old, at, s, from, 7),
     ];
     put_eight(d, at, &v);
 }

@@ -14,14 +14,13 @@ use Rattle.laws.proofs.Ints.{reread}
 use Rattle.prediction.proofs.writers.add_const_row.Statement.{statement}
 use Rattle.prediction.proofs.writers.add_const_row.Tie as tie
 
--- the entry, where all is stored: each of the eight bytes takes two places
+-- the entry, where all is stored
 abbrev entry : tie.After-slice-known2 → tie.Start
 entry c =
     let eighth = c .before .before .before .before .before in
-    let sixth = eighth .before .before .before .before in
-    let fourth = sixth .before .before .before .before in
-    let second = fourth .before .before .before .before in
-    second .before .before .before .before .before
+    let fourth = eighth .before .before .before .before in
+    let first = fourth .before .before .before in
+    first .before .before .before
 
 returns : tie.Need-returns
 returns c =

@@ -4,14 +4,6 @@ use Rattle.prediction.proofs.Lines.{eight-row}
 use Rattle.prediction.proofs.writers.add_row.Statement.{statement}
 use Rattle.prediction.proofs.writers.add_row.Tie as tie
 
--- the entry, where the last of the eight bytes is known: each takes two places
-abbrev entry : tie.After-added-at8 → tie.Start
-entry eighth =
-    let sixth = eighth .before .before .before .before in
-    let fourth = sixth .before .before .before .before in
-    let second = fourth .before .before .before .before in
-    second .before .before .before .before .before
-
 returns : tie.Need-returns
 returns c = eight-row _ _ _ (c .before .before .put-eight .ensures) (search) (search) (search) (search) (search) (search) (search) (search)
 
@@ -19,5 +11,4 @@ pub add-row-spec : {M : Type 1} → statement M
 add-row-spec =
     tie.close
     (tie.spec (λ c κs. search needs) (λ c κs. search needs) (λ c κs. search needs) (λ c κs. search needs) (λ c κs. search needs)
-    (λ c κs. search needs) (λ c κs. search needs) (λ c κs. search needs) (λ c κs. entry (c .before .before) .pre .0) (λ c. search needs)
-    returns)
+    (λ c κs. search needs) (λ c κs. search needs) (λ c κs. search needs) (λ c κs. search needs) (λ c. search needs) returns)
