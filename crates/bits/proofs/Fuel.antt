@@ -7,7 +7,7 @@ use native.Mathlib.Omega.{arith}
 use Rattle.laws.specs.Turns.{Turn, again, stop, turns, stops}
 use Rattle.laws.proofs.Loops.{more-fuel, enough-fuel}
 use Rattle.bits.specs.Programs.{Prog, Out, run, turn, loop}
-use Rattle.bits.specs.Runs.{Runs}
+use Rattle.bits.specs.Runs.{RunsAt}
 use Rattle.bits.proofs.Programs.{run-bind}
 
 -- what a turn of the program did, on its state and place
@@ -37,7 +37,7 @@ module _ {S A : Type 0} (f : S → Prog (Turn S A)) (s : List ℕ) where
   loop-more-fuel n m d e x a h p = run-loop n d x a ∙ more-fuel step n m _ _ (record { value = x; at = a }) h p ∙ sym (run-loop m e x a)
 
   -- a measure of state and place that each turn that goes on brings down: any fuel above it gives the same
-  pub loop-enough-fuel : (μ : S → ℕ → ℕ) → ((x y : S) (a e : ℕ) → Runs (f x) s a (again y) e → μ y e < μ x a)
+  pub loop-enough-fuel : (μ : S → ℕ → ℕ) → ((x y : S) (a e : ℕ) → RunsAt (f x) s a (again y) e → μ y e < μ x a)
       → (n m : ℕ) (d e : A) (x : S) (a : ℕ) → μ x a < n → μ x a < m → run (loop n f d x) s a ≡ run (loop m f e x) s a
   loop-enough-fuel μ falls n m d e x a h k =
       run-loop n d x a

@@ -14,7 +14,8 @@ use Rattle.laws.specs.Turns.{Turn, again, stop}
 use Rattle.laws.proofs.Tests.{by-case}
 use Rattle.bits.specs.Bits.{Found, has, got, found, boundary}
 use Rattle.bits.specs.Programs.{Prog, Out, done, run, bind, bits, reads, nextStartCode, turn, loop}
-use Rattle.bits.specs.Runs.{Runs}
+use Rattle.bits.specs.Runs.{Runs, placeOf}
+use Rattle.bits.specs.declared.reader.Reader.{Reader}
 use Rattle.bits.proofs.Bits.{bits-lt}
 use Rattle.bits.proofs.Programs.{run-bind}
 use Rattle.bits.proofs.Start.{Searched, first, none, found-is-first}
@@ -24,8 +25,8 @@ pub record Gives {A : Type 0} (s : List ℕ) (P : A → Type 0) (p : Prog A) : T
   pub value : (a : ℕ) → P (run p s a .value)
 
 -- so it holds of the value of each run
-pub given-by : {A : Type 0} {s : List ℕ} {P : A → Type 0} {p : Prog A} {a : ℕ} {v : A} {e : ℕ} → Gives s P p → Runs p s a v e → P v
-given-by {A} {P = P} {a = a} g r = subst (λ (o : Out A). P (o .value)) (r .is) (g .value a)
+pub given-by : {A : Type 0} {s : List ℕ} {P : A → Type 0} {p : Prog A} {from to : Reader} {v : A} → Gives s P p → Runs p s from v to → P v
+given-by {A} {P = P} {from = from} g r = subst (λ (o : Out A). P (o .value)) (r .is) (g .value (placeOf from))
 
 -- what a turn that ended at the place e leaves: I of its state, or P of its answer
 abbrev pub Leaves : {S A : Type 0} → (S → ℕ → Type 0) → (A → Type 0) → Turn S A → ℕ → Type 0
@@ -50,6 +51,11 @@ module _ {S A : Type 0} (s : List ℕ) (I : S → ℕ → Type 0) (P : A → Typ
           → P (run (turn (loop n f d) t) s e .value)
       go (again y) e h k = k y e h
       go (stop v) e h k = h
+
+-- n bits, and the 0 of a read that is refused
+pub got-lt : (s : List ℕ) (a n : ℕ) → got s a n < 2 ^ n
+unfolding got
+got-lt s a n = by-case (λ v. v < 2 ^ n) (has s a n) (λ e. bits-lt s a n) (λ e. pow-pos n)
 
 module _ {s : List ℕ} where
   pub g-done : {A : Type 0} {P : A → Type 0} {x : A} → P x → Gives s P (done x)
@@ -83,10 +89,9 @@ module _ {s : List ℕ} where
       go (again y) e h = h
       go (stop v) e h = h
 
-  -- n bits, and the 0 of a read that is refused
   pub g-bits : (n : ℕ) → Gives s (λ v. v < 2 ^ n) (bits n)
-  unfolding run got
-  g-bits n = record { value = λ a. by-case (λ v. v < 2 ^ n) (has s a n) (λ e. bits-lt s a n) (λ e. pow-pos n) }
+  unfolding run
+  g-bits n = record { value = λ a. got-lt s a n }
 
   -- the same of a read, which refuses more than 32 bits
   pub g-reads : (n : ℕ) → Gives s (λ v. v < 2 ^ n) (reads n)

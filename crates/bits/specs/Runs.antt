@@ -1,22 +1,43 @@
--- What the contracts of functions that read say of their value and of the reader that they give back.
+-- What the contracts of functions that read say of their value and of the reader that they give back. They name readers: what a reader holds is looked at
+-- in this crate only.
 use mathlib.Core.Path.{_≡_}
 use mathlib.Core.List.{List}
-use Prim.Native.Nat.{ℕ, _≤_}
+use Prim.Native.Nat.{ℕ, _+_, _-_, _*_, _≤_}
 use lib.ListN.{length}
 use Rattle.bits.specs.Bounds.{longestStream, lastPosition}
 use Rattle.bits.specs.declared.reader.Reader.{Reader}
 use Rattle.bits.specs.Programs.{Prog, run}
 
+-- RULES 1.16: the place of a reader, in bits
+abbrev pub placeOf : Reader → ℕ
+placeOf reader = reader .at .0
+
+-- RULES 1.16: the reader at a place
+abbrev pub readerAt : ℕ → Reader
+readerAt a = record { at = record { 0 = a } }
+
+-- RULES 1.6: the reader n bits on
+abbrev pub onBy : ℕ → Reader → Reader
+onBy n reader = readerAt (placeOf reader + n)
+
+-- RULES 1.3: how many bits are left; none at the end of the stream and past it
+abbrev pub bitsLeft : List ℕ → Reader → ℕ
+bitsLeft s reader = length s * 8 - placeOf reader
+
 -- p, run on s from the place a on, gives the value v and ends at the place e
-pub record Runs {A : Type 0} (p : Prog A) (s : List ℕ) (a : ℕ) (v : A) (e : ℕ) : Type 0 where
+pub record RunsAt {A : Type 0} (p : Prog A) (s : List ℕ) (a : ℕ) (v : A) (e : ℕ) : Type 0 where
   pub is : run p s a ≡ record { value = v; at = e }
+
+-- p, run on s from the reader `from` on, gives the value v, and `to` is the reader behind it
+pub record Runs {A : Type 0} (p : Prog A) (s : List ℕ) (from : Reader) (v : A) (to : Reader) : Type 0 where
+  pub is : run p s (placeOf from) ≡ record { value = v; at = placeOf to }
 
 -- RULES Q1, Q2: the length of the stream and the place of the reader are within their bounds
 pub record Inside (s : List ℕ) (reader : Reader) : Type 0 where
-  pub place : reader .at .0 ≤ lastPosition
+  pub place : placeOf reader ≤ lastPosition
   pub stream : length s ≤ longestStream
 
--- p, run on s from the reader `from` on, gives the value v, and `to` is the reader behind it
+-- p runs from `from` to `to`, and `to` is inside
 pub record Reading {A : Type 0} (p : Prog A) (s : List ℕ) (from : Reader) (v : A) (to : Reader) : Type 0 where
-  pub runs : Runs p s (from .at .0) v (to .at .0)
+  pub runs : Runs p s from v to
   pub inside : Inside s to

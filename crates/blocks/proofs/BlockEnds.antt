@@ -78,7 +78,7 @@ module _ (g : Context) (t : List ℕ) (intra : Bool) (number : ℕ) (x : Slice) 
         (block-gives q₁ (matrixOf t (q₁ .intra)) p left (rw is (k .predictors (predictorOf number) (omega arith))) (ready .reads .block) (ltb number 4))
         (reads .runs)
 
-    block-of : Runs (blockOf g (matricesIn t) intra number x left) s (from .at .0) r (to .at .0)
+    block-of : Runs (blockOf g (matricesIn t) intra number x left) s from r to
     block-of = rw (matrix-for t intra, ← is) (rw same at (reads .runs))
 
     pub block-out : r .end ≡ Outside

@@ -9,7 +9,7 @@ use lib.ListN.{length}
 use Rattle.bits.specs.declared.reader.Reader.{Reader}
 use Rattle.bits.specs.Runs.{Runs}
 use Rattle.bits.specs.Programs.{Prog}
-use Rattle.bits.proofs.Rules.{r-yes, r-no, r-done}
+use Rattle.bits.proofs.Rules.{Follows, r-yes, r-no, r-done, f-start, f-end}
 use Rattle.picture.specs.State.{World, world}
 use Rattle.picture.specs.Ways.{Way, on, onward}
 use Rattle.picture.specs.Heads.{flag}
@@ -17,7 +17,7 @@ use Rattle.picture.specs.Blocks.{oneBlock, lastBlocks, blocks}
 use Rattle.picture.specs.declared.state.Slice.{Slice}
 use Rattle.picture.specs.declared.state.Progress.{Progress}
 use Rattle.picture.specs.Views.{matricesIn, patternBlock, Ready, Went}
-use Rattle.picture.proofs.Ways.{Follows, f-start, f-end, f-onward, f-leave, way-out}
+use Rattle.picture.proofs.Ways.{f-onward, f-leave, way-out}
 use Rattle.blocks.specs.declared.blocks.CodedBlocks.{CodedBlocks}
 
 -- a macroblock's blocks, the last n of them, and the one with this number
@@ -47,7 +47,7 @@ pub record AtBlock (c : CodedBlocks) (t : List ℕ) (s : List ℕ) (from₀ : Re
   pub few : number ≤ 6
   pub ready : Ready (c .context) s from x left store
   pub long : length store ≡ length (w₀ .store)
-  pub rest : Follows (all c t w₀) s (from₀ .at .0) (last c t (6 - number) (world x left store)) (from .at .0)
+  pub rest : Follows (all c t w₀) s from₀ (last c t (6 - number) (world x left store)) from
 
 pub at-first : {c : CodedBlocks} {t : List ℕ} {s : List ℕ} {from : Reader} {x : Slice} {left : List ℤ} {store : List ℕ}
     → Ready (c .context) s from x left store → AtBlock c t s from (world x left store) from x left store 0
@@ -58,7 +58,7 @@ module _ {c : CodedBlocks} {t : List ℕ} {s : List ℕ} {from₀ : Reader} {w�
     {store : List ℕ} {number : ℕ} (i : AtBlock c t s from₀ w₀ from x left store number) where
   -- the program's next block
   next : number < 6
-      → Follows (all c t w₀) s (from₀ .at .0) (onward (numbered c t number (world x left store)) (last c t (5 - number))) (from .at .0)
+      → Follows (all c t w₀) s from₀ (onward (numbered c t number (world x left store)) (last c t (5 - number))) from
   unfolding lastBlocks
   next h =
       let e : 6 - number ≡ suc (5 - number) = omega arith in
@@ -80,6 +80,6 @@ module _ {c : CodedBlocks} {t : List ℕ} {s : List ℕ} {from₀ : Reader} {w�
         record { runs = rw e (f-leave _ (next h) (rw e at (w .runs))); ready = w .ready }
 
   -- and the end
-  pub at-end : 6 ≤ number → Runs (all c t w₀) s (from₀ .at .0) (on (world x left store)) (from .at .0)
+  pub at-end : 6 ≤ number → Runs (all c t w₀) s from₀ (on (world x left store)) from
   unfolding lastBlocks
   at-end h = let e : 6 - number ≡ 0 = omega arith in f-end (rw e at (i .rest)) r-done

@@ -11,10 +11,10 @@ use lib.ListN.{length, getD, List·getD-eq-default}
 use lib.IntN.{ℤ, pos, natAbs}
 use lib.Signed.{leZ}
 use Rattle.bits.specs.Bits.{bitAt, bitsAt, got, next}
-use Rattle.bits.specs.Programs.{Prog, Out, bits, loop}
-use Rattle.bits.specs.Runs.{Runs}
+use Rattle.bits.specs.Programs.{bits, loop}
+use Rattle.bits.specs.Runs.{RunsAt}
 use Rattle.bits.proofs.Bits.{bit-lt}
-use Rattle.bits.proofs.Rules.{is-bits, r-call, r-yes, r-no, r-done}
+use Rattle.bits.proofs.Rules.{at-bits, at-call, at-yes, at-no, at-done}
 use Rattle.bits.proofs.Programs.{served-got, served-next, refused-got, refused-next}
 use Rattle.codes.specs.Walk.{walkTurn, walk, vlc}
 use Rattle.codes.specs.Standard.{taken}
@@ -95,48 +95,39 @@ module _ (s : List ℕ) (a n : ℕ) where
       go (yes h) = served-next s (taken s a n) 1 (omega arith) ∙ omega arith
       go (no h) = refused-next s (taken s a n) 1 (omega arith) ∙ omega arith
 
--- ---- runs
-
--- two runs of one program end alike
-pub same-run : {A : Type 0} {p : Prog A} {s : List ℕ} {a : ℕ} {v w : A} {e g : ℕ} → Runs p s a v e → Runs p s a w g → (v ≡ w) × (e ≡ g)
-same-run {A} r q = let o = sym (r .is) ∙ q .is in (ap (λ (x : Out A). x .value) o, ap (λ (x : Out A). x .at) o)
-
-pub runs-as : {A : Type 0} {p : Prog A} {s : List ℕ} {a : ℕ} {v w : A} {e g : ℕ} → Runs p s a v e → v ≡ w → e ≡ g → Runs p s a w g
-runs-as r h k = record { is = r .is ∙ λ i. record { value = h i; at = k i } }
-
 -- ---- the program's walk
 
 module _ (ix : List ℤ) (s : List ℕ) (a : ℕ) where
   -- from `at` on, behind n bits, a loop of the walk's turns ends with e
   record Walks (fuel at n : ℕ) (e : End) : Type 0 where
-    runs : Runs (loop fuel (walkTurn ix) 0 at) s (taken s a n) (e .place) (taken s a (e .bits))
+    runs : RunsAt (loop fuel (walkTurn ix) 0 at) s (taken s a n) (e .place) (taken s a (e .bits))
 
   walks : (fuel at n : ℕ) → Walks fuel at n (follow ix (bitsAt s a) fuel at n)
   unfolding loop walkTurn
-  walks zero at n = record { runs = r-done }
+  walks zero at n = record { runs = at-done }
   walks (suc fuel) at n = go (leZ (getD ix k (pos 0)) (pos 0)) refl (walks fuel (natAbs (getD ix k (pos 0))) (suc n))
     where
       k : ℕ
       k = at + bitsAt s a (suc n) % 2
 
-      bit : Runs (bits 1) s (taken s a n) (bitsAt s a (suc n) % 2) (taken s a (suc n))
-      bit = is-bits (sym (bit-got s a n)) (sym (bit-next s a n))
+      bit : RunsAt (bits 1) s (taken s a n) (bitsAt s a (suc n) % 2) (taken s a (suc n))
+      bit = at-bits (sym (bit-got s a n)) (sym (bit-next s a n))
 
       go : (t : Bool) → leZ (getD ix k (pos 0)) (pos 0) ≡ t → {rest : End} → Walks fuel (natAbs (getD ix k (pos 0))) (suc n) rest
           → Walks (suc fuel) at n (cond t (record { place = k; bits = suc n }) rest)
-      go true h r = record { runs = r-call _ (r-call _ bit (r-yes _ h r-done)) r-done }
-      go false h r = record { runs = r-call _ (r-call _ bit (r-no _ h r-done)) (r .runs) }
+      go true h r = record { runs = at-call _ (at-call _ bit (at-yes _ h at-done)) at-done }
+      go false h r = record { runs = at-call _ (at-call _ bit (at-no _ h at-done)) (r .runs) }
 
   -- how the whole walk ends
   abbrev pub end : End
   end = follow ix (bitsAt s a) (length ix) 0 0
 
-  pub walk-end : Runs (walk ix) s a (end .place) (taken s a (end .bits))
+  pub walk-end : RunsAt (walk ix) s a (end .place) (taken s a (end .bits))
   unfolding walk
   walk-end =
       let here : taken s a 0 ≡ a = omega arith in
-      subst (λ (p : ℕ). Runs (loop (length ix) (walkTurn ix) 0 0) s p (end .place) (taken s a (end .bits))) here (walks (length ix) 0 0 .runs)
+      subst (λ (p : ℕ). RunsAt (loop (length ix) (walkTurn ix) 0 0) s p (end .place) (taken s a (end .bits))) here (walks (length ix) 0 0 .runs)
 
-  pub vlc-end : {A : Type 0} (vs : List A) (d : A) → Runs (vlc ix vs d) s a (getD vs (end .place) d) (taken s a (end .bits))
+  pub vlc-end : {A : Type 0} (vs : List A) (d : A) → RunsAt (vlc ix vs d) s a (getD vs (end .place) d) (taken s a (end .bits))
   unfolding vlc
-  vlc-end vs d = r-call _ walk-end r-done
+  vlc-end vs d = at-call _ walk-end at-done

@@ -16,6 +16,7 @@ use Rattle.laws.specs.Turns.{Turn, again, stop}
 use Rattle.laws.proofs.Ints.{up, dn, v, lit, neg, _⊕_, _⊖_, abs-of, cast-is, eq-by, le-yes}
 use Rattle.bits.specs.Programs.{Prog, done, bits, loop, _>>=_}
 use Rattle.bits.specs.Runs.{Runs}
+use Rattle.bits.specs.declared.reader.Reader.{Reader}
 use Rattle.bits.proofs.Rules.{r-call, r-done}
 use Rattle.codes.specs.Lent.{lentValue, joinedEntry, joined, indexOf, indices, all, near, short, Joined, Leading}
 use Rattle.codes.specs.Rule.{Good}
@@ -138,8 +139,8 @@ module _ {ix vs : List ℤ} {t : List ℕ} (j : Joined ix vs t) where
       go false f = let no : ⊥ = omega (arith, near-at ix (j .places) k) in absurd no
 
   -- so the value at the end of the walk is read, with its sign
-  pub joined-runs : T (all near vs) → {s : List ℕ} {a k e : ℕ} → Runs (walk (indices t)) s a k e → k < length t → 256 ≤ getD t k 0
-      → Runs (vlc ix vs (pos 0)) s a (pos (getD t k 0) -ℤ pos 1024) e
+  pub joined-runs : T (all near vs) → {s : List ℕ} {from to : Reader} {k : ℕ} → Runs (walk (indices t)) s from k to → k < length t → 256 ≤ getD t k 0
+      → Runs (vlc ix vs (pos 0)) s from (pos (getD t k 0) -ℤ pos 1024) to
   unfolding vlc walk
   joined-runs n {k = k} r h l =
       rw (ap (λ (m : ℕ). pos m -ℤ pos 1024) (ends-joined k h l) ∙ signed-back (getD vs k (pos 0)) (near-at vs n k)) (r-call _ (rw (walk-joined 0) at r) r-done)

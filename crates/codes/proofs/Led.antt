@@ -12,9 +12,8 @@ use Rattle.laws.specs.Turns.{Turn, again, stop}
 use Rattle.bits.specs.Bits.{bitAt, bitsAt, has, got, next}
 use Rattle.bits.specs.Programs.{Prog, Out, done, run, short, bind, turn, loop}
 use Rattle.bits.proofs.Bits.{bit-lt, bits-mid}
-use Rattle.bits.proofs.Gives.{given-by, g-bits}
+use Rattle.bits.proofs.Gives.{got-lt}
 use Rattle.bits.proofs.Programs.{run-bind, short-bind, served-has, served-got, served-next}
-use Rattle.bits.proofs.Rules.{is-bits}
 use Rattle.codes.specs.Look.{Eight, ends, further, ledFrom, led, packed, looked}
 use Rattle.codes.specs.Rule.{Good}
 use Rattle.codes.specs.Walk.{walkTurn, walkFrom, walk, vlc}
@@ -158,7 +157,7 @@ module _ (ix : List ℤ) where
             (turn (loop m (walkTurn ix) 0) (cond t (stop e) (again (natAbs z)))) (next s c 1)
         go true f r = record { runs = refl; shorts = refl }
         go false f r =
-            let u = on at (got s c 1) h (given-by (g-bits 1) (is-bits {e = next s c 1} refl refl)) f in
+            let u = on at (got s c 1) h (got-lt s c 1) f in
             r (natAbs z) (u .1) (u .0)
 
     -- ---- the law

@@ -1,6 +1,6 @@
 -- Coefficient and increment codes by look-up: one computed test for each table, that its entries are what the walk does with eight bits; what its entry
 -- says of a code at every place; and the reading. Assumes nothing.
-use mathlib.Core.Path.{_≡_, refl, _∙_}
+use mathlib.Core.Path.{_≡_, refl}
 use mathlib.Core.Bool.{Bool, true, false, true≢false, _||_}
 use mathlib.Core.List.{List, map}
 use Prim.Native.Nat.{ℕ, zero, suc, _+_, _*_, _/_, _%_, _<_, _≤_}
@@ -10,8 +10,8 @@ use lib.Dec.{T, eqb, ltb, eqb→eq}
 use lib.ListN.{length, getD, take, drop}
 use lib.IntN.{ℤ, pos}
 use Rattle.bits.proofs.Bits.{bits-lt}
-use Rattle.bits.proofs.Rules.{reading}
-use Rattle.bits.specs.Runs.{Inside, Reading}
+use Rattle.bits.proofs.Rules.{r-done, f-on, f-end, reading, on-inside}
+use Rattle.bits.specs.Runs.{Inside, Reading, placeOf, onBy}
 use Rattle.bits.specs.declared.reader.Reader.{Reader}
 use Rattle.codes.specs.Codes.{macroblockAddressIncrement, dctCoeff}
 use Rattle.codes.specs.Lent.{Lent, Joined, Leading, tablesLength}
@@ -132,23 +132,22 @@ pub below : (s : List ℕ) (a : ℕ) {x : ℕ} → x ≡ bitsAt s a 8 → x < 25
 below s a e = omega (arith, bits-lt s a 8)
 
 module _ {index : List ℤ} {value : List ℕ} {code : Prog ℕ} {s : List ℕ} {from : Reader} {x e : ℕ} (i : Inside s from)
-    (g : Agrees index value code s (from .at .0) x e) where
+    (g : Agrees index value code s (placeOf from) x e) where
   -- out of the table
-  pub looked-code : {v : ℕ} {to : Reader} → 0 < e → v ≡ e / 16 → to .at .0 ≡ from .at .0 + e % 16 → Reading code s from v to
-  unfolding run
-  looked-code h q r = reading i (record { is = rw (q, r) (g .ends h .runs) })
+  pub looked-code : {v : ℕ} {to : Reader} → 0 < e → v ≡ e / 16 → to ≡ onBy (e % 16) from → Reading code s from v to
+  looked-code h q r = reading i (rw q (f-end (f-on (e % 16) r (g .ends h .runs)) r-done))
 
   module _ {a n : ℕ} (p : Natural a n index value code) {t : List ℕ} (l : Lent t) where
     -- longer than eight bits: walked on from the pair to which these lead
-    pub further-code : {k v : ℕ} {mid to : Reader} → mid .at .0 ≡ from .at .0 + 8
+    pub further-code : {k v : ℕ} {mid to : Reader} → mid ≡ onBy 8 from
         → ((ix : List ℤ) (vs : List ℕ) → Joined ix (map pos vs) (take n (drop a t)) → Reading (vlcFrom ix vs 0 k) s mid v to) → led index x ≡ further k
         → Reading code s from v to
-    further-code {k} m r q = reading i (record { is = g .longer k q .runs ∙ rw (← m) (r index value (natural-here l p) .runs .is) })
+    further-code {k} m r q = reading i (f-end (f-on 8 m (g .longer k q .runs)) (r index value (natural-here l p) .runs))
 
 module _ {a n : ℕ} {index : List ℤ} {value : List ℕ} {code : Prog ℕ} (p : Natural a n index value code) where
   -- what the walk from there asks
-  pub further-asks : {s t : List ℕ} {from mid : Reader} → Lent t → Inside s from → from .at .0 / 8 + 2 ≤ length s → mid .at .0 ≡ from .at .0 + 8
+  pub further-asks : {s t : List ℕ} {from mid : Reader} → Lent t → Inside s from → placeOf from / 8 + 2 ≤ length s → mid ≡ onBy 8 from
       → (k : ℕ) → k + 1 < n → Inside s mid × (((a ≤ a + n) × (a + n ≤ tablesLength)) × (Leading (take n (drop a t)) × (k + 1 < n)))
   further-asks l i two e k h =
       let w = natural-table l p in
-      (record { place = omega (arith, i .stream); stream = i .stream }, (w .0, (w .1, h)))
+      (on-inside 8 i (omega arith) e, (w .0, (w .1, h)))

@@ -44,9 +44,9 @@ part-at a n i l d h = getD-take n (drop a l) i d h ∙ getD-drop a l i d
 -- ---- natural numbers
 
 -- at the end of the walk from the pair i on a natural value is read
-pub natural-runs : {ix : List ℤ} (vs : List ℕ) {t : List ℕ} → Joined ix (map pos vs) t → (i : ℕ) {s : List ℕ} {a k e : ℕ}
-    → Runs (walkFrom (indices t) i) s a k e
-    → k < length t → 256 ≤ getD t k 0 → Runs (vlcFrom ix vs 0 i) s a ((getD t k 0 + 64512) % 65536) e
+pub natural-runs : {ix : List ℤ} (vs : List ℕ) {t : List ℕ} → Joined ix (map pos vs) t → (i : ℕ) {s : List ℕ} {from to : Reader} {k : ℕ}
+    → Runs (walkFrom (indices t) i) s from k to
+    → k < length t → 256 ≤ getD t k 0 → Runs (vlcFrom ix vs 0 i) s from ((getD t k 0 + 64512) % 65536) to
 natural-runs vs j i {k = k} r h l =
     let n = getD vs k 0 in
     let is : getD (map pos vs) k (pos 0) ≡ pos n = map-at pos vs 0 k in

@@ -11,12 +11,13 @@ use lib.ListN.{length, getD}
 use lib.IntN.{ℤ, pos}
 use mir.Facts.{and-yes}
 use Rattle.bits.specs.Bits.{bitsAt}
-use Rattle.bits.specs.Runs.{Runs}
+use Rattle.bits.specs.Runs.{RunsAt}
+use Rattle.bits.proofs.Rules.{at-same, at-as}
 use Rattle.codes.specs.Walk.{walk, vlc}
 use Rattle.codes.specs.Standard.{Code, _∈_, Stands, Begins, Possible, taken}
 use Rattle.codes.proofs.Agreement.{Agrees}
 use Rattle.codes.proofs.Begins.{begins-whole, padded-bits, padded-front}
-use Rattle.codes.proofs.Follow.{Bits, follow, stream-bits, past-bits, same-run, runs-as, end, walk-end, vlc-end}
+use Rattle.codes.proofs.Follow.{Bits, follow, stream-bits, past-bits, end, walk-end, vlc-end}
 use Rattle.codes.proofs.Tree.{narrow, narrow-word, matches, zeros, passes, Fits, fits}
 
 module _ {A : Type 0} (eq : A → A → Bool) (eq-yes : (x y : A) → T (eq x y) → x ≡ y) (ix : List ℤ) (vs : List A) (d idle : A) (codes : List (Code A))
@@ -39,20 +40,20 @@ module _ {A : Type 0} (eq : A → A → Bool) (eq-yes : (x y : A) → T (eq x y)
     here : Fits ix vs d (bitsAt s a) codes (end ix s a)
     here = along (stream-bits s a)
 
-    reads : (c : Code A) → c ∈ codes → Stands c s a → Runs (vlc ix vs d) s a (c .value) (taken s a (c .bits))
+    reads : (c : Code A) → c ∈ codes → Stands c s a → RunsAt (vlc ix vs d) s a (c .value) (taken s a (c .bits))
     reads c m h =
         ⊎-elim
         (λ v.
         let e : v .code ≡ c = sym (v .single c m h) in
-        runs-as (vlc-end ix s a vs d) (sym (v .value) ∙ ap (λ (x : Code A). x .value) e)
+        at-as (vlc-end ix s a vs d) (sym (v .value) ∙ ap (λ (x : Code A). x .value) e)
         (ap (taken s a) (sym (v .bits) ∙ ap (λ (x : Code A). x .bits) e)))
         (λ v. absurd (v .no-code c m h))
         here
 
-    only : (k e : ℕ) → Runs (walk ix) s a k e → getD ix k (pos 0) ≡ pos 0
+    only : (k e : ℕ) → RunsAt (walk ix) s a k e → getD ix k (pos 0) ≡ pos 0
         → (c : Code A) × (c ∈ codes) × Stands c s a × (c .value ≡ getD vs k d) × (taken s a (c .bits) ≡ e)
     only k e r z =
-        let same = same-run r (walk-end ix s a) in
+        let same = at-same r (walk-end ix s a) in
         ⊎-elim
         (λ v. (
           v .code,
@@ -66,7 +67,7 @@ module _ {A : Type 0} (eq : A → A → Bool) (eq-yes : (x y : A) → T (eq x y)
 
     none : ((c : Code A) → c ∈ codes → Stands c s a → ⊥)
         → (n : ℕ) × Possible codes n (bitsAt s a n) × (Possible codes (n + 1) (bitsAt s a (n + 1)) → ⊥)
-        × Runs (vlc ix vs d) s a d (taken s a (n + 1))
+        × RunsAt (vlc ix vs d) s a d (taken s a (n + 1))
     none h =
         ⊎-elim
         (λ v. absurd (h (v .code) (v .printed) (ap (bitsAt s a) (v .bits) ∙ v .word)))
@@ -74,14 +75,14 @@ module _ {A : Type 0} (eq : A → A → Bool) (eq-yes : (x y : A) → T (eq x y)
           v .before,
           v .possible,
           λ p. v .impossible (rw add-one at p),
-          runs-as (vlc-end ix s a vs d) (v .value) (ap (taken s a) (v .bits ∙ sym (add-one (v .before)))),
+          at-as (vlc-end ix s a vs d) (v .value) (ap (taken s a) (v .bits ∙ sym (add-one (v .before)))),
         ))
         here
 
-    past-end : length s * 8 ≤ a → Runs (vlc ix vs d) s a idle a
+    past-end : length s * 8 ≤ a → RunsAt (vlc ix vs d) s a idle a
     past-end h =
         let e = ap (λ (f : ℕ → ℕ). getD vs (follow ix f (length ix) 0 0 .place) d) (fun-ext (λ n. past-bits s a n h)) in
-        runs-as (vlc-end ix s a vs d) (e ∙ passed .stream-end) (omega arith)
+        at-as (vlc-end ix s a vs d) (e ∙ passed .stream-end) (omega arith)
 
   -- both codes lead to where the longer one does
   prefix-free : (c e : Code A) → c ∈ codes → e ∈ codes → Begins e (c .bits) (c .word) → c ≡ e

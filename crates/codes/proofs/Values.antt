@@ -1,5 +1,4 @@
 -- What every value of a table passes, each code read from it passes; so the bounds of the codes. Assumes nothing.
-use mathlib.Core.Path.{refl}
 use mathlib.Core.Bool.{Bool}
 use mathlib.Core.List.{List}
 use Prim.Native.Nat.{ℕ, _≤_}
@@ -7,6 +6,7 @@ use lib.Dec.{T, leb, leb→le}
 use lib.IntN.{ℤ, pos, natAbs}
 use Rattle.laws.proofs.Tables.{every}
 use Rattle.bits.proofs.Gives.{Gives}
+use Rattle.bits.proofs.Rules.{at-run}
 use Rattle.codes.specs.Codes.{macroblockAddressIncrement, motion, dctSizeLuminance, dctSizeChrominance, dctCoeff}
 use Rattle.codes.specs.Tables.{macroblockAddressIncrementIndex, macroblockAddressIncrementValue, motionIndex, motionValue}
 use Rattle.codes.specs.Tables.{dctSizeLuminanceIndex, dctSizeLuminanceValue, dctSizeChrominanceIndex, dctSizeChrominanceValue, dctCoeffIndex}
@@ -16,7 +16,7 @@ use Rattle.codes.proofs.Vlc.{vlc-passes}
 
 module _ {s : List ℕ} where
   g-vlc : {A : Type 0} (ix : List ℤ) (vs : List A) (d : A) (p : A → Bool) → T (p d) → T (every (λ k. p) 0 vs) → Gives s (λ v. T (p v)) (vlc ix vs d)
-  g-vlc ix vs d p t u = record { value = λ a. vlc-passes ix vs d {s = s} {a = a} (record { is = refl }) p t u }
+  g-vlc ix vs d p t u = record { value = λ a. vlc-passes ix vs d {s = s} {a = a} at-run p t u }
 
   -- a table of natural numbers up to n, and one of numbers of at most this size
   most : (n : ℕ) (ix : List ℤ) (vs : List ℕ) → T (leb 0 n) → T (every (λ k v. leb v n) 0 vs) → Gives s (λ v. v ≤ n) (vlc ix vs 0)

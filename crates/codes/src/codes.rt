@@ -23,7 +23,7 @@ ghost use Prim.Native.Nat.{ℕ, _+_, _-_, _/_, _%_, _≤_, _<_};
 ghost use lib.IntN.{ℤ, pos};
 ghost use lib.ListN.{take, drop};
 ghost use Rattle.bits.specs.Bounds.{lastPosition};
-ghost use Rattle.bits.specs.Runs.{Inside, Reading};
+ghost use Rattle.bits.specs.Runs.{Inside, Reading, placeOf, onBy};
 ghost use Rattle.codes.specs.Lent.{Lent, Joined, Leading, tablesLength};
 ghost use Rattle.codes.specs.Walk.{vlcFrom, vlc};
 ghost use Rattle.codes.specs.Codes.{macroblockAddressIncrement, macroblockTypeIntra, macroblockTypePredictive, macroblockTypeB};
@@ -62,8 +62,8 @@ fn read_natural(s: &[u8], reader: Reader, tables: &Tables, at: usize, end: usize
 
 // A code as it was looked up: 16 × value + length.
 fn found(reader: Reader, entry: u32) -> VlcUint
-    requires { ⌜ reader .at .0 ≤ lastPosition ⌝ }
-    ensures { λ r. ⌜ (r .value ≡ entry / 16) × (r .reader .at .0 ≡ reader .at .0 + entry % 16) ⌝ }
+    requires { ⌜ placeOf reader ≤ lastPosition ⌝ }
+    ensures { λ r. ⌜ (r .value ≡ entry / 16) × (r .reader ≡ onBy (entry % 16) reader) ⌝ }
 {
     VlcUint {
         reader: reader.on((entry % 16) as usize),

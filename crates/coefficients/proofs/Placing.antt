@@ -7,10 +7,10 @@ use native.Mathlib.Omega.{arith}
 use borrow.Author.Tests.{lt-ltb, le-ltb}
 use lib.IntN.{ℤ, _+ℤ_}
 use Rattle.laws.proofs.Tests.{if-yes, if-no}
-use Rattle.bits.specs.Programs.{Out, done, run}
+use Rattle.bits.specs.Programs.{done}
 use Rattle.bits.specs.Runs.{Runs}
-use Rattle.bits.proofs.Programs.{run-bind}
-use Rattle.bits.proofs.Rules.{Loops, loop-start, loop-on, loop-end, r-call, r-yes, r-no, r-done}
+use Rattle.bits.specs.declared.reader.Reader.{Reader}
+use Rattle.bits.proofs.Rules.{Loops, loop-start, loop-on, loop-end, r-call, r-yes, r-no, r-done, r-inner}
 use Rattle.coefficients.specs.declared.coefficient.Coefficient.the-variants.{EndOfBlock, RunLevel}
 use Rattle.coefficients.specs.declared.block.BlockEnd.{BlockEnd}
 use Rattle.coefficients.specs.declared.block.BlockEnd.the-variants.{Whole, Dropped, Outside}
@@ -28,19 +28,20 @@ all-snoc q m f [] p = refl
 all-snoc q m f (x ∷ ps) p = all-snoc q m (placed q m f x) ps p
 
 -- between two coefficients: some pairs are read, and their levels are at their places
-pub record AtPair (q : Quantiser) (m : List ℕ) (f : Filled) (s : List ℕ) (a : ℕ) (now : Filled) (here : ℕ) : Type 0 where
+pub record AtPair (q : Quantiser) (m : List ℕ) (f : Filled) (s : List ℕ) (from : Reader) (now : Filled) (here : Reader) : Type 0 where
   pub read : List Pair
-  pub loops : Loops 65 pairTurn (ended [] Dropped) (taken [] (f .n)) s a (taken read (now .n)) here (64 - now .n)
+  pub loops : Loops 65 pairTurn (ended [] Dropped) (taken [] (f .n)) s from (taken read (now .n)) here (64 - now .n)
   pub most : now .n ≤ 64
   pub is : now ≡ allPlaced q m f read
 
-pub pair-start : {q : Quantiser} {m : List ℕ} {f : Filled} {s : List ℕ} {a : ℕ} → f .n ≤ 64 → AtPair q m f s a f a
+pub pair-start : {q : Quantiser} {m : List ℕ} {f : Filled} {s : List ℕ} {from : Reader} → f .n ≤ 64 → AtPair q m f s from f from
 unfolding allPlaced
 pair-start h = record { read = []; loops = loop-start (omega arith); most = h; is = refl }
 
-module _ {q : Quantiser} {m : List ℕ} {f : Filled} {s : List ℕ} {a : ℕ} {now : Filled} {here : ℕ} (x : AtPair q m f s a now here) {e : ℕ} where
-  pub pair-on : {run : ℕ} {level : ℤ} → Runs (coefficient (now .n)) s here (RunLevel run level) e → now .n + run < 64
-      → AtPair q m f s a (placed q m now (record { run = run; level = level })) e
+module _ {q : Quantiser} {m : List ℕ} {f : Filled} {s : List ℕ} {from : Reader} {now : Filled} {here : Reader} (x : AtPair q m f s from now here)
+    {to : Reader} where
+  pub pair-on : {run : ℕ} {level : ℤ} → Runs (coefficient (now .n)) s here (RunLevel run level) to → now .n + run < 64
+      → AtPair q m f s from (placed q m now (record { run = run; level = level })) to
   unfolding pairTurn
   pair-on {run} {level} r h =
       record {
@@ -51,81 +52,80 @@ module _ {q : Quantiser} {m : List ℕ} {f : Filled} {s : List ℕ} {a : ℕ} {n
             ∙ sym (all-snoc q m f (x .read) (record { run = run; level = level }));
       }
 
-  ends : (end : BlockEnd) → Runs (pairs (f .n)) s a (ended (x .read) end) e → Runs (coefficients q m f) s a (fill now end) e
+  ends : (end : BlockEnd) → Runs (pairs (f .n)) s from (ended (x .read) end) to → Runs (coefficients q m f) s from (fill now end) to
   unfolding coefficients
-  ends end r = subst (λ (g : Filled). Runs (coefficients q m f) s a (fill g end) e) (sym (x .is)) (r-call _ r r-done)
+  ends end r = subst (λ (g : Filled). Runs (coefficients q m f) s from (fill g end) to) (sym (x .is)) (r-call _ r r-done)
 
-  pub pair-whole : Runs (coefficient (now .n)) s here EndOfBlock e → Runs (coefficients q m f) s a (fill now Whole) e
+  pub pair-whole : Runs (coefficient (now .n)) s here EndOfBlock to → Runs (coefficients q m f) s from (fill now Whole) to
   unfolding pairs pairTurn
   pair-whole r = ends Whole (loop-end (x .loops) (r-call _ r r-done))
 
-  pub pair-dropped : {run : ℕ} {level : ℤ} → Runs (coefficient (now .n)) s here (RunLevel run level) e → 64 ≤ now .n + run
-      → Runs (coefficients q m f) s a (fill now Dropped) e
+  pub pair-dropped : {run : ℕ} {level : ℤ} → Runs (coefficient (now .n)) s here (RunLevel run level) to → 64 ≤ now .n + run
+      → Runs (coefficients q m f) s from (fill now Dropped) to
   unfolding pairs pairTurn
   pair-dropped r h = ends Dropped (loop-end (x .loops) (r-call _ r (rw (le-ltb _ _ h) r-done)))
 
 -- ---- a block
 
 -- the pairs that a run of coefficients read
-module _ (q : Quantiser) (m : List ℕ) (f : Filled) {s : List ℕ} {a : ℕ} {g : Filled} {end : BlockEnd} {e : ℕ}
-    (w : Runs (coefficients q m f) s a (fill g end) e) where
-  abbrev out : Out Ended
-  out = run (pairs (f .n)) s a
+module _ (q : Quantiser) (m : List ℕ) (f : Filled) {s : List ℕ} {from to : Reader} {g : Filled} {end : BlockEnd}
+    (w : Runs (coefficients q m f) s from (fill g end) to) where
+  read-first : (p : Ended) × Runs (pairs (f .n)) s from p to × (fill (allPlaced q m f (p .pairs)) (p .end) ≡ fill g end)
+  unfolding coefficients
+  read-first = r-inner (λ p. fill (allPlaced q m f (p .pairs)) (p .end)) w
 
-  outcome : _≡_ {A = Out Fill} (record { value = fill (allPlaced q m f (out .value .pairs)) (out .value .end); at = out .at })
-      (record { value = fill g end; at = e })
-  unfolding coefficients run
-  outcome = sym (run-bind (pairs (f .n)) (λ p. done (fill (allPlaced q m f (p .pairs)) (p .end))) s a) ∙ w .is
+  abbrev out : Ended
+  out = read-first .0
 
-  pairs-read : Runs (pairs (f .n)) s a (out .value) e
-  pairs-read = record { is = ap (λ (k : ℕ). record { value = out .value; at = k }) (ap (λ (o : Out Fill). o .at) outcome) }
+  pairs-read : Runs (pairs (f .n)) s from out to
+  pairs-read = read-first .1
 
   -- what is made of them
   pairs-placed : (predictor : ℤ)
-      → _≡_ {A = Read} (record { filled = allPlaced q m f (out .value .pairs); predictor = predictor; end = out .value .end })
+      → _≡_ {A = Read} (record { filled = allPlaced q m f (out .pairs); predictor = predictor; end = out .end })
       (record { filled = g; predictor = predictor; end = end })
-  pairs-placed predictor = ap (λ (o : Out Fill). record { filled = o .value .filled; predictor = predictor; end = o .value .end }) outcome
+  pairs-placed predictor = ap (λ (o : Fill). record { filled = o .filled; predictor = predictor; end = o .end }) (read-first .2)
 
 -- a law of quantisers for intra blocks, or for others, holds of each one that says so
 as-kind : (P : Quantiser → Type 0) (q : Quantiser) (intra : Bool) → q .intra ≡ intra → P (quantiser intra (q .scale)) → P q
 as-kind P q intra e x = subst (λ (b : Bool). P (quantiser b (q .scale))) (sym e) x
 
-module _ (m : List ℕ) (luminance : Bool) (predictor : ℤ) (left : List ℤ) {s : List ℕ} {a : ℕ} where
-  module _ (q : Quantiser) (intra : q .intra ≡ true) {x : ℤ} {b : ℕ} (r : Runs (dcDifference luminance) s a x b) where
-    pub dc-outside : dcInside (predictor +ℤ x) ≡ false → Runs (block q m luminance predictor left) s a
-        (record { filled = filled left 0; predictor = predictor; end = Outside }) b
+module _ (m : List ℕ) (luminance : Bool) (predictor : ℤ) (left : List ℤ) {s : List ℕ} {from : Reader} where
+  module _ (q : Quantiser) (intra : q .intra ≡ true) {x : ℤ} {mid : Reader} (r : Runs (dcDifference luminance) s from x mid) where
+    pub dc-outside : dcInside (predictor +ℤ x) ≡ false → Runs (block q m luminance predictor left) s from
+        (record { filled = filled left 0; predictor = predictor; end = Outside }) mid
     unfolding block codedBlock intraCoded reconstructed
     dc-outside h =
         let o = quantiser true (q .scale) in
         let end : Read = record { filled = filled left 0; predictor = predictor; end = Outside } in
         let is : reconstructed o m predictor left (coded x (ended [] Outside)) ≡ end = if-yes _ (ap not h) refl in
-        as-kind (λ q. Runs (block q m luminance predictor left) s a end b) q true intra
-        (subst (λ (v : Read). Runs (block o m luminance predictor left) s a v b) is
+        as-kind (λ q. Runs (block q m luminance predictor left) s from end mid) q true intra
+        (subst (λ (v : Read). Runs (block o m luminance predictor left) s from v mid) is
         (r-call (λ c. done (reconstructed o m predictor left c)) (r-call _ r (r-no _ h r-done)) r-done))
 
-    pub behind-dc : {g : Filled} {end : BlockEnd} {e : ℕ} → dcInside (predictor +ℤ x) ≡ true
-        → Runs (coefficients q m (withDc (predictor +ℤ x) left)) s b (fill g end) e
-        → Runs (block q m luminance predictor left) s a (record { filled = g; predictor = predictor +ℤ x; end = end }) e
+    pub behind-dc : {g : Filled} {end : BlockEnd} {to : Reader} → dcInside (predictor +ℤ x) ≡ true
+        → Runs (coefficients q m (withDc (predictor +ℤ x) left)) s mid (fill g end) to
+        → Runs (block q m luminance predictor left) s from (record { filled = g; predictor = predictor +ℤ x; end = end }) to
     unfolding block codedBlock intraCoded reconstructed
-    behind-dc {g} {end} {e} h =
+    behind-dc {g} {end} {to} h =
         as-kind
-        (λ q. Runs (coefficients q m (withDc (predictor +ℤ x) left)) s b (fill g end) e
-        → Runs (block q m luminance predictor left) s a (record { filled = g; predictor = predictor +ℤ x; end = end }) e)
+        (λ q. Runs (coefficients q m (withDc (predictor +ℤ x) left)) s mid (fill g end) to
+        → Runs (block q m luminance predictor left) s from (record { filled = g; predictor = predictor +ℤ x; end = end }) to)
         q true intra
         (λ w.
         let o = quantiser true (q .scale) in
         let f = withDc (predictor +ℤ x) left in
-        let whole : Read = record { filled = allPlaced o m f (out o m f w .value .pairs); predictor = predictor +ℤ x; end = out o m f w .value .end } in
-        let is : reconstructed o m predictor left (coded x (out o m f w .value)) ≡ whole = if-no _ (ap not h) refl in
-        subst (λ (v : Read). Runs (block o m luminance predictor left) s a v e) (is ∙ pairs-placed o m f w (predictor +ℤ x))
+        let whole : Read = record { filled = allPlaced o m f (out o m f w .pairs); predictor = predictor +ℤ x; end = out o m f w .end } in
+        let is : reconstructed o m predictor left (coded x (out o m f w)) ≡ whole = if-no _ (ap not h) refl in
+        subst (λ (v : Read). Runs (block o m luminance predictor left) s from v to) (is ∙ pairs-placed o m f w (predictor +ℤ x))
         (r-call (λ c. done (reconstructed o m predictor left c)) (r-call _ r (r-yes _ h (r-call _ (pairs-read o m f w) r-done))) r-done))
 
-  pub no-dc : (q : Quantiser) {g : Filled} {end : BlockEnd} {e : ℕ} → q .intra ≡ false → Runs (coefficients q m (filled left 0)) s a (fill g end) e
-      → Runs (block q m luminance predictor left) s a (record { filled = g; predictor = predictor; end = end }) e
+  pub no-dc : (q : Quantiser) {g : Filled} {end : BlockEnd} {to : Reader} → q .intra ≡ false → Runs (coefficients q m (filled left 0)) s from (fill g end) to
+      → Runs (block q m luminance predictor left) s from (record { filled = g; predictor = predictor; end = end }) to
   unfolding block codedBlock otherCoded reconstructed
-  no-dc q {g} {end} {e} h =
-      as-kind (λ q. Runs (coefficients q m (filled left 0)) s a (fill g end) e
-      → Runs (block q m luminance predictor left) s a (record { filled = g; predictor = predictor; end = end }) e) q false h
+  no-dc q {g} {end} {to} h =
+      as-kind (λ q. Runs (coefficients q m (filled left 0)) s from (fill g end) to
+      → Runs (block q m luminance predictor left) s from (record { filled = g; predictor = predictor; end = end }) to) q false h
       (λ w. let o = quantiser false (q .scale) in
-      subst (λ (v : Read). Runs (block o m luminance predictor left) s a v e) (pairs-placed o m (filled left 0) w predictor)
+      subst (λ (v : Read). Runs (block o m luminance predictor left) s from v to) (pairs-placed o m (filled left 0) w predictor)
       (r-call (λ c. done (reconstructed o m predictor left c)) (r-call _ (pairs-read o m (filled left 0) w) r-done) r-done))

@@ -19,10 +19,10 @@ use Rattle.laws.proofs.Bytes.{and-bit}
 use Rattle.laws.proofs.Ints.{v, lit, _⊖_, eq-by}
 use Rattle.bits.specs.Bits.{bitsAt, got}
 use Rattle.bits.specs.Programs.{bits}
-use Rattle.bits.specs.Runs.{Runs}
+use Rattle.bits.specs.Runs.{RunsAt}
 use Rattle.bits.proofs.Bits.{bits-append, bits-lt}
 use Rattle.bits.proofs.Programs.{served-has, served-next}
-use Rattle.bits.proofs.Rules.{is-bits, r-call, r-yes, r-no, r-done}
+use Rattle.bits.proofs.Rules.{at-bits, at-call, at-yes, at-no, at-done}
 use Rattle.codes.specs.Standard.{code, Stands}
 use Rattle.coefficients.specs.Coefficients.{escapeLevel}
 use Rattle.coefficients.specs.Dcs.{added, byTopBit}
@@ -80,19 +80,19 @@ dc-as-printed s d h k l = formula-as-printed s d h (omega arith) l ∙ sym (adde
 -- ---- the level behind an escape
 
 -- bits that are there
-there : (s : List ℕ) (a n w : ℕ) → a + n ≤ length s * 8 → bitsAt s a n ≡ w → Runs (bits n) s a w (a + n)
+there : (s : List ℕ) (a n w : ℕ) → a + n ≤ length s * 8 → bitsAt s a n ≡ w → RunsAt (bits n) s a w (a + n)
 unfolding got
-there s a n w h e = is-bits (sym (rw (served-has s a n h) e)) (sym (served-next s a n h))
+there s a n w h e = at-bits (sym (rw (served-has s a n h) e)) (sym (served-next s a n h))
 
 -- sixteen of them as two bytes
 module _ (s : List ℕ) (a x y : ℕ) (h : a + 16 ≤ length s * 8) (small : y < 256) (e : bitsAt s a 16 ≡ x * 256 + y) where
   both : (bitsAt s a 8 ≡ x) × (bitsAt s (a + 8) 8 ≡ y)
   both = let p = bits-append s a 8 8 in let q = bits-lt s (a + 8) 8 in (omega arith, omega arith)
 
-  first : Runs (bits 8) s a x (a + 8)
+  first : RunsAt (bits 8) s a x (a + 8)
   first = there s a 8 x (omega arith) (both .0)
 
-  second : Runs (bits 8) s (a + 8) y (a + 16)
+  second : RunsAt (bits 8) s (a + 8) y (a + 16)
   second = let k : a + 8 + 8 ≡ a + 16 = omega arith in rw k at (there s (a + 8) 8 y (omega arith) (both .1))
 
 -- the ends of the table's rows
@@ -106,19 +106,19 @@ rows = (refl, refl, refl, refl, refl, refl, refl, refl)
 -- each code of the table is read as its level, wherever it stands
 pub escape-as-printed : (level : ℤ) → 0 < natAbs level → natAbs level ≤ 255 → (s : List ℕ) (a : ℕ) → Stands (levelCode level) s a
     → a + levelCode level .bits ≤ length s * 8
-    → Runs escapeLevel s a level (a + levelCode level .bits)
+    → RunsAt escapeLevel s a level (a + levelCode level .bits)
 unfolding levelCode escapeLevel
 escape-as-printed (pos n) l m s a = go (ltb n 128) refl
   where
     go : (t : Bool) → ltb n 128 ≡ t → Stands (cond t (code 8 n (pos n)) (code 16 n (pos n))) s a
         → a + cond t (code 8 n (pos n)) (code 16 n (pos n)) .bits ≤ length s * 8
-        → Runs escapeLevel s a (pos n) (a + cond t (code 8 n (pos n)) (code 16 n (pos n)) .bits)
+        → RunsAt escapeLevel s a (pos n) (a + cond t (code 8 n (pos n)) (code 16 n (pos n)) .bits)
     go true e w h =
         let b = ltb-true n 128 e in
-        r-call _ (there s a 8 n h w)
-        (r-no _ (ne-eqb n 0 (λ z. omega arith)) (r-no _ (ne-eqb n 128 (λ z. omega arith)) (r-no _ (le-ltb 128 n (omega arith)) r-done)))
+        at-call _ (there s a 8 n h w)
+        (at-no _ (ne-eqb n 0 (λ z. omega arith)) (at-no _ (ne-eqb n 128 (λ z. omega arith)) (at-no _ (le-ltb 128 n (omega arith)) at-done)))
     go false e w h =
-        r-call _ (first s a 0 n h (omega arith) (w ∙ omega arith)) (r-call _ (second s a 0 n h (omega arith) (w ∙ omega arith)) r-done)
+        at-call _ (first s a 0 n h (omega arith) (w ∙ omega arith)) (at-call _ (second s a 0 n h (omega arith) (w ∙ omega arith)) at-done)
 escape-as-printed (negsuc n) l m s a = go (ltb n 127) refl
   where
     -- the level, from its low eight bits
@@ -127,17 +127,17 @@ escape-as-printed (negsuc n) l m s a = go (ltb n 127) refl
 
     go : (t : Bool) → ltb n 127 ≡ t → Stands (cond t (code 8 (255 - n) (negsuc n)) (code 16 (32768 + (255 - n)) (negsuc n))) s a
         → a + cond t (code 8 (255 - n) (negsuc n)) (code 16 (32768 + (255 - n)) (negsuc n)) .bits ≤ length s * 8
-        → Runs escapeLevel s a (negsuc n) (a + cond t (code 8 (255 - n) (negsuc n)) (code 16 (32768 + (255 - n)) (negsuc n)) .bits)
+        → RunsAt escapeLevel s a (negsuc n) (a + cond t (code 8 (255 - n) (negsuc n)) (code 16 (32768 + (255 - n)) (negsuc n)) .bits)
     go true e w h =
         let b = ltb-true n 127 e in
         rw (← less)
-        (r-call _ (there s a 8 (255 - n) h w)
-        (r-no _ (ne-eqb (255 - n) 0 (λ z. omega arith))
-        (r-no _ (ne-eqb (255 - n) 128 (λ z. omega arith)) (r-yes _ (lt-ltb 128 (255 - n) (omega arith)) r-done))))
+        (at-call _ (there s a 8 (255 - n) h w)
+        (at-no _ (ne-eqb (255 - n) 0 (λ z. omega arith))
+        (at-no _ (ne-eqb (255 - n) 128 (λ z. omega arith)) (at-yes _ (lt-ltb 128 (255 - n) (omega arith)) at-done))))
     go false e w h =
         let b = ltb-false n 127 e in
         rw (← less)
-        (r-call _ (first s a 128 (255 - n) h (omega arith) w) (r-call _ (second s a 128 (255 - n) h (omega arith) w) r-done))
+        (at-call _ (first s a 128 (255 - n) h (omega arith) w) (at-call _ (second s a 128 (255 - n) h (omega arith) w) at-done))
 
 -- ---- dequantisation
 

@@ -9,7 +9,8 @@ use lib.ListN.{length}
 use borrow.Author.Tests.{le-leb, lt-leb}
 use Rattle.bits.specs.Bits.{has}
 use Rattle.bits.specs.Programs.{Out, eqZ}
-use Rattle.bits.specs.Runs.{Runs}
+use Rattle.bits.specs.Runs.{Runs, placeOf, readerAt}
+use Rattle.bits.specs.declared.reader.Reader.{Reader}
 use Rattle.header.specs.Sequences.{Size, Rest, size, rest}
 use Rattle.decoder.specs.declared.record.Decoder.{Decoder}
 use Rattle.decoder.specs.Record.{place, startCode, storeBytes}
@@ -20,13 +21,13 @@ abbrev pub ending : {A : Type 0} → A → ℕ → Out A
 ending v e = record { value = v; at = e }
 
 -- RULES Q5
-module _ {s : List ℕ} (d : Decoder) {z : Size} {e : ℕ} (r : Runs size s (place d) z e) where
-  pub size-no : (eqb (z .width) 0 || eqb (z .height) 0) ≡ true → refused 5 (sized (ending z e) d) ≡ askSize s d
+module _ {s : List ℕ} (d : Decoder) {z : Size} {from : Reader} (r : Runs size s (readerAt (place d)) z from) where
+  pub size-no : (eqb (z .width) 0 || eqb (z .height) 0) ≡ true → refused 5 (sized (ending z (placeOf from)) d) ≡ askSize s d
   unfolding askSize
   size-no h = rw (r .is, h)
 
-  pub size-yes : {v : Rest} {g : ℕ} → (eqb (z .width) 0 || eqb (z .height) 0) ≡ false → Runs rest s e v g
-      → passed (accepted (ending v g) (sized (ending z e) d)) ≡ askSize s d
+  pub size-yes : {v : Rest} {to : Reader} → (eqb (z .width) 0 || eqb (z .height) 0) ≡ false → Runs rest s from v to
+      → passed (accepted (ending v (placeOf to)) (sized (ending z (placeOf from)) d)) ≡ askSize s d
   unfolding askSize
   size-yes h q = rw (r .is, h, q .is)
 

@@ -11,7 +11,7 @@ use Rattle.laws.proofs.Tests.{each}
 use Rattle.bits.specs.Bounds.{lastPosition}
 use Rattle.bits.specs.declared.reader.Reader.{Reader}
 use Rattle.bits.specs.Programs.{Out, findStartCode}
-use Rattle.bits.specs.Runs.{Reading}
+use Rattle.bits.specs.Runs.{Reading, placeOf, readerAt}
 use Rattle.codes.specs.Matrices.{bounded}
 use Rattle.codes.proofs.Bounds.{bounded-of}
 use Rattle.picture.specs.declared.state.Matrices.{Matrices}
@@ -163,5 +163,6 @@ module _ {d : Decoder} (c : ℤ) (b : between (negℤ (pos 1)) (pos 255) c ≡ t
   fit-found (hit x y z) h = placed h (rw x b)
   fit-found (miss x y) h = placed h (rw x refl)
 
-  pub fit-searched : {s : List ℕ} {k : ℤ} {to : Reader} → Reading (findStartCode c) s (d .reader) k to → Fit (searchedAs k (to .at .0) d)
+  pub fit-searched : {s : List ℕ} {k : ℤ} {to : Reader} → Reading (findStartCode c) s (readerAt (place d)) k to
+      → Fit (searchedAs k (placeOf to) d)
   fit-searched {s} r = fit-found (subst (Sought c s (place d)) (r .runs .is) (sought c s (place d) (r .inside .stream))) (r .inside .place)

@@ -12,9 +12,9 @@ use Rattle.laws.specs.Turns.{again, stop}
 use Rattle.bits.specs.Bounds.{longestStream}
 use Rattle.bits.specs.Bits.{Found, boundary, codePrefix, codeFrom, found}
 use Rattle.bits.specs.Programs.{Out, done, bind, run, eqZ, turn, loop, many, findTurn, findStartCode}
-use Rattle.bits.specs.Runs.{Runs}
+use Rattle.bits.specs.Runs.{RunsAt}
 use Rattle.bits.proofs.Start.{isCode, Searched, first, none, found-end, found-is-first}
-use Rattle.bits.proofs.Rules.{r-call, r-yes, r-done, is-start, loop-start, loop-end}
+use Rattle.bits.proofs.Rules.{at-find}
 use Rattle.picture.proofs.Places.{code-ahead}
 
 -- a search that finds nothing ends behind the n bytes at which it has tried
@@ -97,6 +97,5 @@ unfolding findStartCode
 sought c s a h = sought-from c s many a (omega arith)
 
 -- a search from where nothing is found
-pub still-barren : (c : ℤ) (s : List ℕ) (e : ℕ) → Barren s e → Runs (findStartCode c) s e (negsuc 0) e
-unfolding findStartCode findTurn
-still-barren c s e h = loop-end {left = 0} (loop-start (omega arith)) (r-call _ (is-start h) (r-yes _ (or-true (eqZ (negsuc 0) c)) r-done))
+pub still-barren : (c : ℤ) (s : List ℕ) (e : ℕ) → Barren s e → RunsAt (findStartCode c) s e (negsuc 0) e
+still-barren c s e h = at-find c h (or-true (eqZ (negsuc 0) c))

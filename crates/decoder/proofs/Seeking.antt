@@ -10,7 +10,8 @@ use mir.Val.{ofZ, SFits}
 use borrow.Author.Tests.{eq-eqb, ne-eqb}
 use Rattle.laws.proofs.Ints.{same-bits}
 use Rattle.bits.specs.Programs.{run, eqZ, findStartCode}
-use Rattle.bits.specs.Runs.{Runs}
+use Rattle.bits.specs.Runs.{Runs, placeOf, readerAt}
+use Rattle.bits.specs.declared.reader.Reader.{Reader}
 use Rattle.bits.proofs.Codes.{eqZ-yes, eqZ-no}
 use Rattle.decoder.specs.declared.record.Decoder.{Decoder}
 use Rattle.decoder.specs.Record.{place, startCode, searchedAs}
@@ -24,7 +25,8 @@ module _ (c : ℤ) (s : List ℕ) (d : Decoder) where
   pub seek-has : eqZ (startCode d) c ≡ true → d ≡ seek c s d
   seek-has e = rw e
 
-  pub seek-finds : {k : ℤ} {e : ℕ} → eqZ (startCode d) c ≡ false → Runs (findStartCode c) s (place d) k e → searchedAs k e d ≡ seek c s d
+  pub seek-finds : {k : ℤ} {to : Reader} → eqZ (startCode d) c ≡ false → Runs (findStartCode c) s (readerAt (place d)) k to
+      → searchedAs k (placeOf to) d ≡ seek c s d
   seek-finds g r = rw (g, r .is)
 
 -- RULES 8.3

@@ -10,7 +10,8 @@ use Rattle.laws.specs.Turns.{Turn, again, stop}
 use Rattle.laws.proofs.Tests.{by-case}
 use Rattle.bits.specs.Bounds.{longestStream, lastPosition}
 use Rattle.bits.specs.Programs.{Prog, run, eqZ, findStartCode}
-use Rattle.bits.specs.Runs.{Runs}
+use Rattle.bits.specs.Runs.{Runs, placeOf, readerAt}
+use Rattle.bits.specs.declared.reader.Reader.{Reader}
 use Rattle.bits.proofs.Programs.{run-most}
 use Rattle.codes.specs.Matrices.{Bounded}
 use Rattle.picture.specs.declared.state.Matrices.{Matrices}
@@ -50,26 +51,26 @@ fit-behind x f k b h = record {
 }
 
 -- a picture of a sequence with these sizes and matrices
-pub runs-of : (q : Sequence) {z : Sizes} {m : Matrices} (x : Frame) {s : List ℕ} {a e : ℕ} {v : Way Frame}
-    → q .sizes ≡ z → q .matrices ≡ m → Runs (picture z m x) s a v e → Runs (picture (q .sizes) (q .matrices) x) s a v e
+pub runs-of : (q : Sequence) {z : Sizes} {m : Matrices} (x : Frame) {s : List ℕ} {from to : Reader} {v : Way Frame}
+    → q .sizes ≡ z → q .matrices ≡ m → Runs (picture z m x) s from v to → Runs (picture (q .sizes) (q .matrices) x) s from v to
 runs-of q x f g r = rw (f, g) r
 
 -- the picture at the place of d, and the way that its run takes
 abbrev pictureAt : Decoder → List ℕ → Prog (Way Frame)
 pictureAt d l = picture (d .sequence .sizes) (d .sequence .matrices) (frameOf d l)
 
-module _ (s : List ℕ) (d : Decoder) (l : List ℕ) (q : Picture) (c : List ℤ) (m : List ℕ) {e : ℕ} (n : ℕ)
-    (r : Runs (pictureAt d l) s (place d) (way n (frame q c m) m) e) where
+module _ (s : List ℕ) (d : Decoder) (l : List ℕ) (q : Picture) (c : List ℤ) (m : List ℕ) {to : Reader} (n : ℕ)
+    (r : Runs (pictureAt d l) s (readerAt (place d)) (way n (frame q c m) m) to) where
   pub decoded-out : (n ≡ 0 → ⊥) → (t : Turned) (x : Decoder) → _≡_ {A = Turn Going Ended} (stop (endOf n t x m)) (decoded s d l)
   unfolding decoded pastPicture
   decoded-out g t x = go n g r
     where
-      go : (n : ℕ) → (n ≡ 0 → ⊥) → Runs (pictureAt d l) s (place d) (way n (frame q c m) m) e
+      go : (n : ℕ) → (n ≡ 0 → ⊥) → Runs (pictureAt d l) s (readerAt (place d)) (way n (frame q c m) m) to
           → _≡_ {A = Turn Going Ended} (stop (endOf n t x m)) (pastPicture d (run (pictureAt d l) s (place d)))
       go zero g r = absurd (g refl)
       go (suc n) g r = rw (r .is)
 
-  pub decoded-on : n ≡ 0 → shown (pastFrame (frame q c m) e d) m ≡ decoded s d l
+  pub decoded-on : n ≡ 0 → shown (pastFrame (frame q c m) (placeOf to) d) m ≡ decoded s d l
   unfolding decoded pastPicture
   decoded-on h = let x = rw h at (r .is) in rw x
 

@@ -10,11 +10,11 @@ use lib.IntN.{ℤ, pos}
 use lib.ListN.{length, getD}
 use borrow.Author.Tests.{le-leb, lt-leb}
 use Rattle.bits.specs.Bits.{Found, boundary, codePrefix, found, has}
-use Rattle.bits.specs.Programs.{Out, eqZ, findTurn, findStartCode}
-use Rattle.bits.specs.Runs.{Runs}
+use Rattle.bits.specs.Programs.{Out, eqZ, findStartCode}
+use Rattle.bits.specs.Runs.{RunsAt}
 use Rattle.bits.proofs.Start.{Searched, first, none, found-is-first}
 use Rattle.bits.proofs.Programs.{served-has, refused-has}
-use Rattle.bits.proofs.Rules.{r-call, r-done, is-start, loop-start, loop-end}
+use Rattle.bits.proofs.Rules.{at-find}
 use Rattle.decoder.specs.declared.record.Decoder.{Decoder}
 use Rattle.decoder.specs.Record.{place, startCode, searchedAs}
 use Rattle.decoder.specs.Headers.{findSequence}
@@ -50,9 +50,8 @@ found-there s a b k = go (found s a) (found-is-first s a)
         place-of (no l) (no r) = same p (omega arith)
     go f (none w q) = absurd (true≢false (sym here ∙ w b (k .from) (k .code .followed)))
 
-seeks : (s : List ℕ) (a b : ℕ) → SequenceAt s a b → Runs (findStartCode (pos 0xb3)) s a (pos 0xb3) ((b + 4) * 8)
-unfolding findStartCode findTurn
-seeks s a b k = loop-end {left = 0} (loop-start (omega arith)) (r-call _ (is-start (found-there s a b k)) r-done)
+seeks : (s : List ℕ) (a b : ℕ) → SequenceAt s a b → RunsAt (findStartCode (pos 0xb3)) s a (pos 0xb3) ((b + 4) * 8)
+seeks s a b k = at-find (pos 0xb3) (found-there s a b k) refl
 
 module _ (s : List ℕ) (d : Decoder) (b : ℕ) (no-code : eqZ (startCode d) (pos 0xb3) ≡ false) (k : SequenceAt s (place d) b) where
   pub finds : findSequence s d ≡ searchedAs (pos 0xb3) ((b + 4) * 8) d

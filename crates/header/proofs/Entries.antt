@@ -1,14 +1,14 @@
 -- The loop that reads the entries of a matrix. Assumes nothing.
-use mathlib.Core.Path.{_≡_, refl, ap, _∙_}
+use mathlib.Core.Path.{_≡_, refl}
 use mathlib.Core.List.{List}
 use Prim.Native.Nat.{ℕ, zero, suc, _+_, _-_, _<_}
 use native.Mathlib.Omega.{arith}
 use lib.ListN.{getD, set, replicate}
 use Rattle.bits.specs.declared.reader.Reader.{Reader}
-use Rattle.bits.specs.Programs.{Prog, Out, run, bits}
+use Rattle.bits.specs.Programs.{Prog, bits}
 use Rattle.bits.specs.Runs.{Inside, Reading}
 use Rattle.codes.specs.Matrices.{zigZag}
-use Rattle.bits.proofs.Programs.{run-bind}
+use Rattle.bits.proofs.Rules.{Follows, r-done, f-start, f-call, f-end}
 use Rattle.header.specs.Sequences.{lastEntries}
 
 -- i entries have been read, and the rest of them gives what all of them give
@@ -16,17 +16,17 @@ pub record AtEntry (s : List ℕ) (from : Reader) (m : List ℕ) (at : Reader) (
   pub left : ℕ
   pub count : i + left ≡ 64
   pub inside : Inside s at
-  pub same : run (lastEntries 64 (replicate 64 0)) s (from .at .0) ≡ run (lastEntries left m) s (at .at .0)
+  pub rest : Follows (lastEntries 64 (replicate 64 0)) s from (lastEntries left m) at
 
 pub entry-start : {s : List ℕ} {from : Reader} → Inside s from → AtEntry s from (replicate 64 0) from 0
-entry-start h = record { left = 64; count = refl; inside = h; same = refl }
+entry-start h = record { left = 64; count = refl; inside = h; rest = f-start }
 
 module _ {s : List ℕ} {from : Reader} {m : List ℕ} {at : Reader} {i : ℕ} (x : AtEntry s from m at i) where
   pub entry-on : {b : ℕ} {to : Reader} → i < 64 → Reading (bits 8) s at b to → AtEntry s from (set m (getD zigZag i 0) b) to (i + 1)
   unfolding lastEntries
-  entry-on {b} {to} h r = go (x .left) (x .count) (x .same)
+  entry-on {b} {to} h r = go (x .left) (x .count) (x .rest)
     where
-      go : (n : ℕ) → i + n ≡ 64 → run (lastEntries 64 (replicate 64 0)) s (from .at .0) ≡ run (lastEntries n m) s (at .at .0)
+      go : (n : ℕ) → i + n ≡ 64 → Follows (lastEntries 64 (replicate 64 0)) s from (lastEntries n m) at
           → AtEntry s from (set m (getD zigZag i 0) b) to (i + 1)
       go zero k p = absurd (omega arith)
       go (suc n) k p =
@@ -36,13 +36,9 @@ module _ {s : List ℕ} {from : Reader} {m : List ℕ} {at : Reader} {i : ℕ} (
             left = n;
             count = omega arith;
             inside = r .inside;
-            same = p ∙ run-bind (bits 8) f s (at .at .0) ∙ ap (λ (o : Out ℕ). run (f (o .value)) s (o .at)) (r .runs .is)
-                ∙ ap (λ (k : ℕ). run (lastEntries n (set m (getD zigZag k 0) b)) s (to .at .0)) j;
+            rest = rw j at (f-call f p (r .runs));
           }
 
   pub entry-end : 64 - i ≡ 0 → Reading (lastEntries 64 (replicate 64 0)) s from m at
-  unfolding lastEntries run
-  entry-end h = record { runs = record { is = x .same ∙ done (x .left) (omega (arith, x .count)) }; inside = x .inside }
-    where
-      done : (n : ℕ) → n ≡ 0 → run (lastEntries n m) s (at .at .0) ≡ record { value = m; at = at .at .0 }
-      done n e = rw e
+  unfolding lastEntries
+  entry-end h = let e : x .left ≡ 0 = omega (arith, x .count) in record { runs = f-end (rw e at (x .rest)) r-done; inside = x .inside }

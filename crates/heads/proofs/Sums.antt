@@ -3,16 +3,15 @@ use mathlib.Core.Path.{_≡_}
 use mathlib.Core.Bool.{Bool, true, false}
 use mathlib.Core.List.{List}
 use mathlib.Core.Logic.{inl, inr}
-use Prim.Native.Nat.{ℕ, _+_, _-_, _*_, _≤_, _<_}
+use Prim.Native.Nat.{ℕ, _+_, _≤_, _<_}
 use native.Mathlib.Omega.{arith}
 use borrow.Author.Tests.{eq-eqb, ne-eqb}
 use lib.Dec.{eqb}
-use lib.ListN.{length}
 use Rattle.laws.specs.Turns.{Turn, again, stop}
 use Rattle.bits.specs.declared.reader.Reader.{Reader}
 use Rattle.bits.specs.Programs.{many}
-use Rattle.bits.specs.Runs.{Inside, Reading}
-use Rattle.bits.proofs.Rules.{Loops, loop-start, loop-on, loop-end, r-call, r-yes, r-no, r-done, and-yes, and-no}
+use Rattle.bits.specs.Runs.{Inside, Reading, placeOf, bitsLeft}
+use Rattle.bits.proofs.Rules.{Loops, loop-start, loop-on, loop-end, takes-less, r-call, r-yes, r-no, r-done, and-yes, and-no}
 use Rattle.codes.specs.Codes.{macroblockAddressIncrement}
 use Rattle.picture.specs.Increments.{incrementTurn, increment}
 use Rattle.picture.specs.Views.{turnOf}
@@ -63,8 +62,8 @@ module _ {s : List ℕ} {from to : Reader} {n : ℕ} (sum : ℕ) (r : Reading ma
 -- before a code, at `from`, with the sum so far
 pub record AtCode (s : List ℕ) (from₀ from : Reader) (sum : ℕ) : Type 0 where
   pub inside : Inside s from
-  pub small : Sum s sum (from .at .0)
-  pub rest : Loops many incrementTurn 0 0 s (from₀ .at .0) sum (from .at .0) (length s * 8 - from .at .0)
+  pub small : Sum s sum (placeOf from)
+  pub rest : Loops many incrementTurn 0 0 s from₀ sum from (bitsLeft s from)
 
 pub at-code : {s : List ℕ} {from : Reader} → Inside s from → AtCode s from from 0
 at-code i =
@@ -79,14 +78,14 @@ module _ {s : List ℕ} {from₀ from : Reader} {sum : ℕ} (i : AtCode s from�
   sum-most = omega (arith, i .small .most, i .inside .stream)
 
   module _ {next : Reader} (more : ℕ) (t : Bool) (r : Reading (incrementTurn sum) s from (turnOf t more) next) where
-    pub goes-on : t ≡ true → length s * 8 - next .at .0 < length s * 8 - from .at .0
-    goes-on e = let k = rw ((rw e at (r .runs)) .is) at (increment-takes s sum (from .at .0)) in omega arith
+    pub goes-on : t ≡ true → bitsLeft s next < bitsLeft s from
+    goes-on e = takes-less incrementTurn (increment-takes s) (rw e at (r .runs))
 
     pub at-code-on : t ≡ true → AtCode s from₀ next more
     at-code-on e = let q = rw e at (r .runs) in
         record {
           inside = r .inside;
-          small = rw (q .is) at (turn-sum s sum (from .at .0) (i .small));
+          small = rw (q .is) at (turn-sum s sum (placeOf from) (i .small));
           rest = loop-on (i .rest) q (goes-on e);
         }
 

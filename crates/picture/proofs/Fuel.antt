@@ -17,7 +17,7 @@ use Rattle.bits.specs.Programs.{Prog, bind, loop, many, run, turn}
 use Rattle.bits.proofs.Fuel.{loop-enough-fuel}
 use Rattle.laws.proofs.Tests.{by-case, both}
 use Rattle.bits.proofs.Programs.{run-bind, run-on, bind-on, next-le, got-served}
-use Rattle.bits.proofs.Rules.{loop-suc}
+use Rattle.bits.proofs.Rules.{Takes, at-run, loop-suc}
 use Rattle.bits.proofs.Start.{Searched, first, none, found-is-first}
 use Rattle.codes.specs.Codes.{macroblockAddressIncrement}
 use Rattle.codes.specs.Tables.{macroblockAddressIncrementIndex, macroblockAddressIncrementValue}
@@ -32,11 +32,6 @@ use Rattle.picture.specs.Macroblocks.{macroblock}
 use Rattle.picture.specs.Slices.{Slicing, isLast, extraTurn, extra, pastMacroblock, sliceTurn, slice}
 use Rattle.picture.specs.Pictures as P
 use Rattle.picture.proofs.Increments.{code-served}
-
--- a turn from the place a to e that goes on has taken a bit of a stream of m bits
-abbrev pub Takes : {S A : Type 0} → ℕ → ℕ → Turn S A → ℕ → Type 0
-Takes m a (again y) e = (a < e) × (a < m)
-Takes m a (stop v) e = Unit {0}
 
 takes : {S A : Type 0} (m a : ℕ) (t : Turn S A) (e : ℕ) → a < e → a < m → Takes m a t e
 takes m a (again y) e h l = (h, l)
@@ -59,7 +54,7 @@ loop-past f d x s a n m h = rw (loop-suc n m f d x s a h) (run-on (turn (loop m 
 code-takes : (s : List ℕ) (a : ℕ) → a < length s * 8 → a < run macroblockAddressIncrement s a .at
 unfolding macroblockAddressIncrement
 code-takes s a h = vlc-takes macroblockAddressIncrementIndex macroblockAddressIncrementValue 0 {s = s} {a = a}
-    (record { is = refl }) good-macroblock-address-increment h
+    at-run good-macroblock-address-increment h
 
 pub increment-takes : (s : List ℕ) (sum a : ℕ) → Takes (length s * 8) a (run (incrementTurn sum) s a .value) (run (incrementTurn sum) s a .at)
 unfolding incrementTurn run

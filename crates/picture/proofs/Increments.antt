@@ -1,6 +1,6 @@
 -- RULES 7.7: how large an address increment can be. An escape adds 33 and takes 11 bits, or those that the stream still has, so that a stream of n bytes
 -- makes no increment above 24 n + 33. Assumes nothing.
-use mathlib.Core.Path.{_≡_, refl, sym, ap, _∙_, subst}
+use mathlib.Core.Path.{_≡_, sym, ap, _∙_, subst}
 use mathlib.Core.Bool.{Bool, true, cond, _&&_}
 use mathlib.Core.List.{List, [], _∷_, List·Memᴰ·cases-cons, List·Memᴰ·not-nil}
 use mathlib.Core.Logic.{⊎-elim}
@@ -15,6 +15,7 @@ use mir.Facts.{and-yes}
 use Rattle.laws.specs.Turns.{Turn}
 use Rattle.laws.proofs.Tables.{every, at}
 use Rattle.bits.specs.Programs.{Out, Prog, done, run, many}
+use Rattle.bits.proofs.Rules.{at-run}
 use Rattle.bits.proofs.Programs.{run-bind}
 use Rattle.bits.proofs.Gives.{Gives, Leaves, loop-value}
 use Rattle.laws.proofs.Tests.{by-case}
@@ -90,7 +91,7 @@ module _ (s : List ℕ) (a : ℕ) where
       let k = run (walk macroblockAddressIncrementIndex) s a .value in
       let r = run-bind (walk macroblockAddressIncrementIndex) (λ k. done (getD macroblockAddressIncrementValue k 0)) s a in
       let v : getD macroblockAddressIncrementValue k 0 ≡ 35 = sym (ap (λ (o : Out ℕ). o .value) r) ∙ e in
-      let o = agrees-macroblock-address-increment .only s a k (run (walk macroblockAddressIncrementIndex) s a .at) (record { is = refl })
+      let o = agrees-macroblock-address-increment .only s a k (run (walk macroblockAddressIncrementIndex) s a .at) at-run
       (escape-ends k (escape-place k v)) in
       ap (λ (o : Out ℕ). o .at) r ∙ sym (o .4) ∙ ap (taken s a) (escape-bits (o .0) (o .1) (o .3 ∙ v))
 

@@ -180,19 +180,19 @@ pub record Advances (g : Context) (n : ℕ) (x : Slice) (store : List ℕ) (y : 
 
 -- p, from the reader on, goes where r says, with these coefficients left over and this store; and what works at a macroblock can go on from there
 pub record Went (p : Prog (Way World)) (g : Context) (s : List ℕ) (reader : Reader) (r : Progress) (left : List ℤ) (store : List ℕ) : Type 0 where
-  pub runs : Runs p s (reader .at .0) (way (r .stop) (world (r .state) left store) store) (r .reader .at .0)
+  pub runs : Runs p s reader (way (r .stop) (world (r .state) left store) store) (r .reader)
   pub ready : Ready g s (r .reader) (r .state) left store
 
 -- the same where no macroblock need have the address in the end
 pub record Passed (p : Prog (Way World)) (g : Context) (s : List ℕ) (reader : Reader) (r : Progress) (left : List ℤ) (store : List ℕ) : Type 0 where
-  pub runs : Runs p s (reader .at .0) (way (r .stop) (world (r .state) left store) store) (r .reader .at .0)
+  pub runs : Runs p s reader (way (r .stop) (world (r .state) left store) store) (r .reader)
   pub reads : Reads s (r .reader) (r .state) left
   pub held : Held g store
 
 -- whether a slice goes on behind a macroblock, whatever coefficients and store there are
 pub record GoesOn (g : Context) (s : List ℕ) (reader : Reader) (x : Slice) (n : ℕ) (more : Bool) : Type 0 where
   pub runs : (left : List ℤ) (store : List ℕ)
-      → Runs (pastMacroblock g (way n (world x left store) store)) s (reader .at .0) (onTurn more n (world x left store) store) (reader .at .0)
+      → Runs (pastMacroblock g (way n (world x left store) store)) s reader (onTurn more n (world x left store) store) reader
   pub later : more ≡ true → leZ (pos (g .sizes .«mb_size»)) (x .«macroblock_address» +ℤ pos 1) ≡ false
 
 -- the macroblocks of a slice
@@ -203,8 +203,8 @@ pub record Sliced (p : Way World → Prog (Way World)) (g : Context) (s : List �
 -- a turn over the slices, whatever start code came before
 pub record Turned (g : Context) (m : Matrices) (s : List ℕ) (reader : Reader) (begun : Bool) (x : Slice) (left : List ℤ) (store : List ℕ)
     (r : SlicesProgress) (left₁ : List ℤ) (store₁ : List ℕ) : Type 0 where
-  pub runs : (code : ℤ) → Runs (P.slicesTurn g m (P.slicesOf begun (frameOf g code x left store))) s (reader .at .0)
-      (slicesOn (r .again) (r .begun) (r .stop) (frameOf g (r .code) (r .state) left₁ store₁)) (r .reader .at .0)
+  pub runs : (code : ℤ) → Runs (P.slicesTurn g m (P.slicesOf begun (frameOf g code x left store))) s reader
+      (slicesOn (r .again) (r .begun) (r .stop) (frameOf g (r .code) (r .state) left₁ store₁)) (r .reader)
   pub reads : Reads s (r .reader) (r .state) left₁
   pub held : Held g store₁
   pub few : natAbs (r .code) ≤ 255
@@ -212,12 +212,12 @@ pub record Turned (g : Context) (m : Matrices) (s : List ℕ) (reader : Reader) 
 -- all of them
 pub record Pictured (p : Prog (Way P.Frame)) (g : Context) (s : List ℕ) (reader : Reader) (r : SlicesProgress) (left : List ℤ)
     (store : List ℕ) : Type 0 where
-  pub runs : Runs p s (reader .at .0) (way (r .stop) (frameOf g (r .code) (r .state) left store) store) (r .reader .at .0)
+  pub runs : Runs p s reader (way (r .stop) (frameOf g (r .code) (r .state) left store) store) (r .reader)
   pub reads : Reads s (r .reader) (r .state) left
   pub held : Held g store
   pub few : natAbs (r .code) ≤ 255
 
 -- a picture, or its slices
 pub record Coded (p : Prog (Way P.Frame)) (s : List ℕ) (reader : Reader) (r : PictureProgress) (left : List ℤ) (store : List ℕ) : Type 0 where
-  pub runs : Runs p s (reader .at .0) (way (r .stop) (P.frame (r .picture) left store) store) (r .reader .at .0)
+  pub runs : Runs p s reader (way (r .stop) (P.frame (r .picture) left store) store) (r .reader)
   pub inside : Inside s (r .reader)

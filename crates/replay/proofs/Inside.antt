@@ -5,6 +5,7 @@ use Prim.Native.Nat.{ℕ, _≤_}
 use native.Mathlib.Omega.{arith}
 use lib.Dec.{eqb}
 use lib.ListN.{length}
+use Rattle.bits.specs.Runs.{placeOf}
 use Rattle.bits.specs.Bounds.{lastPosition}
 use Rattle.bits.specs.declared.reader.Reader.{Reader}
 use Rattle.replay.specs.declared.reader_list.Along.{Along}
@@ -13,7 +14,7 @@ use Rattle.replay.specs.ReaderList.{Inside, cutOff, onward, new, beginni
 pub cut-inside : (l : List ℕ) (p : Along) → Inside l p → Inside l (cutOff l p .along)
 cut-inside l p h = record { case = omega arith; order = h .order; stream = h .stream; place = h .place }
 
-pub onward-inside : (l : List ℕ) (p : Along) (n i j : ℕ) (r : Reader) → Inside l p → i ≤ j → j ≤ length l → r .at .0 ≤ lastPosition
+pub onward-inside : (l : List ℕ) (p : Along) (n i j : ℕ) (r : Reader) → Inside l p → i ≤ j → j ≤ length l → placeOf r ≤ lastPosition
     → Inside l (onward p n i j r)
 onward-inside l p n i j r h a b m = go (eqb n new)
   where

@@ -5,6 +5,7 @@ use mathlib.Core.List.{List}
 use Prim.Native.Nat.{ℕ, _+_, _-_, _≤_, _<_}
 use borrow.Author.Tests.{lt-ltb, le-ltb}
 use lib.ListN.{length, getD, take, drop}
+use Rattle.bits.specs.Runs.{placeOf}
 use Rattle.lists.specs.Bytes.{part}
 use Rattle.lists.specs.Numbers.{numberAt}
 use Rattle.replay.specs.declared.reader_operations.Operation.{Operation}
@@ -25,10 +26,10 @@ module _ (l : List ℕ) (p : Along) (x v m : ℕ) (case : 13 ≤ length l - p .a
   cut-case h = rw (le-ltb _ _ case, ← ax, ← av, ← am, lt-ltb _ _ h)
 
   pub whole-case : (e : ℕ) (op : Operation) (o : Outcome) (q : Along) (t u w : Bool) → e ≡ numberAt l (p .at + 9) → m ≤ length l - (p .at + 13)
-      → op ≡ operationOf (getD l (p .at) 0) → o ≡ outcome op x (take (p .to - p .from) (drop (p .from) l)) (p .reader .at .0)
+      → op ≡ operationOf (getD l (p .at) 0) → o ≡ outcome op x (take (p .to - p .from) (drop (p .from) l)) (placeOf (p .reader))
       → u ≡ bytesAgree (getD l (p .at) 0) (take (p .at + 13 + m - (p .at + 13)) (drop (p .at + 13) l))
-      (take (p .to - p .from) (drop (p .from) l)) (p .reader .at .0) x
-      → w ≡ eightAgree (getD l (p .at) 0) x v (take (p .to - p .from) (drop (p .from) l)) (p .reader .at .0)
+      (take (p .to - p .from) (drop (p .from) l)) (placeOf (p .reader)) x
+      → w ≡ eightAgree (getD l (p .at) 0) x v (take (p .to - p .from) (drop (p .from) l)) (placeOf (p .reader))
       → t ≡ agree o v e → q ≡ onward p (getD l (p .at) 0) (p .at + 13) (p .at + 13 + m) (o .reader)
       → _≡_ {A = Step} (record { along = q; agrees = t && u && w }) (stepped l p)
   unfolding stepped part

@@ -2,23 +2,23 @@
 use mathlib.Core.Path.{_≡_, ap, sym, _∙_}
 use mathlib.Core.List.{List}
 use Prim.Native.Nat.{ℕ, _≤_}
-use native.Mathlib.Omega.{arith}
 use lib.IntN.{ℤ}
 use lib.ListN.{length}
 use mir.Syntax.{w32}
 use mir.Val.{ofZ, toZ}
 use Rattle.bits.specs.Bounds.{longestStream}
 use Rattle.bits.specs.Programs.{Prog, Out, run}
-use Rattle.bits.specs.Runs.{Inside, Reading}
+use Rattle.bits.specs.Runs.{Inside, Reading, readerAt}
+use Rattle.bits.proofs.Rules.{r-value, first-inside}
 use Rattle.bits.specs.declared.reader.Reader.{Reader}
 
 -- a reader at the beginning of a stream, and what is read there
-module _ {s : List ℕ} {from : Reader} (begins : from .at .0 ≡ 0) where
+module _ {s : List ℕ} {from : Reader} (begins : from ≡ readerAt 0) where
   pub inside-at : length s ≤ longestStream → Inside s from
-  inside-at h = record { place = omega arith; stream = h }
+  inside-at h = first-inside begins h
 
   pub value-at : {A : Type 0} {p : Prog A} {v : A} {to : Reader} → Reading p s from v to → v ≡ run p s 0 .value
-  value-at {p = p} h = sym (ap (λ (o : Out _). o .value) (h .runs .is)) ∙ ap (λ (k : ℕ). run p s k .value) begins
+  value-at h = sym (r-value (rw begins at (h .runs)))
 
 -- a run that is computed
 pub computed : {A : Type 0} {v x : A} {o : Out A} {e : ℕ} → v ≡ o .value → o ≡ record { value = x; at = e } → v ≡ x

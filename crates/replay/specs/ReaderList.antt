@@ -4,6 +4,7 @@ use mathlib.Core.Bool.{Bool, true, false, cond, _&&_}
 use mathlib.Core.List.{List}
 use lib.Dec.{eqb, ltb}
 use lib.ListN.{length, getD}
+use Rattle.bits.specs.Runs.{placeOf}
 use Rattle.bits.specs.Bounds.{longestStream, lastPosition}
 use Rattle.bits.specs.Bits.{bitsAt, hasBytes, partAt, bytesOf}
 use Rattle.bits.specs.declared.reader.Reader.{Reader}
@@ -33,7 +34,7 @@ behindOf n x v = cond (eqb n new) x (cond (eqb n peekBytes) (v - 1) 0)
 
 -- ours gave the answer v, and ended at the place e
 abbrev pub agree : Outcome → ℕ → ℕ → Bool
-agree o v e = o .known && eqb (o .answer) v && eqb (o .reader .at .0) e
+agree o v e = o .known && eqb (o .answer) v && eqb (placeOf (o .reader)) e
 
 -- a peek gave the bytes that stand behind its case
 abbrev pub bytesAgree : ℕ → List ℕ → List ℕ → ℕ → ℕ → Bool
@@ -54,7 +55,7 @@ pub record Inside (l : List ℕ) (p : Along) : Type 0 where
   pub case : p .at ≤ length l
   pub order : p .from ≤ p .to
   pub stream : p .to ≤ length l
-  pub place : p .reader .at .0 ≤ lastPosition
+  pub place : placeOf (p .reader) ≤ lastPosition
 
 -- a case that is cut off does not agree, and neither does any behind it
 abbrev pub cutOff : List ℕ → Along → Step
@@ -64,10 +65,10 @@ cutOff l p = record { along = record { at = length l; from = p .from; to = p .to
 abbrev pub compared : List ℕ → Along → ℕ → ℕ → ℕ → ℕ → ℕ → ℕ → Step
 compared l p n x v e i j =
     let s = part l (p .from) (p .to - p .from) in
-    let o = outcome (operationOf n) x s (p .reader .at .0) in
+    let o = outcome (operationOf n) x s (placeOf (p .reader)) in
     record {
       along = onward p n i j (o .reader);
-      agrees = agree o v e && bytesAgree n (part l i (j - i)) s (p .reader .at .0) x && eightAgree n x v s (p .reader .at .0);
+      agrees = agree o v e && bytesAgree n (part l i (j - i)) s (placeOf (p .reader)) x && eightAgree n x v s (placeOf (p .reader));
     }
 
 -- the same, where its bytes may be cut off

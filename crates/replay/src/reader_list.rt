@@ -19,6 +19,7 @@ ghost use lib.ListN.{length};
 ghost use Rattle.replay.specs.ReaderList.{behindOf, agree, bytesAgree, eightAgree, onward, cutOff, Inside, stepped, scored};
 ghost use Rattle.replay.specs.Replayed.{Replayed};
 ghost use Rattle.bits.specs.Bounds.{longestStream};
+ghost use Rattle.bits.specs.Runs.{placeOf};
 
 // How far a list is taken: the next case stands at `at`, the present stream from `from` up to `to`, and our reader is in it.
 pub struct Along {
@@ -61,13 +62,13 @@ fn behind(number: u8, argument: u32, answer: u32) -> usize
 fn agrees(ours: Outcome, answer: u32, place: u32) -> bool
     ensures { λ r. ⌜ r ≡ agree ours answer place ⌝ }
 {
-    let at = ours.reader.at.0;
+    let at = ours.reader.position().0;
     ours.known & (ours.answer == answer) & (at == place as usize)
 }
 
 // Whether a peek gave the bytes that stand behind its case.
 fn bytes_agree(number: u8, bytes: &[u8], s: &[u8], reader: Reader, argument: u32) -> bool
-    ensures { λ r. ⌜ r ≡ bytesAgree number (now (bytes .entry)) (now (s .entry)) (reader .at .0) argument ⌝ }
+    ensures { λ r. ⌜ r ≡ bytesAgree number (now (bytes .entry)) (now (s .entry)) (placeOf reader) argument ⌝ }
 {
     if number == PEEK_BYTES {
         let part = reader.peek_bytes(s, argument as usize).part;
@@ -84,7 +85,7 @@ fn bytes_agree(number: u8, bytes: &[u8], s: &[u8], reader: Reader, argument: u32
 // Whether has_eight and next_eight give what the Rust gave at the same place: that the two bytes are there beside its peek of 2, and the bits beside its
 // read of 8.
 fn eight_agrees(number: u8, argument: u32, answer: u32, s: &[u8], reader: Reader) -> bool
-    ensures { λ r. ⌜ r ≡ eightAgree number argument answer (now (s .entry)) (reader .at .0) ⌝ }
+    ensures { λ r. ⌜ r ≡ eightAgree number argument answer (now (s .entry)) (placeOf reader) ⌝ }
 {
     let there = reader.has_eight(s);
     if (number == PEEK_BYTES) & (argument == 2) {

@@ -17,7 +17,7 @@ ghost use mir.Syntax.{w32};
 ghost use mir.Val.{ofZ};
 ghost use Rattle.bits.specs.Bounds.{longestStream};
 ghost use Rattle.bits.specs.Bits.{partAt};
-ghost use Rattle.bits.specs.Runs.{Inside};
+ghost use Rattle.bits.specs.Runs.{Inside, placeOf};
 ghost use Rattle.replay.specs.Operations.{operationOf, gives, unknown, flag, peek, outcome};
 
 pub enum Operation {
@@ -78,7 +78,7 @@ pub struct Outcome {
 }
 
 fn given(reader: Reader, answer: u32) -> Outcome
-    ensures { λ r. ⌜ r ≡ gives answer (reader .at .0) ⌝ }
+    ensures { λ r. ⌜ r ≡ gives answer (placeOf reader) ⌝ }
 {
     Outcome {
         reader: reader,
@@ -88,7 +88,7 @@ fn given(reader: Reader, answer: u32) -> Outcome
 }
 
 fn refused(reader: Reader) -> Outcome
-    ensures { λ r. ⌜ r ≡ unknown (reader .at .0) ⌝ }
+    ensures { λ r. ⌜ r ≡ unknown (placeOf reader) ⌝ }
 {
     Outcome {
         reader: reader,
@@ -99,21 +99,21 @@ fn refused(reader: Reader) -> Outcome
 
 // A start code, or -1.
 fn coded(found: StartCode) -> Outcome
-    ensures { λ r. ⌜ r ≡ gives (ofZ w32 (found .code)) (found .reader .at .0) ⌝ }
+    ensures { λ r. ⌜ r ≡ gives (ofZ w32 (found .code)) (placeOf (found .reader)) ⌝ }
 {
     given(found.reader, held(found.code))
 }
 
 // The bits of a read.
 fn valued(read: ReadBits) -> Outcome
-    ensures { λ r. ⌜ r ≡ gives (read .value) (read .reader .at .0) ⌝ }
+    ensures { λ r. ⌜ r ≡ gives (read .value) (placeOf (read .reader)) ⌝ }
 {
     given(read.reader, read.value)
 }
 
 // A yes or a no.
 fn flagged(ahead: Peeked) -> Outcome
-    ensures { λ r. ⌜ r ≡ gives (flag (ahead .value)) (ahead .reader .at .0) ⌝ }
+    ensures { λ r. ⌜ r ≡ gives (flag (ahead .value)) (placeOf (ahead .reader)) ⌝ }
 {
     if ahead.value {
         return given(ahead.reader, 1);
@@ -124,7 +124,7 @@ fn flagged(ahead: Peeked) -> Outcome
 // One more than the bytes that a peek gives; 0 where they are absent.
 fn peeked(s: &[u8], reader: Reader, count: usize) -> Outcome
     requires { ⌜ length (now s) ≤ longestStream ⌝ }
-    ensures { λ r. ⌜ r ≡ gives (peek (partAt (now (s .entry)) (reader .at .0) count)) (reader .at .0) ⌝ }
+    ensures { λ r. ⌜ r ≡ gives (peek (partAt (now (s .entry)) (placeOf reader) count)) (placeOf reader) ⌝ }
 {
     let ahead = reader.peek_bytes(s, count);
     let part = ahead.part;
@@ -154,7 +154,7 @@ fn passed(bytes: SkippedBytes) -> Outcome
 // Ours, on the stream s.
 pub fn operate(s: &[u8], reader: Reader, op: Operation, argument: u32) -> Outcome
     requires { ⌜ Inside (now s) reader ⌝ }
-    ensures { λ r. ⌜ r ≡ outcome op argument (now (s .entry)) (reader .at .0) ⌝ }
+    ensures { λ r. ⌜ r ≡ outcome op argument (now (s .entry)) (placeOf reader) ⌝ }
     ensures { λ r. ⌜ Inside (now (s .entry)) (r .reader) ⌝ }
 {
     let count = argument as usize;

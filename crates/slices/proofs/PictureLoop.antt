@@ -2,7 +2,7 @@
 use mathlib.Core.Path.{_≡_, refl, ap, sym, _∙_}
 use mathlib.Core.Bool.{Bool, true, false, not, _&&_}
 use mathlib.Core.List.{List}
-use Prim.Native.Nat.{ℕ, zero, suc, _+_, _-_, _*_, _≤_, _<_}
+use Prim.Native.Nat.{ℕ, zero, suc, _+_, _≤_, _<_}
 use native.Mathlib.Omega.{arith}
 use borrow.Author.Tests.{eqb-true, eqb-false, eq-eqb, ne-eqb}
 use lib.Dec.{T, eqb}
@@ -17,9 +17,9 @@ use Rattle.laws.proofs.Ints.{up, dn, v, lit, le-yes, yes-le, no-le, lt-yes, lt-
 use Rattle.laws.proofs.Tests.{both}
 use Rattle.bits.specs.declared.reader.Reader.{Reader}
 use Rattle.bits.specs.Programs.{many, done, nextStartCode, eqZ, if_then_else_}
-use Rattle.bits.specs.Runs.{Runs, Reading}
+use Rattle.bits.specs.Runs.{Runs, Reading, bitsLeft}
 use Rattle.bits.proofs.Codes.{eqZ-yes, eqZ-no, code-fits}
-use Rattle.bits.proofs.Rules.{Loops, loop-start, loop-on, loop-end, r-call, r-yes, r-no, r-done}
+use Rattle.bits.proofs.Rules.{Loops, loop-start, loop-on, loop-end, takes-less, r-call, r-yes, r-no, r-done}
 use Rattle.picture.specs.declared.state.Picture.{Picture}
 use Rattle.picture.specs.Possible.{PossiblePicture}
 use Rattle.picture.proofs.Possible.{between-of}
@@ -95,8 +95,8 @@ module _ {g : Context} {s : List ℕ} {reader : Reader} {x : Slice} {left : List
   -- a slice that ended with the number n, and behind which the picture ends or not
   behind : (y : Slice) (left₁ : List ℤ) (store₁ : List ℕ) (to : Reader) (n : ℕ) (last : Bool)
       → leZ (pos (g .sizes .«mb_size»)) (y .«macroblock_address» +ℤ pos 1) ≡ last
-      → Runs (P.pastSlice g (frameOf g code x left store .picture) (way n (world y left₁ store₁) store₁)) s (to .at .0)
-      (slicesOn (eqb n 0 && not last) true n (frameOf g code y left₁ store₁)) (to .at .0)
+      → Runs (P.pastSlice g (frameOf g code x left store .picture) (way n (world y left₁ store₁) store₁)) s to
+      (slicesOn (eqb n 0 && not last) true n (frameOf g code y left₁ store₁)) to
   unfolding P.pastSlice
   behind y left₁ store₁ to zero true q = r-yes _ q r-done
   behind y left₁ store₁ to zero false q = r-no _ q r-done
@@ -126,8 +126,8 @@ module _ {g : Context} {s : List ℕ} {reader : Reader} {x : Slice} {left : List
     where
       picked : (before : ℤ) (t : Bool) → (P.isExtra code && not begun) ≡ t
           → Runs (if P.isExtra code && not begun then done (again (P.slicesOf false (frameOf g code x left store)))
-          else done (stop (on (frameOf g code x left store)))) s (after .at .0)
-          (slicesOn t false 0 (frameOf g code x left store)) (after .at .0)
+          else done (stop (on (frameOf g code x left store)))) s after
+          (slicesOn t false 0 (frameOf g code x left store)) after
       picked before true q = r-yes _ q r-done
       picked before false q = r-no _ q r-done
 
@@ -140,8 +140,8 @@ pub record AtSlices (g : Context) (m : Matrices) (s : List ℕ) (from₀ : Reade
   pub reads : Reads s from x left
   pub held : Held g store
   pub long : length store ≡ length (f₀ .store)
-  pub rest : Loops many (P.slicesTurn g m) (on f₀) (P.slicesOf false f₀) s (from₀ .at .0)
-      (P.slicesOf begun (frameOf g code x left store)) (from .at .0) (length s * 8 - from .at .0)
+  pub rest : Loops many (P.slicesTurn g m) (on f₀) (P.slicesOf false f₀) s from₀
+      (P.slicesOf begun (frameOf g code x left store)) from (bitsLeft s from)
 
 pub at-slices : {g : Context} {m : Matrices} {s : List ℕ} {from : Reader} {x : Slice} {left : List ℤ} {store : List ℕ} (code : ℤ)
     → Reads s from x left → Held g store → AtSlices g m s from (frameOf g code x left store) false from x left store
@@ -154,11 +154,8 @@ module _ {g : Context} {m : Matrices} {s : List ℕ} {from₀ : Reader} {f₀ : 
   unfolding P.slices
   slices-end e = record { runs = loop-end (i .rest) (rw e at (t .runs (i .code))); reads = t .reads; held = t .held; few = t .few }
 
-  pub slices-less : r .again ≡ true → length s * 8 - r .reader .at .0 < length s * 8 - from .at .0
-  slices-less e =
-      let f = P.slicesOf begun (frameOf g (i .code) x left store) in
-      let k = rw ((rw e at (t .runs (i .code))) .is) at (slices-take g m s f (from .at .0)) in
-      omega arith
+  pub slices-less : r .again ≡ true → bitsLeft s (r .reader) < bitsLeft s from
+  slices-less e = takes-less (P.slicesTurn g m) (slices-take g m s) (rw e at (t .runs (i .code)))
 
   pub slices-on : r .again ≡ true → length store₁ ≡ length store
       → AtSlices g m s from₀ f₀ (r .begun) (r .reader) (r .state) left₁ store₁

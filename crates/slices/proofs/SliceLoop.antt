@@ -17,9 +17,9 @@ use Rattle.laws.proofs.Ints.{Dif, v, lit, _⊕_, _⊖_, low, eq-by, yes-le, fit
 use Rattle.laws.proofs.Tests.{both}
 use Rattle.bits.specs.declared.reader.Reader.{Reader}
 use Rattle.bits.specs.Programs.{bits, reads, skips, nonZero, many, done}
-use Rattle.bits.specs.Runs.{Runs, Inside, Reading}
+use Rattle.bits.specs.Runs.{Runs, Inside, Reading, bitsLeft}
 use Rattle.bits.proofs.Gives.{given-by, g-bits}
-use Rattle.bits.proofs.Rules.{Loops, loop-start, loop-on, loop-end, r-call, r-yes, r-no, r-done, r-reads}
+use Rattle.bits.proofs.Rules.{Loops, loop-start, loop-on, loop-end, takes-less, r-call, r-yes, r-no, r-done, r-reads}
 use Rattle.picture.specs.State.{World, world}
 use Rattle.picture.specs.Ways.{Way, on}
 use Rattle.picture.specs.Possible.{PossibleSlice}
@@ -39,7 +39,7 @@ use Rattle.picture.proofs.Ways.{way-out}
 
 pub record AtExtra (s : List ℕ) (from₀ from : Reader) : Type 0 where
   pub inside : Inside s from
-  pub rest : Loops many extraTurn tt tt s (from₀ .at .0) tt (from .at .0) (length s * 8 - from .at .0)
+  pub rest : Loops many extraTurn tt tt s from₀ tt from (bitsLeft s from)
 
 pub at-extra : {s : List ℕ} {from : Reader} → Inside s from → AtExtra s from from
 at-extra i = record { inside = i; rest = loop-start (omega (arith, i .stream)) }
@@ -50,12 +50,12 @@ module _ {s : List ℕ} {from₀ from to : Reader} (i : AtExtra s from₀ from) 
   extra-end h = record { runs = loop-end (i .rest) (r-call _ (r .runs) (r-yes _ (eq-eqb b 0 h) r-done)); inside = r .inside }
 
   module _ (h : b ≡ 0 → ⊥) {next : Reader} (q : Reading (skips 8) s to tt next) where
-    extra-turn : Runs (extraTurn tt) s (from .at .0) (again tt) (next .at .0)
+    extra-turn : Runs (extraTurn tt) s from (again tt) next
     unfolding extraTurn
     extra-turn = r-call _ (r .runs) (r-no _ (ne-eqb b 0 h) (r-call _ (q .runs) r-done))
 
-    pub extra-less : length s * 8 - next .at .0 < length s * 8 - from .at .0
-    extra-less = let k = rw (extra-turn .is) at (extra-takes s tt (from .at .0)) in omega arith
+    pub extra-less : bitsLeft s next < bitsLeft s from
+    extra-less = takes-less extraTurn (extra-takes s) extra-turn
 
     pub extra-on : AtExtra s from₀ next
     extra-on = record { inside = q .inside; rest = loop-on (i .rest) extra-turn extra-less }
@@ -81,7 +81,7 @@ module _ (number width : ℕ) (h : number ≤ 175) (k : width ≤ 256) where
 
 module _ {s : List ℕ} {reader from to : Reader} {g : Context} {x : Slice} {left : List ℤ} {store : List ℕ} (k : Reads s reader x left)
     (held : Held g store) (number : ℕ) (h : number ≤ 175) {q : ℕ} (r : Reading (reads 5) s reader q from) (e : Reading extra s from tt to) where
-  scale-read : Runs (bits 5) s (reader .at .0) q (from .at .0)
+  scale-read : Runs (bits 5) s reader q from
   scale-read = r-reads 5 (omega arith) (r .runs)
 
   pub start-awaits : Awaits g s to true (sliceStart g number q x) left store
@@ -106,9 +106,9 @@ module _ {s : List ℕ} {reader from to : Reader} {g : Context} {x : Slice} {lef
         later = λ z. absurd (false≢true (sym z));
       }
 
-  pub slice-runs : (m : Matrices) {y : Slice} → y ≡ sliceStart g number q x → {w : Way World} {end : ℕ}
-      → Runs (macroblocks g m (on (world x left store)) (world y left store)) s (to .at .0) w end
-      → Runs (slice g m number (world x left store)) s (reader .at .0) w end
+  pub slice-runs : (m : Matrices) {y : Slice} → y ≡ sliceStart g number q x → {w : Way World} {end : Reader}
+      → Runs (macroblocks g m (on (world x left store)) (world y left store)) s to w end
+      → Runs (slice g m number (world x left store)) s reader w end
   unfolding slice
   slice-runs m i r = r-call _ scale-read (r-call _ (e .runs) (rw i at r))
 
@@ -140,7 +140,7 @@ module _ {g : Context} {s : List ℕ} {reader : Reader} {x : Slice} {n : ℕ} wh
       }
     where
       picked : (t : Bool) (w : World) (store : List ℕ)
-          → Runs (cond t (done (again (slicing false w))) (done (stop (on w)))) s (reader .at .0) (onTurn t 0 w store) (reader .at .0)
+          → Runs (cond t (done (again (slicing false w))) (done (stop (on w)))) s reader (onTurn t 0 w store) reader
       picked true w store = r-done
       picked false w store = r-done
 
@@ -152,8 +152,8 @@ pub record AtMacroblock (g : Context) (m : Matrices) (s : List ℕ) (from₀ : R
   pub awaits : Awaits g s from first x left store
   pub long : length store ≡ length store₀
   pub rest : (w₀ : Way World)
-      → Loops many (sliceTurn g m) w₀ (slicing true (world x₀ left₀ store₀)) s (from₀ .at .0)
-      (slicing first (world x left store)) (from .at .0) (length s * 8 - from .at .0)
+      → Loops many (sliceTurn g m) w₀ (slicing true (world x₀ left₀ store₀)) s from₀
+      (slicing first (world x left store)) from (bitsLeft s from)
 
 pub at-macroblock : {g : Context} {m : Matrices} {s : List ℕ} {from : Reader} {x : Slice} {left : List ℤ} {store : List ℕ}
     → Awaits g s from true x left store → AtMacroblock g m s from x left store true from x left store
@@ -164,8 +164,8 @@ module _ {g : Context} {m : Matrices} {s : List ℕ} {from₀ : Reader} {x₀ : 
     (i : AtMacroblock g m s from₀ x₀ left₀ store₀ first from x left store) {r : Progress} {left₁ : List ℤ} {store₁ : List ℕ}
     (p : Passed (macroblock g m first (world x left store)) g s from r left₁ store₁)
     {more : Bool} (q : GoesOn g s (r .reader) (r .state) (r .stop) more) where
-  macroblock-turn : Runs (sliceTurn g m (slicing first (world x left store))) s (from .at .0)
-      (onTurn more (r .stop) (world (r .state) left₁ store₁) store₁) (r .reader .at .0)
+  macroblock-turn : Runs (sliceTurn g m (slicing first (world x left store))) s from
+      (onTurn more (r .stop) (world (r .state) left₁ store₁) store₁) (r .reader)
   unfolding sliceTurn
   macroblock-turn = r-call _ (p .runs) (q .runs left₁ store₁)
 
@@ -173,10 +173,8 @@ module _ {g : Context} {m : Matrices} {s : List ℕ} {from₀ : Reader} {x₀ : 
   slice-end e =
       record { passed = λ w₀. record { runs = loop-end (i .rest w₀) (rw e at macroblock-turn); reads = p .reads; held = p .held } }
 
-  pub slice-less : more ≡ true → length s * 8 - r .reader .at .0 < length s * 8 - from .at .0
-  slice-less e =
-      let k = rw ((rw e at macroblock-turn) .is) at (slice-takes g m s (slicing first (world x left store)) (from .at .0)) in
-      omega arith
+  pub slice-less : more ≡ true → bitsLeft s (r .reader) < bitsLeft s from
+  slice-less e = takes-less (sliceTurn g m) (slice-takes g m s) (rw e at macroblock-turn)
 
   pub slice-on : more ≡ true → length store₁ ≡ length store
       → AtMacroblock g m s from₀ x₀ left₀ store₀ false (r .reader) (r .state) left₁ store₁

@@ -25,8 +25,8 @@ use Rattle.picture.proofs.Ways.{r-onward, r-leave}
 use Rattle.slices.specs.Behind.{progressOf}
 
 -- what is done to the value where the way goes on
-r-give : {A B : Type 0} {q : Prog (Way A)} {s : List ℕ} {a e : ℕ} (h : A → B) (n : ℕ) (x : A) (l : List ℕ) → Runs q s a (way n x l) e
-    → Runs (onward q (λ y. give (h y))) s a (way n (h x) l) e
+r-give : {A B : Type 0} {q : Prog (Way A)} {s : List ℕ} {from to : Reader} (h : A → B) (n : ℕ) (x : A) (l : List ℕ)
+    → Runs q s from (way n x l) to → Runs (onward q (λ y. give (h y))) s from (way n (h x) l) to
 r-give h zero x l r = r-onward _ r r-done
 r-give h (suc n) x l r = r-leave _ r
 

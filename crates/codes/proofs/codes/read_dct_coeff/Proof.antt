@@ -5,6 +5,7 @@ use borrow.Author.Tests.{leb-true}
 use lib.ListN.{length}
 use native.Mathlib.Omega.{arith}
 use denote.Ref.{now}
+use Rattle.bits.specs.Runs.{placeOf}
 use Rattle.codes.proofs.Looked.{coefficient-agrees, coefficient-further, coefficient-ends, below, looked-code, further-code, further-asks}
 use Rattle.codes.proofs.Parts.{places, natural-table, natural-code}
 use Rattle.codes.proofs.codes.read_dct_coeff.Statement.{statement}
@@ -14,7 +15,7 @@ use Rattle.codes.proofs.codes.read_dct_coeff.Tie as tie
 abbrev begun : tie.After-next-eight → tie.Start
 begun x = x .before .before .before .before
 
-two : (x : tie.After-next-eight) → begun x .args .reader .at .0 / 8 + 2 ≤ length (now (begun x .args .s))
+two : (x : tie.After-next-eight) → placeOf (begun x .args .reader) / 8 + 2 ≤ length (now (begun x .args .s))
 two x = leb-true _ _ (sym (x .before .before .has-eight .ensures) ∙ x .before .if1 .taken)
 
 next-requires : tie.Need-next-eight-requires

@@ -30,7 +30,7 @@ index-on t k h = map-at indexOf t 0 k ∙ ap (λ (b : Bool). cond b (pos 0) (pos
 abbrev Inv-loop : tie.InvT-loop
 Inv-loop s table pair from₀ at₀ from at =
     Inside s from × (at + 1 < length table)
-    × Loops (length (indices table)) (walkTurn (indices table)) 0 pair s (from₀ .at .0) at (from .at .0) (length table - 1 - at)
+    × Loops (length (indices table)) (walkTurn (indices table)) 0 pair s from₀ at from (length table - 1 - at)
 
 abbrev μ-loop : tie.MeasureT-loop
 μ-loop s table pair from₀ at₀ from at = length table - 1 - at
@@ -88,10 +88,9 @@ loop-again c =
     let to : natAbs (getD (indices t) (place x) (pos 0)) ≡ e = ap natAbs (n .is) in
     let goes = ap (λ (z : ℤ). leZ z (pos 0)) (n .is) ∙ no-le (lit e) (lit 0) (omega (arith, n .further)) in
     let a = x .before .before .before .before .args in
-    let start = a .reader in
     let Going : ℕ → Type 0 = λ at.
-    Loops (length (indices t)) (walkTurn (indices t)) 0 (a .pair) (now (a .s)) (start .at .0) at
-    (x .read-bit .result .reader .at .0) (length t - 1 - at) in (
+    Loops (length (indices t)) (walkTurn (indices t)) 0 (a .pair) (now (a .s)) (a .reader) at
+    (x .read-bit .result .reader) (length t - 1 - at) in (
       x .read-bit .ensures .inside,
       n .inside,
       subst Going to (loop-on (x .before .loop .inv .2) (r-call _ (x .read-bit .ensures .runs) (r-no _ goes r-done)) (rw to (loop-less c))),

@@ -24,7 +24,7 @@ use Rattle.coefficients.proofs.block.read_coefficients.Tie as tie
 
 abbrev Inv-loop : tie.InvT-loop
 Inv-loop s tables values₀ q first from₀ n₀ values from n =
-    Inside s from × AtPair q (matrixOf tables (q .intra)) (filled values₀ first) s (from₀ .at .0) (filled values n) (from .at .0)
+    Inside s from × AtPair q (matrixOf tables (q .intra)) (filled values₀ first) s from₀ (filled values n) from
 
 abbrev μ-loop : tie.MeasureT-loop
 μ-loop s tables values₀ q first from₀ n₀ values from n = 64 - n
@@ -55,11 +55,11 @@ module _ (c : tie.After-known-told Inv-loop μ-loop) where
   abbrev level : ℤ
   level = c .before .coefficient .given .0 .1 .0
 
-  pair-read : Runs (coefficient (at-loop .loop .n)) (now (begun .args .s)) (at-loop .loop .from .at .0) (RunLevel run level)
-      (read .read-coefficient .result .reader .at .0)
+  pair-read : Runs (coefficient (at-loop .loop .n)) (now (begun .args .s)) (at-loop .loop .from) (RunLevel run level)
+      (read .read-coefficient .result .reader)
   pair-read =
-      subst (λ (x : Coefficient). Runs (coefficient (at-loop .loop .n)) (now (begun .args .s)) (at-loop .loop .from .at .0) x
-      (read .read-coefficient .result .reader .at .0))
+      subst (λ (x : Coefficient). Runs (coefficient (at-loop .loop .n)) (now (begun .args .s)) (at-loop .loop .from) x
+      (read .read-coefficient .result .reader))
       (c .before .coefficient .given .1) (read .read-coefficient .ensures .runs)
 
   small : (run ≤ 255) × (natAbs level ≤ 256)

@@ -1,6 +1,5 @@
-use Prim.Native.Nat.{_-_, _*_}
-use lib.ListN.{length}
 use borrow.Author.Tests.{not-true, not-false}
+use Rattle.bits.specs.Runs.{bitsLeft}
 use Rattle.heads.proofs.Sums.{AtCode, at-code, sum-most, goes-on, at-code-on, code-end}
 use Rattle.heads.proofs.increments.read_increment.Statement.{statement}
 use Rattle.heads.proofs.increments.read_increment.Tie as tie
@@ -9,7 +8,7 @@ abbrev Inv-loop : tie.InvT-loop
 Inv-loop s tables from₀ sum₀ from sum = AtCode s from₀ from sum
 
 abbrev μ-loop : tie.MeasureT-loop
-μ-loop s tables from₀ sum₀ from sum = length s * 8 - from .at .0
+μ-loop s tables from₀ sum₀ from sum = bitsLeft s from
 
 loop-holds : tie.Need-loop-holds Inv-loop μ-loop
 loop-holds c = at-code (c .before .pre .0)

@@ -5,6 +5,7 @@ use Prim.Native.Nat.{ℕ}
 use native.Mathlib.Omega.{arith}
 use borrow.Author.Tests.{lt-ltb, le-ltb}
 use Rattle.bits.specs.Runs.{Inside}
+use Rattle.bits.proofs.Rules.{first-inside}
 use Rattle.lists.proofs.Signs.{given}
 use Rattle.replay.specs.declared.reader_operations.Outcome.{Outcome}
 use Rattle.replay.specs.Operations.{outcome}
@@ -45,7 +46,7 @@ operate-spec =
     (λ c. c .match .keys16) (λ c κs. tt)
     -- New
     (λ c. let t = c .before .before in let n = c .before .new .ensures in
-    ends (c .given .ensures) (rw (t .enum-told .given .1, n)) (record { place = omega arith; stream = t .before .before .before .pre .stream }))
+    ends (c .given .ensures) (rw (t .enum-told .given .1, n)) (first-inside n (t .before .before .before .pre .stream)))
     -- Read, ReadBit
     (λ c. let r = c .before .read .ensures in ends (c .valued .ensures) (rw (c .before .before .enum-told2 .given .1, r .runs .is)) (r .inside))
     (λ c. let r = c .before .read-bit .ensures in ends (c .valued2 .ensures) (rw (c .before .before .enum-told3 .given .1, r .runs .is)) (r .inside))

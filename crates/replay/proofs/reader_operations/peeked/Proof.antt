@@ -3,6 +3,7 @@ use Prim.Native.Nat.{ℕ, _≤_}
 use native.Mathlib.Omega.{arith}
 use lib.ListN.{length}
 use borrow.Author.Needs.{needs}
+use Rattle.bits.specs.Runs.{placeOf}
 use Rattle.bits.specs.declared.bytes.Part.{Part}
 use Rattle.bits.specs.declared.reader.Reader.{Reader}
 use Rattle.replay.specs.declared.reader_operations.Outcome.{Outcome}
@@ -14,13 +15,10 @@ use Rattle.replay.proofs.reader_operations.peeked.Tie as tie
 ends : {r : Outcome} {p q : Part} {a b : ℕ} → p ≡ q → a ≡ b → r ≡ gives (peek p) a → r ≡ gives (peek q) b
 ends h k e = rw (← h, ← k) e
 
-abbrev place : Reader → ℕ
-place r = r .at .0
-
 returns : tie.Need-returns
 returns c =
     let e = c .before .before .before .peek-bytes .ensures .0 in
-    ends (sym (c .before .enum-told .given .1) ∙ e .0) (ap place (e .1)) (c .given .ensures)
+    ends (sym (c .before .enum-told .given .1) ∙ e .0) (ap (λ (r : Reader). placeOf r) (e .1)) (c .given .ensures)
 
 -- the part lies inside
 inside : (c : tie.After-known-told) → let b = c .before .part .given .0 in let p = c .before .before .before in
@@ -31,7 +29,7 @@ returns-2 : tie.Need-returns-2
 returns-2 c =
     let k = c .before .before .before .before in
     let e = k .before .before .peek-bytes .ensures .0 in
-    ends (sym (k .part .given .1) ∙ e .0) (ap place (e .1)) (c .given2 .ensures)
+    ends (sym (k .part .given .1) ∙ e .0) (ap (λ (r : Reader). placeOf r) (e .1)) (c .given2 .ensures)
 
 pub peeked-spec : {M : Type 1} → statement M
 peeked-spec =

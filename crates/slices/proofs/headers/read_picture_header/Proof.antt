@@ -8,6 +8,7 @@ use lib.Dec.{eqb, ltb}
 use borrow.Author.Tests.{eq-eqb, ne-eqb}
 use Rattle.bits.specs.Programs.{Prog, bind, bits, reads, skips}
 use Rattle.bits.specs.Runs.{Runs}
+use Rattle.bits.specs.declared.reader.Reader.{Reader}
 use Rattle.bits.proofs.Rules.{r-call, r-yes, r-no, r-done, r-reads}
 use Rattle.picture.specs.Pictures.{pictureHeader}
 use borrow.Author.Needs.{needs}
@@ -15,7 +16,7 @@ use Rattle.slices.proofs.headers.read_picture_header.Statement.{stateme
 use Rattle.slices.proofs.headers.read_picture_header.Tie as tie
 
 -- the fields that every header has, and then what the type t asks for
-fields : {A : Type 0} (f : ℕ → Prog A) {s : List ℕ} {a b t c d e : ℕ} {h : A}
+fields : {A : Type 0} (f : ℕ → Prog A) {s : List ℕ} {a b c d e : Reader} {t : ℕ} {h : A}
     → Runs (skips 10) s a tt b → Runs (reads 3) s b t c → Runs (skips 16) s c tt d → Runs (f t) s d h e
     → Runs (bind (skips 10) (λ x. bind (bits 3) (λ type. bind (skips 16) (λ x. f type)))) s a h e
 fields f p q r k = r-call _ p (r-call _ (r-reads 3 (omega arith) q) (r-call _ r k))

@@ -2,10 +2,9 @@
 use mir.Syntax.{w32}
 use mir.Val.{toZ, ofZ}
 use mir.Facts.{toZ-ofZ}
-use Prim.Native.Nat.{_-_, _*_}
 use native.Mathlib.Omega.{arith}
-use lib.ListN.{length}
 use borrow.Author.Tests.{not-true, not-false}
+use Rattle.bits.specs.Runs.{bitsLeft}
 use Rattle.picture.specs.Views.{matricesIn, frameOf}
 use Rattle.slices.proofs.PictureLoop.{AtSlices, at-slices, slices-end, slices-less, slices-on}
 use Rattle.slices.proofs.pictures.read_slices.Statement.{statement}
@@ -16,7 +15,7 @@ Inv-loop s store₀ values₀ tables g before from₀ state₀ begun₀ store va
     AtSlices g (matricesIn tables) s from₀ (frameOf g (toZ w32 before) state₀ values₀ store₀) begun from state values store
 
 abbrev μ-loop : tie.MeasureT-loop
-μ-loop s store₀ values₀ tables g before from₀ state₀ begun₀ store values from state begun = length s * 8 - from .at .0
+μ-loop s store₀ values₀ tables g before from₀ state₀ begun₀ store values from state begun = bitsLeft s from
 
 -- the turn that was made, and where it began
 abbrev made : tie.After-struct-known Inv-loop μ-loop → tie.After-slices-turn Inv-loop μ-loop

@@ -1,8 +1,7 @@
 -- `slices::read_macroblocks` meets its contract: `AtMacroblock` holds at each turn.
-use Prim.Native.Nat.{_-_, _*_}
 use native.Mathlib.Omega.{arith}
-use lib.ListN.{length}
 use borrow.Author.Tests.{not-true, not-false}
+use Rattle.bits.specs.Runs.{bitsLeft}
 use Rattle.picture.specs.Views.{matricesIn}
 use Rattle.blocks.proofs.Stores.{size-most}
 use Rattle.slices.proofs.SliceLoop.{AtMacroblock, at-macroblock, adds-one, slice-end, slice-less, slice-on}
@@ -14,7 +13,7 @@ Inv-loop s store₀ values₀ tables g from₀ state₀ first₀ store values fr
     AtMacroblock g (matricesIn tables) s from₀ state₀ values₀ store₀ first from state values store
 
 abbrev μ-loop : tie.MeasureT-loop
-μ-loop s store₀ values₀ tables g from₀ state₀ first₀ store values from state first = length s * 8 - from .at .0
+μ-loop s store₀ values₀ tables g from₀ state₀ first₀ store values from state first = bitsLeft s from
 
 -- the macroblock that was read, from behind it, and the turn that it is read in
 abbrev read : tie.After-goes-on Inv-loop μ-loop → tie.After-macroblock Inv-loop μ-loop

@@ -1,6 +1,5 @@
 -- `slices::skip_extra` meets its contract: `AtExtra` holds at each turn.
-use Prim.Native.Nat.{_-_, _*_}
-use lib.ListN.{length}
+use Rattle.bits.specs.Runs.{bitsLeft}
 use Rattle.slices.proofs.SliceLoop.{AtExtra, at-extra, extra-end, extra-less, extra-on}
 use Rattle.slices.proofs.slices.skip_extra.Statement.{statement}
 use Rattle.slices.proofs.slices.skip_extra.Tie as tie
@@ -9,7 +8,7 @@ abbrev Inv-loop : tie.InvT-loop
 Inv-loop s from₀ from = AtExtra s from₀ from
 
 abbrev μ-loop : tie.MeasureT-loop
-μ-loop s from₀ from = length s * 8 - from .at .0
+μ-loop s from₀ from = bitsLeft s from
 
 loop-holds : tie.Need-loop-holds Inv-loop μ-loop
 loop-holds c = at-extra (c .before .pre)

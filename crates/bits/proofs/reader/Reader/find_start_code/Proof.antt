@@ -10,7 +10,7 @@ use mir.Facts.{toZ-ofZ}
 use borrow.Author.Needs.{needs}
 use Rattle.laws.proofs.Ints.{same-bits}
 use Rattle.bits.specs.Bounds.{lastPosition}
-use Rattle.bits.specs.Runs.{Inside}
+use Rattle.bits.specs.Runs.{Inside, placeOf}
 use Rattle.bits.specs.Programs.{eqZ, findTurn, findStartCode, many}
 use Rattle.bits.proofs.Codes.{eqZ-yes, eqZ-no, code-fits}
 use Rattle.bits.proofs.Rules.{Loops, loop-start, loop-on, loop-end, r-call, r-yes, r-no, r-done, r-start-past, reading}
@@ -20,10 +20,10 @@ use Rattle.bits.proofs.reader.Reader.find_start_code.Tie as tie
 abbrev Inv-loop : tie.InvT-loop
 Inv-loop s code reader₀ reader =
     Inside s reader
-    × Loops many (findTurn (toZ w32 code)) (negsuc 0) tt s (reader₀ .at .0) tt (reader .at .0) (lastPosition - reader .at .0)
+    × Loops many (findTurn (toZ w32 code)) (negsuc 0) tt s reader₀ tt reader (lastPosition - placeOf reader)
 
 abbrev μ-loop : tie.MeasureT-loop
-μ-loop s code reader₀ reader = lastPosition - reader .at .0
+μ-loop s code reader₀ reader = lastPosition - placeOf reader
 
 -- the code that is sought stops the search, and so does -1
 sought : (k c : ℤ) → k ≡ c → (eqZ k c || eqZ k (negsuc 0)) ≡ true

@@ -1,9 +1,8 @@
-use mathlib.Core.Path.{refl, ap, sym}
-use lib.IntN.{ℤ}
+use mathlib.Core.Path.{refl, sym}
 use mir.Facts.{toZ-ofZ}
 use borrow.Author.Needs.{needs}
-use Rattle.bits.specs.Programs.{Out}
 use Rattle.bits.proofs.Codes.{code-fits}
+use Rattle.bits.proofs.Rules.{r-value}
 use Rattle.bits.proofs.reader.Reader.has_start_code.Statement.{statement}
 use Rattle.bits.proofs.reader.Reader.has_start_code.Tie as tie
 
@@ -13,7 +12,7 @@ returns c =
     let small = x .find-start-code .ensures .1 in
     let runs = rw (toZ-ofZ (x .before .before .fits .code)) at (x .find-start-code .ensures .0 .runs) in
     rw (toZ-ofZ (code-fits (x .find-start-code .result .code) small))
-    ((sym (ap (λ (o : Out ℤ). o .value) (runs .is)), refl), small)
+    ((sym (r-value runs), refl), small)
 
 pub has-start-code-spec : {M : Type 1} → statement M
 has-start-code-spec = tie.close (tie.spec (λ c κs. search needs) returns)
