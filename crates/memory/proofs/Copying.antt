@@ -4,7 +4,6 @@ use mathlib.Core.List.{List, [], _∷_, _++_, append-nil, append-assoc}
 use mathlib.Core.Logic.{inl, inr}
 use Prim.Native.Nat.{ℕ, suc, _+_, _-_, _≤_, _<_}
 use native.Mathlib.Decide.{decLt}
-use native.Mathlib.Nat.{add-zero}
 use native.Mathlib.Omega.{arith}
 use borrow.Rule.Slice.PartMut.{putMid, midOf, postOf}
 use lib.ListN.{length, getD, set, take, drop, length-set, length-append, length-drop, drop-of-length-le}
@@ -38,12 +37,6 @@ module _ {A : Type 0} where
   -- the values ys, one after the other
   pub stored : (at n : ℕ) (l ys : List A) (d : A) → at + n ≤ length l → length ys ≡ n → storeRow l at (λ k. getD ys k d) n ≡ putMid at n l ys
   stored at n l ys d h e = row-put l ys at n (λ k. getD ys k d) d h e (λ k p. refl)
-
-  pub three-stored : (at : ℕ) (l : List A) (a b c : A) → at + 3 ≤ length l
-      → set (set (set l at a) (at + 1) b) (at + 2) c ≡ putMid at 3 l (a ∷ b ∷ c ∷ [])
-  unfolding storeRow
-  three-stored at l a b c h =
-      ap (λ (k : ℕ). set (set (set l k a) (at + 1) b) (at + 2) c) (sym (add-zero at)) ∙ stored at 3 l (a ∷ b ∷ c ∷ []) a h refl
 
   -- all of a list is replaced
   pub filled : (l ys : List A) {now : List A} → now ≡ putMid 0 (length ys) l ys → length l ≤ length ys → now ≡ ys

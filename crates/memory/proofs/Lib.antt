@@ -1,3 +1,4 @@
 pub mod Copying
+pub mod Fields
 pub mod Room
 pub mod RoundTrip

@@ -1,6 +1,11 @@
 // The record read of memory.
 use crate::copies::copy_bytes;
 use crate::copies::copy_integers;
+use crate::format::BOUNDS;
+use crate::format::CLOCK;
+use crate::format::INTEGERS;
+use crate::format::MATRICES;
+use crate::format::NUMBERS;
 use bits::position::BitPosition;
 use bits::reader::Reader;
 use decoder::record::Clock;
@@ -16,11 +21,12 @@ ghost use mathlib.Core.Path.{_≡_};
 ghost use Prim.Native.Nat.{_+_, _≤_};
 ghost use borrow.Rule.Slice.PartMut.{midOf};
 ghost use lib.ListN.{length};
-ghost use Rattle.memory.specs.Memory.{memory, number, motionIn, sequenceIn, pictureIn, clockIn, recordOf, atMost, inRange, roomy, isRecord};
-ghost use Rattle.memory.specs.Memory.{Shorts, Readable};
+ghost use mathlib.Core.Bool.{true};
+ghost use Rattle.memory.specs.Fields.{numberCount, integerCount, matrixCount, clockCount};
+ghost use Rattle.memory.specs.Memory.{memory, number, motionIn, sequenceIn, pictureIn, clockIn, recordOf, inRange, roomy, isRecord};
 
 fn block_in(integers: &[i32]) -> [i32; 64]
-    requires { ⌜ 73 ≤ length (now integers) ⌝ }
+    requires { ⌜ integerCount ≤ length (now integers) ⌝ }
     ensures { λ r. ⌜ r ≡ midOf 9 64 (now (integers .entry)) ⌝ }
 {
     let mut values = [0i32; 64];
@@ -29,7 +35,7 @@ fn block_in(integers: &[i32]) -> [i32; 64]
 }
 
 fn predictors_in(integers: &[i32]) -> [i32; 3]
-    requires { ⌜ 73 ≤ length (now integers) ⌝ }
+    requires { ⌜ integerCount ≤ length (now integers) ⌝ }
     ensures { λ r. ⌜ r ≡ midOf 6 3 (now (integers .entry)) ⌝ }
 {
     let y = integers[6];
@@ -67,7 +73,7 @@ fn motion_in(numbers: &[usize], at: usize, integers: &[i32], from: usize) -> Mot
 }
 
 pub fn sequence_in(numbers: &[usize], matrices: &[u8]) -> Sequence
-    requires { ⌜ (21 ≤ length (now numbers)) × (128 ≤ length (now matrices)) ⌝ }
+    requires { ⌜ (numberCount ≤ length (now numbers)) × (matrixCount ≤ length (now matrices)) ⌝ }
     ensures { λ r. ⌜ r ≡ sequenceIn (now (numbers .entry)) (now (matrices .entry)) ⌝ }
 {
     let has_sequence_header = numbers[1] == 1;
@@ -97,7 +103,7 @@ pub fn sequence_in(numbers: &[usize], matrices: &[u8]) -> Sequence
 }
 
 fn picture_in(numbers: &[usize], integers: &[i32]) -> Picture
-    requires { ⌜ Shorts (now numbers) × (73 ≤ length (now integers)) ⌝ }
+    requires { ⌜ (inRange (now numbers) ≡ true) × (numberCount ≤ length (now numbers)) × (integerCount ≤ length (now integers)) ⌝ }
     ensures { λ r. ⌜ r ≡ pictureIn (now (numbers .entry)) (now (integers .entry)) ⌝ }
 {
     let picture_type = numbers[7] as u32;
@@ -127,7 +133,7 @@ fn picture_in(numbers: &[usize], integers: &[i32]) -> Picture
 }
 
 fn clock_in(clock: &[f64]) -> Clock
-    requires { ⌜ 4 ≤ length (now clock) ⌝ }
+    requires { ⌜ clockCount ≤ length (now clock) ⌝ }
     ensures { λ r. ⌜ r ≡ clockIn (now (clock .entry)) ⌝ }
 {
     let framerate = clock[0];
@@ -143,7 +149,7 @@ fn clock_in(clock: &[f64]) -> Clock
 }
 
 pub fn record_of(numbers: &[usize], integers: &[i32], matrices: &[u8], clock: &[f64]) -> Decoder
-    requires { ⌜ Readable (memory (now numbers) (now integers) (now matrices) (now clock)) ⌝ }
+    requires { ⌜ isRecord (memory (now numbers) (now integers) (now matrices) (now clock)) ≡ true ⌝ }
     ensures { λ r. ⌜ r ≡ recordOf (memory (now (numbers .entry)) (now (integers .entry)) (now (matrices .entry)) (now (clock .entry))) ⌝ }
 {
     let at = numbers[0];
@@ -172,42 +178,26 @@ pub fn record_of(numbers: &[usize], integers: &[i32], matrices: &[u8], clock: &[
 pub fn has_room(numbers: &[usize], integers: &[i32], matrices: &[u8], clock: &[f64]) -> bool
     ensures { λ r. ⌜ r ≡ roomy (memory (now (numbers .entry)) (now (integers .entry)) (now (matrices .entry)) (now (clock .entry))) ⌝ }
 {
-    (21 <= numbers.len()) & (73 <= integers.len()) & (128 <= matrices.len()) & (4 <= clock.len())
+    (NUMBERS <= numbers.len())
+        & (INTEGERS <= integers.len())
+        & (MATRICES <= matrices.len())
+        & (CLOCK <= clock.len())
 }
 
-fn at_most(most: usize, x: [usize; 6]) -> bool
-    ensures { λ r. ⌜ r ≡ atMost most x ⌝ }
-{
-    (x[0] <= most)
-        & (x[1] <= most)
-        & (x[2] <= most)
-        & (x[3] <= most)
-        & (x[4] <= most)
-        & (x[5] <= most)
-}
-
-// Is each flag 0 or 1, and each number of 32 bits one?
+// Is each number a value of its field's type?
 fn in_range(numbers: &[usize]) -> bool
-    requires { ⌜ 21 ≤ length (now numbers) ⌝ }
+    requires { ⌜ numberCount ≤ length (now numbers) ⌝ }
     ensures { λ r. ⌜ r ≡ inRange (now (numbers .entry)) ⌝ }
 {
-    let flags = [
-        numbers[1],
-        numbers[12],
-        numbers[13],
-        numbers[15],
-        numbers[16],
-        numbers[18],
-    ];
-    let shorts = [
-        numbers[7],
-        numbers[11],
-        numbers[14],
-        numbers[17],
-        numbers[19],
-        numbers[20],
-    ];
-    at_most(1, flags) & at_most(4294967295, shorts)
+    let bounds = BOUNDS;
+    let mut k = 0;
+    while k < NUMBERS {
+        if bounds[k] < numbers[k] {
+            return false;
+        }
+        k += 1;
+    }
+    true
 }
 
 pub fn is_record(numbers: &[usize], integers: &[i32], matrices: &[u8], clock: &[f64]) -> bool

@@ -15,6 +15,7 @@ use Rattle.header.specs.declared.state.Sequence.{Sequence}
 use Rattle.header.specs.State.{noTime, freshSequence}
 use Rattle.header.specs.Possible.{possibleSequence}
 use Rattle.header.proofs.Sizing.{possible-sized}
+use Rattle.memory.specs.Fields.{numberCount, clockCount}
 use Rattle.memory.specs.Memory.{number}
 use Rattle.mpeg1.specs.Calls.{still}
 use Rattle.mpeg1.specs.Views.{Few, sequenceSeen, seen, numberSeen}
@@ -24,8 +25,8 @@ pub zero-is : ofBits binary64 0 ≡ noTime
 unfolding ofBits ofInt
 zero-is = refl
 
-pub still-is : replicate 4 (ofBits binary64 0) ≡ still
-still-is = ap (replicate 4) zero-is
+pub still-is : replicate clockCount (ofBits binary64 0) ≡ still
+still-is = ap (replicate clockCount) zero-is
 
 -- ---- the sequence
 
@@ -38,35 +39,35 @@ module _ (n : List ℕ) where
   pub none-seen : {q : Sequence} → q ≡ freshSequence → freshSequence ≡ seen n → (q ≡ seen n) × Few q
   none-seen e f = (e ∙ f, rw e (record { across = omega arith; size = omega arith }))
 
-  pub seen-short : length n < 21 → freshSequence ≡ seen n
+  pub seen-short : length n < numberCount → freshSequence ≡ seen n
   unfolding seen
-  seen-short h = rw (lt-leb 21 (length n) h)
+  seen-short h = rw (lt-leb numberCount (length n) h)
 
-  module _ (h : 21 ≤ length n) where
+  module _ (h : numberCount ≤ length n) where
     pub seen-flag : 1 < number n 1 → freshSequence ≡ seen n
     unfolding seen
-    seen-flag f = rw (le-leb 21 (length n) h, lt-leb (number n 1) 1 f)
+    seen-flag f = rw (le-leb numberCount (length n) h, lt-leb (number n 1) 1 f)
 
     module _ (f : number n 1 ≤ 1) where
       pub seen-impossible : possibleSequence (sequenceSeen n) ≡ false → freshSequence ≡ seen n
       unfolding seen
-      seen-impossible e = rw (le-leb 21 (length n) h, le-leb (number n 1) 1 f, e)
+      seen-impossible e = rw (le-leb numberCount (length n) h, le-leb (number n 1) 1 f, e)
 
       pub seen-is : possibleSequence (sequenceSeen n) ≡ true → sequenceSeen n ≡ seen n
       unfolding seen
-      seen-is e = rw (le-leb 21 (length n) h, le-leb (number n 1) 1 f, e)
+      seen-is e = rw (le-leb numberCount (length n) h, le-leb (number n 1) 1 f, e)
 
   -- ---- a number
 
   module _ (k m : ℕ) where
-    pub number-short : length n < 21 → 0 ≡ numberSeen n k m
-    number-short h = rw (lt-leb 21 (length n) h)
+    pub number-short : length n < numberCount → 0 ≡ numberSeen n k m
+    number-short h = rw (lt-leb numberCount (length n) h)
 
-    pub number-more : 21 ≤ length n → m < number n k → 0 ≡ numberSeen n k m
-    number-more h q = rw (le-leb 21 (length n) h, lt-leb (number n k) m q)
+    pub number-more : numberCount ≤ length n → m < number n k → 0 ≡ numberSeen n k m
+    number-more h q = rw (le-leb numberCount (length n) h, lt-leb (number n k) m q)
 
-    pub number-is : 21 ≤ length n → number n k ≤ m → number n k ≡ numberSeen n k m
-    number-is h q = rw (le-leb 21 (length n) h, le-leb (number n k) m q)
+    pub number-is : numberCount ≤ length n → number n k ≤ m → number n k ≡ numberSeen n k m
+    number-is h q = rw (le-leb numberCount (length n) h, le-leb (number n k) m q)
 
 pub block-most : (p : Plane) → blockSize p ≤ 16
 block-most Y = omega arith

@@ -17,6 +17,7 @@ use Rattle.decoder.specs.Answers.{openingNumber, conversionNumber}
 use Rattle.decoder.specs.Opening.{opening}
 use Rattle.decoder.specs.HandOut.{handOut}
 use Rattle.decoder.specs.Conversion as Conversion
+use Rattle.memory.specs.Fields.{clockCount}
 use Rattle.memory.specs.Memory.{Memory, memory, written, recordOf, roomy, isRecord, Holds}
 
 -- what a call leaves: its answer and all of the memory that a host has lent
@@ -68,7 +69,7 @@ decodesIn s l x k t =
 
 -- a conversion reads no clock, so a host lends none: the record has one of 0.0
 abbrev pub still : List Float
-still = replicate 4 noTime
+still = replicate clockCount noTime
 
 abbrev pub unclocked : List ℕ → List ℤ → List ℕ → Memory
 unclocked n i m = memory n i m still

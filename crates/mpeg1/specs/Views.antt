@@ -13,15 +13,16 @@ use Rattle.prediction.specs.Planes.{blockSize, planeLength, planeStart, storesB
 use Rattle.header.specs.declared.state.Sequence.{Sequence}
 use Rattle.header.specs.State.{noTime, freshSequence}
 use Rattle.header.specs.Possible.{sizesOf, possibleSequence}
+use Rattle.memory.specs.Fields.{numberCount, matrixCount, clockCount}
 use Rattle.memory.specs.Memory.{number, sequenceIn}
 
 -- what numbers 1 to 6 say of the sequence; no view reads a matrix
 abbrev pub sequenceSeen : List ℕ → Sequence
-sequenceSeen n = sequenceIn n (replicate 128 0)
+sequenceSeen n = sequenceIn n (replicate matrixCount 0)
 
 -- RULES Q2: that, if it is possible; else the fresh one, whose sizes are 0
 unfoldable pub seen : List ℕ → Sequence
-seen n = if leb 21 (length n) && leb (number n 1) 1 then (if possibleSequence (sequenceSeen n) then sequenceSeen n else freshSequence) else freshSequence
+seen n = if leb numberCount (length n) && leb (number n 1) 1 then (if possibleSequence (sequenceSeen n) then sequenceSeen n else freshSequence) else freshSequence
 
 -- the macroblocks of a picture are few
 pub record Few (q : Sequence) : Type 0 where
@@ -30,7 +31,7 @@ pub record Few (q : Sequence) : Type 0 where
 
 -- number k if it is at most m, else 0
 abbrev pub numberSeen : List ℕ → ℕ → ℕ → ℕ
-numberSeen n k m = if leb 21 (length n) && leb (number n k) m then number n k else 0
+numberSeen n k m = if leb numberCount (length n) && leb (number n k) m then number n k else 0
 
 -- RULES Q2: the type read last, and the whole bytes read so far
 abbrev pub typeSeen : List ℕ → ℕ
@@ -55,7 +56,7 @@ planeBegin n k p = if leb k 2 && leb p 2 then planeStart k (planeNumber p) (seen
 
 -- number k of a clock; 0.0 where the memory is too short
 abbrev pub clockNumber : List Float → ℕ → Float
-clockNumber c k = if leb 4 (length c) then getD c k nan else noTime
+clockNumber c k = if leb clockCount (length c) then getD c k nan else noTime
 
 -- RULES 6.11, O.4: bytes of the three stores of a picture; 0 for a size that no header may have
 abbrev pub storeBytesOf : ℕ → ℕ → ℕ

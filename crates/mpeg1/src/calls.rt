@@ -4,6 +4,7 @@ use decoder::answers::Converted;
 use decoder::answers::Opening;
 use decoder::answers::Outcome;
 use decoder::record::Decoder;
+use memory::format::CLOCK;
 use memory::reading::has_room;
 use memory::reading::is_record;
 use memory::reading::record_of;
@@ -138,7 +139,7 @@ pub extern "C" fn mpeg1_write_rgb_scaled(
         ≡ convertsIn (now (store .entry)) (unclocked (now (numbers .entry)) (now (integers .entry)) (now (matrices .entry)))
         index (now (area .entry)) width height ⌝ }
 {
-    let still = [0.0f64; 4];
+    let still = [0.0f64; CLOCK];
     if !is_record(numbers, integers, matrices, &still) {
         return 2;
     }

@@ -4,6 +4,10 @@ use header::possible::possible_sequence;
 use header::possible::sizes_of;
 use header::state::Sequence;
 use header::state::fresh_sequence;
+use memory::format::CLOCK;
+use memory::format::INTEGERS;
+use memory::format::MATRICES;
+use memory::format::NUMBERS;
 use memory::reading::sequence_in;
 use prediction::planes::MACROBLOCK_STORES;
 use prediction::planes::Plane;
@@ -12,18 +16,19 @@ use prediction::planes::plane_length;
 use prediction::planes::plane_start;
 ghost use mathlib.Core.Path.{_≡_};
 ghost use Prim.Native.Nat.{_<_, _≤_};
+ghost use Rattle.memory.specs.Fields.{numberCount, integerCount, matrixCount, clockCount};
 ghost use Rattle.mpeg1.specs.Views as View;
 
 fn seen(numbers: &[usize]) -> Sequence
     ensures { λ r. ⌜ (r ≡ View.seen (now (numbers .entry))) × View.Few r ⌝ }
 {
-    if numbers.len() < 21 {
+    if numbers.len() < NUMBERS {
         return fresh_sequence();
     }
     if 1 < numbers[1] {
         return fresh_sequence();
     }
-    let none = [0u8; 128];
+    let none = [0u8; MATRICES];
     let q = sequence_in(numbers, &none);
     if !possible_sequence(q) {
         return fresh_sequence();
@@ -33,11 +38,11 @@ fn seen(numbers: &[usize]) -> Sequence
 
 // Number k, if it is at most m.
 fn number_seen(numbers: &[usize], k: usize, m: usize) -> usize
-    requires { ⌜ k < 21 ⌝ }
+    requires { ⌜ k < numberCount ⌝ }
     ensures { λ r. ⌜ r ≡ View.numberSeen (now (numbers .entry)) k m ⌝ }
     ensures { λ r. ⌜ r ≤ m ⌝ }
 {
-    if numbers.len() < 21 {
+    if numbers.len() < NUMBERS {
         return 0;
     }
     let x = numbers[k];
@@ -48,10 +53,10 @@ fn number_seen(numbers: &[usize], k: usize, m: usize) -> usize
 }
 
 fn clock_number(clock: &[f64], k: usize) -> f64
-    requires { ⌜ k < 4 ⌝ }
+    requires { ⌜ k < clockCount ⌝ }
     ensures { λ r. ⌜ r ≡ View.clockNumber (now (clock .entry)) k ⌝ }
 {
-    if clock.len() < 4 {
+    if clock.len() < CLOCK {
         return 0.0;
     }
     clock[k]
@@ -71,30 +76,30 @@ fn plane_number(plane: usize) -> Plane
 
 #[no_mangle]
 pub extern "C" fn mpeg1_record_numbers() -> usize
-    ensures { λ r. ⌜ r ≡ 21 ⌝ }
+    ensures { λ r. ⌜ r ≡ numberCount ⌝ }
 {
-    21
+    NUMBERS
 }
 
 #[no_mangle]
 pub extern "C" fn mpeg1_record_integers() -> usize
-    ensures { λ r. ⌜ r ≡ 73 ⌝ }
+    ensures { λ r. ⌜ r ≡ integerCount ⌝ }
 {
-    73
+    INTEGERS
 }
 
 #[no_mangle]
 pub extern "C" fn mpeg1_record_matrices() -> usize
-    ensures { λ r. ⌜ r ≡ 128 ⌝ }
+    ensures { λ r. ⌜ r ≡ matrixCount ⌝ }
 {
-    128
+    MATRICES
 }
 
 #[no_mangle]
 pub extern "C" fn mpeg1_record_floats() -> usize
-    ensures { λ r. ⌜ r ≡ 4 ⌝ }
+    ensures { λ r. ⌜ r ≡ clockCount ⌝ }
 {
-    4
+    CLOCK
 }
 
 #[no_mangle]

@@ -1,8 +1,7 @@
 use mathlib.Core.Path.{_≡_, sym, subst}
-use Prim.Native.Nat.{_≤_}
 use borrow.Author.Needs.{needs}
 use denote.Ref.{now}
-use lib.ListN.{length}
+use Rattle.memory.specs.Fields.{Typed}
 use Rattle.memory.specs.Memory.{Memory, memory, written, Holds}
 use Rattle.memory.proofs.Room.{Room, room}
 use Rattle.memory.proofs.RoundTrip.{held, wrote-all}
@@ -20,30 +19,20 @@ at-matrices c = c .before .before .before
 abbrev at-integers : tie.After-put-matrices-arg → tie.After-put-integers
 at-integers c = c .before .before
 
-abbrev at-numbers : tie.After-left2 → tie.After-put-numbers
-at-numbers c = c .before .before .before .before
+abbrev at-numbers : tie.After-put-integers-arg → tie.After-put-numbers
+at-numbers c = c .before .before .before
 
 abbrev entry : tie.After-put-numbers-arg → tie.Start
-entry c = c .before .before .before .before .before
+entry c = c .before .before .before .before
 
 roomed : (s : tie.Start) → Room (lent s)
 roomed s = room (lent s) (s .pre)
-
--- of the types of its fields
-left : (s : tie.Start) → length (s .args .d .«block_data») ≡ 64
-left s = search needs
-
-handed : (s : tie.Start) → s .args .d .«frames_decoded» ≤ 4294967295
-handed s = search needs
-
-stop : (s : tie.Start) → s .args .d .stop ≤ 4294967295
-stop s = search needs
 
 put-numbers-requires : tie.Need-put-numbers-requires
 put-numbers-requires c κs = roomed (entry c) .numbers
 
 put-integers-requires : tie.Need-put-integers-requires
-put-integers-requires c κs = let s = entry (at-numbers c .before) in (roomed s .integers, left s)
+put-integers-requires c κs = roomed (entry (at-numbers c .before)) .integers
 
 put-matrices-requires : tie.Need-put-matrices-requires
 put-matrices-requires c κs = roomed (entry (at-numbers (at-integers c .before) .before)) .matrices
@@ -55,15 +44,13 @@ returns : tie.Need-returns
 returns c =
     let k = c .before .before in let m = at-matrices (k .before) in let p = at-integers (m .before) in let n = at-numbers (p .before) in
     let s = entry (n .before) in let d = s .args .d in
-    let x = p .put-integers .ensures in let y = m .put-matrices .ensures in
     let wrote : memory (n .put-numbers .last .0) (p .put-integers .last .0) (m .put-matrices .last .0) (k .put-clock .last .0) ≡ written d (lent s) =
-    wrote-all d (lent s) (n .put-numbers .ensures) (x .0) (y .0) (k .put-clock .ensures) in (
-      wrote,
-      subst (λ (z : Memory). Holds z d) (sym wrote)
-          (held d (record { matrices = y .1; picture = x .1; left = left s; handed = handed s; stop = stop s }) (lent s)),
-    )
+    wrote-all d (lent s) (n .put-numbers .ensures .0) (p .put-integers .ensures .0) (m .put-matrices .ensures .0) (k .put-clock .ensures) in
+    let typed : Typed d =
+    record { numbers = n .put-numbers .ensures .1; integers = p .put-integers .ensures .1; matrices = m .put-matrices .ensures .1 } in
+    (wrote, subst (λ (z : Memory). Holds z d) (sym wrote) (held d typed (lent s)))
 
 pub save-spec : {M : Type 1} → statement M
 save-spec =
-    tie.close (tie.spec put-numbers-requires (λ c. search needs) put-integers-requires put-matrices-requires put-clock-requires (λ c. search needs)
-    (λ c. search needs) (λ c. search needs) (λ c. search needs) returns)
+    tie.close (tie.spec put-numbers-requires put-integers-requires put-matrices-requires put-clock-requires (λ c. search needs) (λ c. search needs)
+    (λ c. search needs) (λ c. search needs) returns)

@@ -5,7 +5,7 @@ use Rattle.decoder.specs.declared.record.Decoder.{Decoder}
 use Rattle.decoder.specs.HandOut.{handOut}
 use Rattle.decoder.specs.Record.{left}
 use Rattle.memory.specs.Memory.{Memory, memory, written, recordOf, Holds}
-use Rattle.memory.proofs.Room.{record-roomy, readable}
+use Rattle.memory.proofs.Room.{record-roomy}
 use Rattle.mpeg1.proofs.calls.hand_out.Statement.{statement}
 use Rattle.mpeg1.proofs.calls.hand_out.Tie as tie
 
@@ -28,7 +28,7 @@ abbrev saved-in : tie.After-save → Memory
 saved-in w = memory (w .save .last .1 .0) (w .save .last .1 .1 .0) (w .save .last .1 .1 .1 .0) (w .save .last .1 .1 .1 .1 .0)
 
 record-of-requires : tie.Need-record-of-requires
-record-of-requires c κs = let s = entry c in readable (lent s) (s .pre)
+record-of-requires c κs = entry c .pre
 
 save-requires : tie.Need-save-requires
 save-requires c κs = let s = entry (at-decode c .before .before .before) in record-roomy (lent s) (s .pre)

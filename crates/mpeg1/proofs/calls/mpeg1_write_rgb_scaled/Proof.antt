@@ -3,11 +3,9 @@ use mathlib.Core.Path.{_≡_, sym, ap, _∙_}
 use borrow.Author.Needs.{needs}
 use borrow.Author.Tests.{not-true, not-false}
 use denote.Ref.{now}
-use lib.Ieee.{Float, binary64, ofBits}
-use lib.ListN.{replicate}
+use lib.Ieee.{Float}
 use Rattle.decoder.specs.Conversion as Conversion
 use Rattle.memory.specs.Memory.{Memory, memory, recordOf, isRecord}
-use Rattle.memory.proofs.Room.{readable}
 use Rattle.mpeg1.specs.Calls.{still}
 use Rattle.mpeg1.proofs.Answers.{converts-2, converts-record}
 use Rattle.mpeg1.proofs.Seen.{still-is}
@@ -33,9 +31,7 @@ returns c =
 
 record-of-requires : tie.Need-record-of-requires
 record-of-requires c κs =
-    let e = c .before in
-    readable (lent (entry (e .before)) (replicate 4 (ofBits binary64 0)))
-    (sym (e .before .is-record .ensures) ∙ not-false (e .before .is-record .result) (e .if1 .left))
+    let e = c .before in sym (e .before .is-record .ensures) ∙ not-false (e .before .is-record .result) (e .if1 .left)
 
 returns-2 : tie.Need-returns-2
 returns-2 c =

@@ -1,0 +1,160 @@
+-- The fields of the record: what lies where in memory, how long its parts are and what each number may be.
+use mathlib.Core.Path.{_≡_}
+use mathlib.Core.Bool.{Bool, true, cond}
+use mathlib.Core.List.{List, [], _∷_, _++_, map}
+use Prim.Native.Nat.{ℕ, _+_, _≤_}
+use lib.Dec.{leb}
+use lib.Ieee.{Float}
+use lib.IntN.{ℤ}
+use lib.ListN.{length}
+use Rattle.decoder.specs.declared.record.Decoder.{Decoder}
+use Rattle.decoder.specs.Record.{place}
+
+-- a number is a flag, one of 32 bits or one of 64
+pub data Number : Type 0 where
+  flag : (Decoder → Bool) → Number
+  short : (Decoder → ℕ) → Number
+  size : (Decoder → ℕ) → Number
+
+-- so many elements of another part; one
+pub record Entry (A : Type 0) : Type 0 where
+  pub count : ℕ
+  pub get : Decoder → List A
+
+abbrev pub many : {A : Type 0} → ℕ → (Decoder → List A) → Entry A
+many n f = record { count = n; get = f }
+
+abbrev pub one : {A : Type 0} → (Decoder → A) → Entry A
+one f = many 1 (λ d. f d ∷ [])
+
+pub record Fields : Type 0 where
+  pub numbers : List Number
+  pub integers : List (Entry ℤ)
+  pub matrices : List (Entry ℕ)
+  pub clock : List (Entry Float)
+
+-- each field of the record at its place, one behind the other in its part. A field is added at the end.
+abbrev pub fields : Fields
+fields = record {
+  numbers =
+      size place
+      ∷ flag (λ d. d .sequence .«has_sequence_header»)
+      ∷ size (λ d. d .sequence .width)
+      ∷ size (λ d. d .sequence .height)
+      ∷ size (λ d. d .sequence .sizes .«mb_width»)
+      ∷ size (λ d. d .sequence .sizes .«mb_height»)
+      ∷ size (λ d. d .sequence .sizes .«mb_size»)
+      ∷ short (λ d. d .picture .«picture_type»)
+      ∷ size (λ d. d .picture .stores .cur)
+      ∷ size (λ d. d .picture .stores .fwd)
+      ∷ size (λ d. d .picture .stores .bwd)
+      ∷ short (λ d. d .picture .slice .«quantizer_scale»)
+      ∷ flag (λ d. d .picture .slice .«motion_forward» .«full_px»)
+      ∷ flag (λ d. d .picture .slice .«motion_forward» .«is_set»)
+      ∷ short (λ d. d .picture .slice .«motion_forward» .«r_size»)
+      ∷ flag (λ d. d .picture .slice .«motion_backward» .«full_px»)
+      ∷ flag (λ d. d .picture .slice .«motion_backward» .«is_set»)
+      ∷ short (λ d. d .picture .slice .«motion_backward» .«r_size»)
+      ∷ flag (λ d. d .«has_reference_frame»)
+      ∷ short (λ d. d .«frames_decoded»)
+      ∷ short (λ d. d .stop)
+      ∷ [];
+  integers =
+      one (λ d. d .picture .«start_code»)
+      ∷ one (λ d. d .picture .slice .«macroblock_address»)
+      ∷ one (λ d. d .picture .slice .«motion_forward» .h)
+      ∷ one (λ d. d .picture .slice .«motion_forward» .v)
+      ∷ one (λ d. d .picture .slice .«motion_backward» .h)
+      ∷ one (λ d. d .picture .slice .«motion_backward» .v)
+      ∷ many 3 (λ d. d .picture .slice .«dc_predictor»)
+      ∷ many 64 (λ d. d .«block_data»)
+      ∷ [];
+  matrices =
+      many 64 (λ d. d .sequence .matrices .«intra_quant_matrix»)
+      ∷ many 64 (λ d. d .sequence .matrices .«non_intra_quant_matrix»)
+      ∷ [];
+  clock =
+      one (λ d. d .clock .framerate)
+      ∷ one (λ d. d .clock .«pixel_aspect_ratio»)
+      ∷ one (λ d. d .clock .time)
+      ∷ one (λ d. d .clock .«last_frame_time»)
+      ∷ [];
+}
+
+-- ---- what follows from the kinds
+
+-- a flag as a number
+abbrev pub flagNumber : Bool → ℕ
+flagNumber x = cond x 1 0
+
+-- a number of a record, and the most that its type holds
+abbrev pub value : Decoder → Number → ℕ
+value d (flag f) = flagNumber (f d)
+value d (short f) = f d
+value d (size f) = f d
+
+abbrev pub most : Number → ℕ
+most (flag f) = 1
+most (short f) = 4294967295
+most (size f) = 18446744073709551615
+
+-- is a number of 64 bits a value of that type?
+abbrev pub fits : Number → ℕ → Bool
+fits (flag f) x = leb x 1
+fits (short f) x = leb x 4294967295
+fits (size f) x = true
+
+-- the elements of a record, and how many there are
+abbrev pub elements : {A : Type 0} → List (Entry A) → Decoder → List A
+elements [] d = []
+elements (e ∷ es) d = e .get d ++ elements es d
+
+abbrev pub count : {A : Type 0} → List (Entry A) → ℕ
+count [] = 0
+count (e ∷ es) = e .count + count es
+
+-- the values of a record's parts
+abbrev pub numbersOf : Decoder → List ℕ
+numbersOf d = map (value d) (fields .numbers)
+
+abbrev pub integersOf : Decoder → List ℤ
+integersOf d = elements (fields .integers) d
+
+abbrev pub matricesOf : Decoder → List ℕ
+matricesOf d = elements (fields .matrices) d
+
+abbrev pub clockOf : Decoder → List Float
+clockOf d = elements (fields .clock) d
+
+-- how many elements they have
+abbrev pub numberCount : ℕ
+numberCount = length (fields .numbers)
+
+abbrev pub integerCount : ℕ
+integerCount = count (fields .integers)
+
+abbrev pub matrixCount : ℕ
+matrixCount = count (fields .matrices)
+
+abbrev pub clockCount : ℕ
+clockCount = count (fields .clock)
+
+-- ---- what the types of a record's fields hold: every record that a call gives has these values
+
+abbrev pub TypedNumbers : List Number → Decoder → Type 0
+TypedNumbers [] d = Unit {0}
+TypedNumbers (flag f ∷ fs) d = TypedNumbers fs d
+TypedNumbers (short f ∷ fs) d = (f d ≤ 4294967295) × TypedNumbers fs d
+TypedNumbers (size f ∷ fs) d = TypedNumbers fs d
+
+pub record Sized {A : Type 0} (x : List A) (n : ℕ) : Type 0 where
+  pub is : length x ≡ n
+
+abbrev pub TypedEntries : {A : Type 0} → List (Entry A) → Decoder → Type 0
+TypedEntries [] d = Unit {0}
+TypedEntries (e ∷ es) d = Sized (e .get d) (e .count) × TypedEntries es d
+
+pub record Typed (d : Decoder) : Type 0 where
+  pub numbers : TypedNumbers (fields .numbers) d
+  pub integers : TypedEntries (fields .integers) d
+  pub matrices : TypedEntries (fields .matrices) d
