@@ -21,6 +21,10 @@ size_t mpeg1_record_integers(void);
 size_t mpeg1_record_matrices(void);
 size_t mpeg1_record_floats(void);
 
+/* How many numbers a hand-out tells of a picture, and their places: the number of its store. A later library may tell more. */
+size_t mpeg1_picture_numbers(void);
+enum { MPEG1_STORE };
+
 /* Bytes that the store needs for pictures of this size; 0 where a size is 0 or above 4095, the largest that a stream can name. */
 size_t mpeg1_store_bytes(size_t width, size_t height);
 
@@ -32,13 +36,14 @@ uint32_t mpeg1_open(const uint8_t *stream, size_t stream_bytes, uint8_t *store, 
                     uint8_t *matrices, size_t matrices_count, double *clock, size_t clock_count);
 
 /* Hands out the next picture.
-   0: a picture. *shown is the number of its store, for mpeg1_plane_start and mpeg1_write_rgb_scaled, and *time its time in seconds; both
-   hold until the next call. Else *shown and *time are left as they are: 1 the stream has more than 16777216 bytes; 2 a part of the record
-   is too short, or they hold no record; 3 to 6 as in mpeg1_open, while no header is accepted; 7 no further picture; 8 a DC value and 9 a
-   prediction that no decoder can follow: the record is stopped for good. 1 and 2 write nothing. */
+   0: a picture. picture[MPEG1_STORE] is the number of its store, for mpeg1_plane_start and mpeg1_write_rgb_scaled, and *time its time in
+   seconds; both hold until the next call. Else picture and *time are left as they are: 1 the stream has more than 16777216 bytes; 2 a part of
+   the record or picture is too short, or they hold no record; 3 to 6 as in mpeg1_open, while no header is accepted; 7 no further picture; 8 a
+   DC value and 9 a prediction that no decoder can follow: the record is stopped for good. 1 and 2 write nothing. */
 uint32_t mpeg1_decode(const uint8_t *stream, size_t stream_bytes, uint8_t *store, size_t store_bytes,
                       size_t *numbers, size_t numbers_count, int32_t *integers, size_t integers_count,
-                      uint8_t *matrices, size_t matrices_count, double *clock, size_t clock_count, size_t *shown, double *time);
+                      uint8_t *matrices, size_t matrices_count, double *clock, size_t clock_count,
+                      size_t *picture, size_t picture_count, double *time);
 
 /* Opens a stream and hands out all its pictures, with no record: how many are there, and by which number does it end? This one is in a library of its own,
    target/staticlib/libcount.a, which `rt staticlib count` writes.
@@ -84,6 +89,12 @@ typedef struct mpeg1_record {
     double clock[4];
 } mpeg1_record;
 
+/* What is told of a picture, in one piece: numbers, with the places above, and its time in seconds. */
+typedef struct mpeg1_picture {
+    size_t numbers[1];
+    double time;
+} mpeg1_picture;
+
 #define MPEG1_COUNT(part) (sizeof(part) / sizeof *(part))
 
 /* The same calls on such a record; what each answers is said above. */
@@ -95,10 +106,10 @@ static inline uint32_t mpeg1_record_open(mpeg1_record *r, const uint8_t *stream,
 }
 
 static inline uint32_t mpeg1_record_decode(mpeg1_record *r, const uint8_t *stream, size_t stream_bytes, uint8_t *store, size_t store_bytes,
-                                           size_t *shown, double *time)
+                                           mpeg1_picture *p)
 {
     return mpeg1_decode(stream, stream_bytes, store, store_bytes, r->numbers, MPEG1_COUNT(r->numbers), r->integers, MPEG1_COUNT(r->integers),
-                        r->matrices, MPEG1_COUNT(r->matrices), r->clock, MPEG1_COUNT(r->clock), shown, time);
+                        r->matrices, MPEG1_COUNT(r->matrices), r->clock, MPEG1_COUNT(r->clock), p->numbers, MPEG1_COUNT(p->numbers), &p->time);
 }
 
 static inline uint32_t mpeg1_record_write_rgb_scaled(const mpeg1_record *r, const uint8_t *store, size_t store_bytes, size_t index,

@@ -6,18 +6,20 @@
 #include <stdlib.h>
 #include <string.h>
 
-enum { NUMBERS, INTEGERS, MATRICES, CLOCK, PARTS, MORE = 5, AREA = 37 * 29, MOST = 1 << 24 };
+enum { NUMBERS, INTEGERS, MATRICES, CLOCK, PICTURE, PARTS, MORE = 5, AREA = 37 * 29, MOST = 1 << 24 };
 
-/* The record's memory, with elements behind the record in each part. */
+/* The record's memory and that for a picture's numbers, with elements behind them in each part. */
 static struct memory {
     size_t numbers[21 + MORE];
     int32_t integers[73 + MORE];
     uint8_t matrices[128 + MORE];
     double clock[4 + MORE];
+    size_t picture[1 + MORE];
 } m, before;
 static size_t count[PARTS];
 
 static mpeg1_record record;
+static mpeg1_picture picture;
 static uint8_t *stream, *store, *other_store;
 static size_t bytes, room;
 static uint32_t area[AREA], other_area[AREA];
@@ -44,10 +46,10 @@ static uint32_t open_in(const size_t *n)
     return mpeg1_open(stream, bytes, store, room, m.numbers, n[NUMBERS], m.integers, n[INTEGERS], m.matrices, n[MATRICES], m.clock, n[CLOCK]);
 }
 
-static uint32_t decode_in(const size_t *n, size_t *shown, double *time)
+static uint32_t decode_in(const size_t *n, double *time)
 {
     return mpeg1_decode(stream, bytes, store, room, m.numbers, n[NUMBERS], m.integers, n[INTEGERS], m.matrices, n[MATRICES], m.clock, n[CLOCK],
-                        shown, time);
+                        m.picture, n[PICTURE], time);
 }
 
 static uint32_t convert_in(const size_t *n, size_t index, size_t pixels)
@@ -60,17 +62,18 @@ static int kept(void)
     return !memcmp(&m, &before, sizeof m);
 }
 
-/* Each part with an element less: 2, and nothing is written. A conversion has no clock. */
-static void short_parts(size_t *shown, double *time)
+/* Each part with an element less: 2, and nothing is written. Opening tells of no picture, and a conversion has no clock. */
+static void short_parts(double *time)
 {
     memcpy(&before, &m, sizeof m);
     for (size_t part = 0; part < PARTS; part++) {
         size_t n[PARTS];
         memcpy(n, count, sizeof n);
         n[part]--;
-        expect(open_in(n) == 2 && kept(), "open, a part is short");
-        expect(decode_in(n, shown, time) == 2 && kept(), "decode, a part is short");
-        if (part != CLOCK)
+        if (part != PICTURE)
+            expect(open_in(n) == 2 && kept(), "open, a part is short");
+        expect(decode_in(n, time) == 2 && kept(), "decode, a part is short");
+        if (part < CLOCK)
             expect(convert_in(n, 0, AREA) == 2, "conversion, a part is short");
     }
     expect(mpeg1_width(m.numbers, count[NUMBERS] - 1) == 0 && mpeg1_position(m.numbers, count[NUMBERS] - 1) == 0, "numbers are short");
@@ -78,7 +81,7 @@ static void short_parts(size_t *shown, double *time)
 }
 
 /* Memory that holds no record, or none that is possible: 2, and nothing is written. */
-static void spoilt(size_t *shown, double *time)
+static void spoilt(double *time)
 {
     static const struct { size_t place, value; } numbers[] = {{1, 2}, {2, 4096}, {6, 0}, {7, 8}, {8, 3}, {11, 32}, {12, 2}, {14, 7}, {18, SIZE_MAX},
         {19, SIZE_MAX}, {20, 7}, {7, UINT64_C(1) << 32}, {20, UINT64_C(1) << 32}};
@@ -87,7 +90,7 @@ static void spoilt(size_t *shown, double *time)
         size_t was = m.numbers[numbers[i].place];
         m.numbers[numbers[i].place] = numbers[i].value;
         memcpy(&before, &m, sizeof m);
-        expect(decode_in(count, shown, time) == 2 && kept() && convert_in(count, 0, AREA) == 2, "a number that no record has");
+        expect(decode_in(count, time) == 2 && kept() && convert_in(count, 0, AREA) == 2, "a number that no record has");
         expect((mpeg1_width(m.numbers, count[NUMBERS]) == 0) == (numbers[i].place <= 6), "width where a number is not possible");
         m.numbers[numbers[i].place] = was;
     }
@@ -95,15 +98,15 @@ static void spoilt(size_t *shown, double *time)
         int32_t was = m.integers[integers[i].place];
         m.integers[integers[i].place] = integers[i].value;
         memcpy(&before, &m, sizeof m);
-        expect(decode_in(count, shown, time) == 2 && kept() && convert_in(count, 0, AREA) == 2, "an integer that no record has");
+        expect(decode_in(count, time) == 2 && kept() && convert_in(count, 0, AREA) == 2, "an integer that no record has");
         m.integers[integers[i].place] = was;
     }
 }
 
-static void refusals(size_t *shown, double *time)
+static void refusals(double *time)
 {
-    short_parts(shown, time);
-    spoilt(shown, time);
+    short_parts(time);
+    spoilt(time);
     expect(convert_in(count, 3, AREA) == 10, "store 3");
     expect(convert_in(count, 0, AREA - 1) == 11, "a small area");
     expect(mpeg1_plane_start(m.numbers, count[NUMBERS], 3, 0) == 0 && mpeg1_row_bytes(m.numbers, count[NUMBERS], 3) == 0, "planes");
@@ -148,39 +151,43 @@ static void read_stream(const char *path)
 
 static void list(const char *path)
 {
-    static const size_t longer[PARTS] = {21 + MORE, 73 + MORE, 128 + MORE, 4 + MORE};
+    static const size_t longer[PARTS] = {21 + MORE, 73 + MORE, 128 + MORE, 4 + MORE, 1 + MORE};
     const char *name = strrchr(path, '/') ? strrchr(path, '/') + 1 : path;
-    size_t shown = 99, other_shown = 99, handed = 0;
-    double time = -1, other_time = -1;
+    size_t handed = 0, counted;
+    double time = -1;
     read_stream(path);
     memset(&m, 0x5a, sizeof m);
     uint32_t answer = open_in(longer);
     expect(mpeg1_record_open(&record, stream, bytes, other_store, room) == answer, "the struct's opening");
     same(0);
-    refusals(&shown, &time);
-    while (answer == 0 && (answer = decode_in(longer, &shown, &time)) == 0) {
-        expect(mpeg1_record_decode(&record, stream, bytes, other_store, room, &other_shown, &other_time) == 0, "the struct's hand-out");
-        expect(shown == other_shown && time == other_time, "the struct's store and time");
+    refusals(&time);
+    while (answer == 0 && (answer = decode_in(longer, &time)) == 0) {
+        size_t shown = m.picture[MPEG1_STORE];
+        expect(mpeg1_record_decode(&record, stream, bytes, other_store, room, &picture) == 0, "the struct's hand-out");
+        expect(shown == picture.numbers[MPEG1_STORE] && time == picture.time, "the struct's store and time");
         print_picture(name, ++handed, shown, time);
         same(shown);
-        refusals(&shown, &time);
+        refusals(&time);
     }
     printf("%s %zu 0 0 %u - -\n", name, handed, answer);
-    expect(mpeg1_record_decode(&record, stream, bytes, other_store, room, &other_shown, &other_time) == answer, "the struct's last answer");
-    expect(mpeg1_count(stream, bytes, other_store, room, &other_shown) == answer && other_shown == handed, "the count");
+    expect(mpeg1_record_decode(&record, stream, bytes, other_store, room, &picture) == answer, "the struct's last answer");
+    expect(mpeg1_count(stream, bytes, other_store, room, &counted) == answer && counted == handed, "the count");
     expect(!memcmp(store, other_store, mpeg1_store_bytes(mpeg1_record_width(&record), mpeg1_record_height(&record))), "the store of the count");
     memset(&before, 0x5a, sizeof before);
     expect(!memcmp(m.numbers + 21, before.numbers + 21, sizeof(size_t) * MORE) && !memcmp(m.integers + 73, before.integers + 73, sizeof(int32_t) * MORE)
-               && !memcmp(m.matrices + 128, before.matrices + 128, MORE) && !memcmp(m.clock + 4, before.clock + 4, sizeof(double) * MORE),
+               && !memcmp(m.matrices + 128, before.matrices + 128, MORE) && !memcmp(m.clock + 4, before.clock + 4, sizeof(double) * MORE)
+               && !memcmp(m.picture + 1, before.picture + 1, sizeof(size_t) * MORE),
            "elements behind the record");
 }
 
 int main(int argc, char **argv)
 {
-    const size_t record_counts[PARTS] = {MPEG1_COUNT(record.numbers), MPEG1_COUNT(record.integers), MPEG1_COUNT(record.matrices), MPEG1_COUNT(record.clock)};
+    const size_t record_counts[PARTS] = {MPEG1_COUNT(record.numbers), MPEG1_COUNT(record.integers), MPEG1_COUNT(record.matrices), MPEG1_COUNT(record.clock),
+                                           MPEG1_COUNT(picture.numbers)};
     count[NUMBERS] = mpeg1_record_numbers(), count[INTEGERS] = mpeg1_record_integers();
     count[MATRICES] = mpeg1_record_matrices(), count[CLOCK] = mpeg1_record_floats();
-    expect(!memcmp(count, record_counts, sizeof count), "the struct is as long as a record");
+    count[PICTURE] = mpeg1_picture_numbers();
+    expect(!memcmp(count, record_counts, sizeof count), "the structs are as long as a record and a picture's numbers");
     room = mpeg1_store_bytes(4095, 4095);
     stream = calloc(MOST, 1), store = calloc(room, 1), other_store = calloc(room, 1);
     expect(stream && store && other_store, "memory");

@@ -65,9 +65,9 @@ static void write_plane(const unsigned char *plane, size_t row_bytes, size_t wid
 int main(int argc, char **argv)
 {
     static const size_t order[3] = {0, 2, 1}; /* Y4M has Y, Cb, Cr */
-    size_t store_bytes = mpeg1_store_bytes(4095, 4095), bytes, shown = 0;
-    double time = 0;
+    size_t store_bytes = mpeg1_store_bytes(4095, 4095), bytes;
     mpeg1_record record;
+    mpeg1_picture picture;
     if (argc != 2) {
         fprintf(stderr, "usage: y4m FILE\n");
         return 2;
@@ -77,11 +77,11 @@ int main(int argc, char **argv)
     if (answer == 0) {
         size_t width = mpeg1_record_width(&record), height = mpeg1_record_height(&record);
         write_head(width, height, mpeg1_record_frame_rate(&record));
-        while ((answer = mpeg1_record_decode(&record, stream, bytes, store, store_bytes, &shown, &time)) == 0) {
+        while ((answer = mpeg1_record_decode(&record, stream, bytes, store, store_bytes, &picture)) == 0) {
             printf("FRAME\n");
             for (int i = 0; i < 3; i++) {
                 size_t plane = order[i], half = plane != 0;
-                write_plane(store + mpeg1_record_plane_start(&record, shown, plane), mpeg1_record_row_bytes(&record, plane),
+                write_plane(store + mpeg1_record_plane_start(&record, picture.numbers[MPEG1_STORE], plane), mpeg1_record_row_bytes(&record, plane),
                             (width + half) >> half, (height + half) >> half);
             }
         }

@@ -1,55 +1,8 @@
 // Our calls, those of the archives of crates/mpeg1 and crates/count, on memory of their own.
-extern "C" {
-    fn mpeg1_count(stream: *const u8, n: usize, store: *mut u8, m: usize, pictures: *mut usize) -> u32;
-    fn mpeg1_open(
-        stream: *const u8,
-        n: usize,
-        store: *mut u8,
-        m: usize,
-        numbers: *mut usize,
-        nn: usize,
-        integers: *mut i32,
-        ni: usize,
-        matrices: *mut u8,
-        nm: usize,
-        clock: *mut f64,
-        nc: usize,
-    ) -> u32;
-    fn mpeg1_decode(
-        stream: *const u8,
-        n: usize,
-        store: *mut u8,
-        m: usize,
-        numbers: *mut usize,
-        nn: usize,
-        integers: *mut i32,
-        ni: usize,
-        matrices: *mut u8,
-        nm: usize,
-        clock: *mut f64,
-        nc: usize,
-        shown: *mut usize,
-        time: *mut f64,
-    ) -> u32;
-    fn mpeg1_write_rgb_scaled(
-        store: *const u8,
-        m: usize,
-        numbers: *const usize,
-        nn: usize,
-        integers: *const i32,
-        ni: usize,
-        matrices: *const u8,
-        nm: usize,
-        index: usize,
-        area: *mut u32,
-        na: usize,
-        width: usize,
-        height: usize,
-    ) -> u32;
-    fn mpeg1_store_bytes(width: usize, height: usize) -> usize;
-    fn mpeg1_plane_start(numbers: *const usize, nn: usize, index: usize, plane: usize) -> usize;
-    fn mpeg1_plane_bytes(numbers: *const usize, nn: usize, plane: usize) -> usize;
-}
+#[path = "../../hosts/rust/src/calls.rs"]
+mod calls;
+
+use calls::*;
 
 pub struct Ours {
     numbers: [usize; 21],
@@ -76,9 +29,9 @@ impl Ours {
     pub fn decode(&mut self, stream: &[u8]) -> Option<usize> {
         let Ours { numbers, integers, matrices, clock, store } = self;
         let (s, m, n, i, q, c) = (store.as_mut_ptr(), store.len(), numbers.as_mut_ptr(), integers.as_mut_ptr(), matrices.as_mut_ptr(), clock.as_mut_ptr());
-        let (mut shown, mut time) = (0, 0.0);
-        match unsafe { mpeg1_decode(stream.as_ptr(), stream.len(), s, m, n, 21, i, 73, q, 128, c, 4, &mut shown, &mut time) } {
-            0 => Some(shown),
+        let (mut shown, mut time) = ([0], 0.0);
+        match unsafe { mpeg1_decode(stream.as_ptr(), stream.len(), s, m, n, 21, i, 73, q, 128, c, 4, shown.as_mut_ptr(), 1, &mut time) } {
+            0 => Some(shown[0]),
             _ => None,
         }
     }

@@ -125,7 +125,7 @@ impl Run<'_> {
         let stream = &self.case.stream;
         let said = self.ours.hand_out(stream) ^ (self.damage == Some(Damage::Answer)) as u32;
         match self.damage {
-            Some(Damage::Shown) => self.ours.shown ^= 1,
+            Some(Damage::Shown) => *self.ours.shown() ^= 1,
             Some(Damage::Time) => flip(&mut self.ours.time),
             _ => (),
         }
@@ -137,7 +137,7 @@ impl Run<'_> {
             Answer::Picture { shown, time } => (shown, time),
             Answer::Number(_) => (NOT_SHOWN, NO_TIME),
         };
-        difference::values(&what, "store shown", self.ours.shown, shown)?;
+        difference::values(&what, "store shown", *self.ours.shown(), shown)?;
         difference::floats(&what, "time", self.ours.time, time)?;
         self.compare(&what)?;
         Ok(answer.number())

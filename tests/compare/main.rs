@@ -10,6 +10,8 @@
 //        compare FOLDER long SEED           the largest streams, pictures and outputs
 //        compare FOLDER again FILE          a case that was kept
 //        compare FOLDER files FILE ..       these streams, all pictures
+#[path = "../../hosts/rust/src/calls.rs"]
+mod calls;
 mod case;
 mod codes;
 mod conversions;

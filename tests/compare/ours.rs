@@ -1,53 +1,6 @@
 // Our calls, those of the archive, on memory with guards around it.
+use crate::calls::*;
 use crate::record::Record;
-
-extern "C" {
-    fn mpeg1_open(
-        stream: *const u8,
-        n: usize,
-        store: *mut u8,
-        m: usize,
-        numbers: *mut usize,
-        nn: usize,
-        integers: *mut i32,
-        ni: usize,
-        matrices: *mut u8,
-        nm: usize,
-        clock: *mut f64,
-        nc: usize,
-    ) -> u32;
-    fn mpeg1_decode(
-        stream: *const u8,
-        n: usize,
-        store: *mut u8,
-        m: usize,
-        numbers: *mut usize,
-        nn: usize,
-        integers: *mut i32,
-        ni: usize,
-        matrices: *mut u8,
-        nm: usize,
-        clock: *mut f64,
-        nc: usize,
-        shown: *mut usize,
-        time: *mut f64,
-    ) -> u32;
-    fn mpeg1_write_rgb_scaled(
-        store: *const u8,
-        m: usize,
-        numbers: *const usize,
-        nn: usize,
-        integers: *const i32,
-        ni: usize,
-        matrices: *const u8,
-        nm: usize,
-        index: usize,
-        area: *mut u32,
-        na: usize,
-        width: usize,
-        height: usize,
-    ) -> u32;
-}
 
 // How many values stand before and behind lent memory, which no call may change.
 pub const GUARD: usize = 16;
@@ -104,7 +57,7 @@ pub struct Ours {
     pub clock: Lent<f64>,
     pub store: Lent<u8>,
     // what a hand-out tells of a picture; before it these are values that no picture has
-    pub shown: usize,
+    pub picture: Lent<usize>,
     pub time: f64,
 }
 
@@ -122,7 +75,7 @@ impl Ours {
             matrices: Lent::resized(&record.matrices, lent[2], BEHIND, 0xa5),
             clock: Lent::resized(&record.clock, lent[3], BEHIND as f64, -7.5),
             store: Lent::new(store, 0x5a),
-            shown: NOT_SHOWN,
+            picture: Lent::new(&[NOT_SHOWN], 77),
             time: NO_TIME,
         }
     }
@@ -136,8 +89,18 @@ impl Ours {
     pub fn hand_out(&mut self, stream: &[u8]) -> u32 {
         let ((s, m), (n, nn), (i, ni)) = (self.store.parts(), self.numbers.parts(), self.integers.parts());
         let ((q, nm), (c, nc)) = (self.matrices.parts(), self.clock.parts());
-        (self.shown, self.time) = (NOT_SHOWN, NO_TIME);
-        unsafe { mpeg1_decode(stream.as_ptr(), stream.len(), s, m, n, nn, i, ni, q, nm, c, nc, &mut self.shown, &mut self.time) }
+        self.time = NO_TIME;
+        self.picture.inner().fill(NOT_SHOWN);
+        let (p, np) = self.picture.parts();
+        let mut call = |np| unsafe { mpeg1_decode(stream.as_ptr(), stream.len(), s, m, n, nn, i, ni, q, nm, c, nc, p, np, &mut self.time) };
+        // with no room for what is told of a picture: 2 behind question 1, and nothing is written, as the comparison of the next call shows
+        assert_eq!(call(np - 1), if stream.len() > 16_777_216 { 1 } else { 2 }, "a hand-out with no room for a picture's numbers");
+        call(np)
+    }
+
+    // The store of the picture that the last hand-out told of.
+    pub fn shown(&mut self) -> &mut usize {
+        &mut self.picture.inner()[0]
     }
 
     pub fn convert(&mut self, index: usize, area: &mut Lent<u32>, width: usize, height: usize) -> u32 {

@@ -1,30 +1,15 @@
 // What a host reads of a record in memory (crates/mpeg1, views): compared with the Rust's record.
+use crate::calls::*;
 use crate::case::ROOM;
 use crate::difference::{floats, values, Difference};
 use crate::ours::Ours;
 use crate::record::*;
 
-extern "C" {
-    fn mpeg1_record_numbers() -> usize;
-    fn mpeg1_record_integers() -> usize;
-    fn mpeg1_record_matrices() -> usize;
-    fn mpeg1_record_floats() -> usize;
-    fn mpeg1_store_bytes(width: usize, height: usize) -> usize;
-    fn mpeg1_width(numbers: *const usize, nn: usize) -> usize;
-    fn mpeg1_height(numbers: *const usize, nn: usize) -> usize;
-    fn mpeg1_picture_type(numbers: *const usize, nn: usize) -> u32;
-    fn mpeg1_position(numbers: *const usize, nn: usize) -> usize;
-    fn mpeg1_frame_rate(clock: *const f64, nc: usize) -> f64;
-    fn mpeg1_pixel_aspect_ratio(clock: *const f64, nc: usize) -> f64;
-    fn mpeg1_row_bytes(numbers: *const usize, nn: usize, plane: usize) -> usize;
-    fn mpeg1_plane_bytes(numbers: *const usize, nn: usize, plane: usize) -> usize;
-    fn mpeg1_plane_start(numbers: *const usize, nn: usize, index: usize, plane: usize) -> usize;
-}
-
 // The archive's record is the one that record.rs describes, and its stores are those of RULES 6.11.
 pub fn check_layout() {
     let parts = unsafe { [mpeg1_record_numbers(), mpeg1_record_integers(), mpeg1_record_matrices(), mpeg1_record_floats()] };
     assert_eq!(parts, ROOM, "elements in the parts of a record of the archive");
+    assert_eq!(unsafe { mpeg1_picture_numbers() }, 1, "numbers that are told of a picture");
     for (width, height) in [(0, 1), (1, 0), (1, 1), (16, 17), (4095, 4095), (4096, 1), (1, 4096), (usize::MAX, usize::MAX)] {
         let inside = (1..=4095).contains(&width) && (1..=4095).contains(&height);
         let needed = if inside { 1152 * width.div_ceil(16) * height.div_ceil(16) } else { 0 };

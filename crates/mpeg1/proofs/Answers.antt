@@ -1,11 +1,12 @@
 -- The ways through the definitions of the calls, one for each answer.
-use mathlib.Core.Path.{_≡_}
-use mathlib.Core.Bool.{true, false}
-use mathlib.Core.List.{List}
+use mathlib.Core.Path.{_≡_, refl}
+use mathlib.Core.Bool.{true, false, and-false}
+use mathlib.Core.List.{List, [], _∷_}
 use Prim.Native.Nat.{ℕ, _≤_, _<_}
+use native.Mathlib.Omega.{arith}
 use borrow.Author.Tests.{le-leb, lt-leb}
 use lib.Ieee.{Float}
-use lib.ListN.{length}
+use lib.ListN.{length, set}
 use Rattle.decoder.specs.declared.record.Decoder.{Decoder}
 use Rattle.decoder.specs.declared.answers.Opening.{Opening}
 use Rattle.decoder.specs.declared.answers.Outcome.{Outcome}
@@ -15,9 +16,9 @@ use Rattle.decoder.specs.Record.{left}
 use Rattle.decoder.specs.Opening.{opening}
 use Rattle.decoder.specs.HandOut.{handOut}
 use Rattle.decoder.specs.Conversion as Conversion
-use Rattle.memory.specs.Memory.{Memory, written, recordOf, roomy, isRecord}
+use Rattle.memory.specs.Memory.{Memory, over, written, recordOf, roomy, isRecord}
 use Rattle.decoder.specs.Answers.{openingNumber, conversionNumber}
-use Rattle.mpeg1.specs.Calls.{kept, Shows, shows, opensIn, HandsOut, decodesIn, converts, convertsIn}
+use Rattle.mpeg1.specs.Calls.{kept, Shows, shows, pictureNumbers, pictureCount, opensIn, HandsOut, decodesIn, converts, convertsIn}
 use Rattle.bits.specs.Bounds.{longestStream}
 
 -- ---- opening
@@ -34,24 +35,37 @@ module _ (s l : List ℕ) (x : Memory) where
 
 -- ---- the hand-out
 
--- what is left and shown of an answer
-abbrev pub told : Outcome → List ℕ → Memory → ℕ → Float → Shows
-told a store z k t = elim a [ H.Picture p ↦ shows (kept 0 store z) (p .store) (p .time) | H.Refused n ↦ shows (kept n store z) k t ]
+-- a picture's number, stored
+pub first-set : (k : List ℕ) (n : ℕ) → pictureCount ≤ length k → set k 0 n ≡ over (n ∷ []) k
+first-set [] n h = absurd (omega arith)
+first-set (x ∷ k) n h = refl
 
-module _ (s l : List ℕ) (x : Memory) (shown : ℕ) (time : Float) where
-  pub decodes-1 : longestStream < length s → shows (kept 1 l x) shown time ≡ decodesIn s l x shown time
+-- what is left and shown of an answer
+abbrev pub told : Outcome → List ℕ → Memory → List ℕ → Float → Shows
+told a store z k t = elim a [
+  | H.Picture p ↦ shows (kept 0 store z) (over (pictureNumbers p) k) (p .time)
+  | H.Refused n ↦ shows (kept n store z) k t
+]
+
+module _ (s l : List ℕ) (x : Memory) (k : List ℕ) (time : Float) where
+  pub decodes-1 : longestStream < length s → shows (kept 1 l x) k time ≡ decodesIn s l x k time
   unfolding decodesIn
   decodes-1 h = rw (lt-leb (length s) longestStream h)
 
   module _ (h : length s ≤ longestStream) where
-    pub decodes-2 : isRecord x ≡ false → shows (kept 2 l x) shown time ≡ decodesIn s l x shown time
+    pub decodes-2 : isRecord x ≡ false → shows (kept 2 l x) k time ≡ decodesIn s l x k time
     unfolding decodesIn
     decodes-2 e = rw (le-leb (length s) longestStream h, e)
 
-    pub decodes : {a : Outcome} {store : List ℕ} {z : Memory} → isRecord x ≡ true → HandsOut a store z (handOut (recordOf x) s l) x
-        → told a store z shown time ≡ decodesIn s l x shown time
+    -- no room for a picture's numbers
+    pub decodes-short : length k < pictureCount → shows (kept 2 l x) k time ≡ decodesIn s l x k time
     unfolding decodesIn
-    decodes i o = rw (le-leb (length s) longestStream h, i, o .answered, o .stored, o .wrote)
+    decodes-short p = rw (le-leb (length s) longestStream h, lt-leb pictureCount (length k) p, and-false (isRecord x))
+
+    pub decodes : {a : Outcome} {store : List ℕ} {z : Memory} → isRecord x ≡ true → pictureCount ≤ length k
+        → HandsOut a store z (handOut (recordOf x) s l) x → told a store z k time ≡ decodesIn s l x k time
+    unfolding decodesIn
+    decodes i p o = rw (le-leb (length s) longestStream h, i, le-leb pictureCount (length k) p, o .answered, o .stored, o .wrote)
 
 -- ---- the conversion
 

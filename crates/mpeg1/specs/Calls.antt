@@ -1,7 +1,7 @@
 -- The calls of `decoder` on memory that a host owns. An answer is 0 or the number of a refusal (RULES Q).
 use mathlib.Core.Path.{_≡_}
-use mathlib.Core.Bool.{not}
-use mathlib.Core.List.{List}
+use mathlib.Core.Bool.{not, _&&_}
+use mathlib.Core.List.{List, [], _∷_}
 use Prim.Native.Nat.{ℕ}
 use lib.Dec.{leb}
 use lib.Ieee.{Float}
@@ -12,13 +12,14 @@ use Rattle.bits.specs.Programs.{if_then_else_}
 use Rattle.header.specs.State.{noTime}
 use Rattle.decoder.specs.declared.answers.Outcome.{Outcome}
 use Rattle.decoder.specs.declared.answers.Outcome.the-variants as H
+use Rattle.decoder.specs.declared.answers.Shown.{Shown}
 use Rattle.decoder.specs.Record.{Left}
 use Rattle.decoder.specs.Answers.{openingNumber, conversionNumber}
 use Rattle.decoder.specs.Opening.{opening}
 use Rattle.decoder.specs.HandOut.{handOut}
 use Rattle.decoder.specs.Conversion as Conversion
 use Rattle.memory.specs.Fields.{clockCount}
-use Rattle.memory.specs.Memory.{Memory, memory, written, recordOf, roomy, isRecord, Holds}
+use Rattle.memory.specs.Memory.{Memory, memory, over, written, recordOf, roomy, isRecord, Holds}
 
 -- what a call leaves: its answer and all of the memory that a host has lent
 pub record Kept : Type 0 where
@@ -29,14 +30,21 @@ pub record Kept : Type 0 where
 abbrev pub kept : ℕ → List ℕ → Memory → Kept
 kept answer store x = record { answer = answer; store = store; memory = x }
 
--- beside it the number of a picture's store, and its time
+-- beside it what a host is told of a picture: numbers, and its time
 pub record Shows : Type 0 where
   pub kept : Kept
-  pub shown : ℕ
+  pub picture : List ℕ
   pub time : Float
 
-abbrev pub shows : Kept → ℕ → Float → Shows
-shows x shown time = record { kept = x; shown = shown; time = time }
+abbrev pub shows : Kept → List ℕ → Float → Shows
+shows x picture time = record { kept = x; picture = picture; time = time }
+
+-- RULES 8.9: the numbers: its store. A number is added at the end
+abbrev pub pictureNumbers : Shown → List ℕ
+pictureNumbers p = p .store ∷ []
+
+abbrev pub pictureCount : ℕ
+pictureCount = 1
 
 -- the record that a call of `decoder` leaves, over the beginning of the memory
 abbrev pub saved : {A : Type 0} → ℕ → Left A → Memory → Kept
@@ -53,18 +61,19 @@ pub record HandsOut (answer : Outcome) (store : List ℕ) (z : Memory) (y : Left
   pub wrote : z ≡ written (y .decoder) x
   pub holds : Holds z (y .decoder)
 
--- RULES 8.9: a picture's store and time, or those from before
-abbrev pub handedOut : Left Outcome → Memory → ℕ → Float → Shows
+-- RULES 8.9: a picture's numbers, over the beginning of what is lent, and its time; or those from before
+abbrev pub handedOut : Left Outcome → Memory → List ℕ → Float → Shows
 handedOut y x k t = elim (y .answer) [
-  | H.Picture p ↦ shows (saved 0 y x) (p .store) (p .time)
+  | H.Picture p ↦ shows (saved 0 y x) (over (pictureNumbers p) k) (p .time)
   | H.Refused m ↦ shows (saved m y x) k t
 ]
 
--- RULES Q: question 1, then whether the memory holds a record, which is part of question 2, and the hand-out of that record
-unfoldable pub decodesIn : List ℕ → List ℕ → Memory → ℕ → Float → Shows
+-- RULES Q: question 1, then whether the memory holds a record and there is room for a picture's numbers, which is part of question 2, and the
+-- hand-out of that record
+unfoldable pub decodesIn : List ℕ → List ℕ → Memory → List ℕ → Float → Shows
 decodesIn s l x k t =
     if not (leb (length s) longestStream) then shows (kept 1 l x) k t
-    else (if not (isRecord x) then shows (kept 2 l x) k t
+    else (if not (isRecord x && leb pictureCount (length k)) then shows (kept 2 l x) k t
     else handedOut (handOut (recordOf x) s l) x k t)
 
 -- a conversion reads no clock, so a host lends none: the record has one of 0.0

@@ -17,8 +17,11 @@ ghost use Rattle.decoder.specs.Opening as Open;
 ghost use Rattle.decoder.specs.HandOut as Out;
 ghost use Rattle.decoder.specs.Answers.{openingNumber, conversionNumber};
 ghost use Rattle.memory.specs.Memory.{memory, roomy, recordOf, isRecord, Holds};
-ghost use Rattle.mpeg1.specs.Calls.{kept, shows, opensIn, HandsOut, decodesIn, unclocked, converts, convertsIn};
+ghost use Rattle.mpeg1.specs.Calls.{kept, shows, opensIn, pictureCount, HandsOut, decodesIn, unclocked, converts, convertsIn};
 ghost use Rattle.bits.specs.Bounds.{longestStream};
+
+// How many numbers are told of a picture: its store.
+pub const PICTURE_NUMBERS: usize = 1;
 
 fn opening_number(x: Opening) -> u32
     ensures { λ r. ⌜ r ≡ openingNumber x ⌝ }
@@ -84,7 +87,7 @@ fn hand_out(
     handed.outcome
 }
 
-// RULES 8: 0 with the picture's store and time, or 1 to 9.
+// RULES 8: 0 with the picture's numbers and time, or 1 to 9.
 #[no_mangle]
 pub extern "C" fn mpeg1_decode(
     stream: &[u8],
@@ -93,15 +96,15 @@ pub extern "C" fn mpeg1_decode(
     integers: &mut [i32],
     matrices: &mut [u8],
     clock: &mut [f64],
-    shown: &mut usize,
+    picture: &mut [usize],
     time: &mut f64,
 ) -> u32
     ensures left { λ r. ⌜ shows (kept r (now (store .exit))
-        (memory (now (numbers .exit)) (now (integers .exit)) (now (matrices .exit)) (now (clock .exit)))) (now (shown .exit)) (now (time .exit))
+        (memory (now (numbers .exit)) (now (integers .exit)) (now (matrices .exit)) (now (clock .exit)))) (now (picture .exit)) (now (time .exit))
         ≡ decodesIn (now (stream .entry)) (now (store .entry))
-        (memory (now (numbers .entry)) (now (integers .entry)) (now (matrices .entry)) (now (clock .entry))) (now (shown .entry)) (now (time .entry)) ⌝ }
+        (memory (now (numbers .entry)) (now (integers .entry)) (now (matrices .entry)) (now (clock .entry))) (now (picture .entry)) (now (time .entry)) ⌝ }
     ensures held { λ r. ⌜ (isRecord (memory (now (numbers .entry)) (now (integers .entry)) (now (matrices .entry)) (now (clock .entry))) ≡ true
-        → leb (length (now (stream .entry))) longestStream ≡ true
+        → leb (length (now (stream .entry))) longestStream ≡ true → leb pictureCount (length (now (picture .entry))) ≡ true
         → Holds (memory (now (numbers .exit)) (now (integers .exit)) (now (matrices .exit)) (now (clock .exit)))
         (Out.handOut (recordOf (memory (now (numbers .entry)) (now (integers .entry)) (now (matrices .entry)) (now (clock .entry))))
         (now (stream .entry)) (now (store .entry)) .decoder)) ⌝ }
@@ -109,13 +112,16 @@ pub extern "C" fn mpeg1_decode(
     if LONGEST_STREAM < stream.len() {
         return 1;
     }
+    if picture.len() < PICTURE_NUMBERS {
+        return 2;
+    }
     if !is_record(numbers, integers, matrices, clock) {
         return 2;
     }
     let outcome = hand_out(stream, store, numbers, integers, matrices, clock);
     match outcome {
         Outcome::Picture(p) => {
-            *shown = p.store;
+            picture[0] = p.store;
             *time = p.time;
             0
         }

@@ -1,4 +1,5 @@
 // What a host reads of a record, and the sizes that it needs, so that none counts fields or repeats the layout of a store.
+use crate::calls::PICTURE_NUMBERS;
 use bits::position::LAST_POSITION;
 use header::possible::possible_sequence;
 use header::possible::sizes_of;
@@ -17,6 +18,7 @@ use prediction::planes::plane_start;
 ghost use mathlib.Core.Path.{_≡_};
 ghost use Prim.Native.Nat.{_<_, _≤_};
 ghost use Rattle.memory.specs.Fields.{numberCount, integerCount, matrixCount, clockCount};
+ghost use Rattle.mpeg1.specs.Calls.{pictureCount};
 ghost use Rattle.mpeg1.specs.Views as View;
 
 fn seen(numbers: &[usize]) -> Sequence
@@ -100,6 +102,14 @@ pub extern "C" fn mpeg1_record_floats() -> usize
     ensures { λ r. ⌜ r ≡ clockCount ⌝ }
 {
     CLOCK
+}
+
+// How many numbers a hand-out tells of a picture.
+#[no_mangle]
+pub extern "C" fn mpeg1_picture_numbers() -> usize
+    ensures { λ r. ⌜ r ≡ pictureCount ⌝ }
+{
+    PICTURE_NUMBERS
 }
 
 #[no_mangle]

@@ -2,70 +2,9 @@
 //! keeps none of them; no call asks more of its caller.
 #![allow(unsafe_code)]
 
+use crate::calls::*;
 use std::alloc::{alloc_zeroed, Layout};
 use std::ops::Range;
-
-extern "C" {
-    fn mpeg1_open(
-        stream: *const u8,
-        stream_bytes: usize,
-        store: *mut u8,
-        store_bytes: usize,
-        numbers: *mut usize,
-        numbers_length: usize,
-        integers: *mut i32,
-        integers_length: usize,
-        matrices: *mut u8,
-        matrices_length: usize,
-        clock: *mut f64,
-        clock_length: usize,
-    ) -> u32;
-    fn mpeg1_decode(
-        stream: *const u8,
-        stream_bytes: usize,
-        store: *mut u8,
-        store_bytes: usize,
-        numbers: *mut usize,
-        numbers_length: usize,
-        integers: *mut i32,
-        integers_length: usize,
-        matrices: *mut u8,
-        matrices_length: usize,
-        clock: *mut f64,
-        clock_length: usize,
-        shown: *mut usize,
-        time: *mut f64,
-    ) -> u32;
-    fn mpeg1_write_rgb_scaled(
-        store: *const u8,
-        store_bytes: usize,
-        numbers: *const usize,
-        numbers_length: usize,
-        integers: *const i32,
-        integers_length: usize,
-        matrices: *const u8,
-        matrices_length: usize,
-        index: usize,
-        area: *mut u32,
-        area_length: usize,
-        width: usize,
-        height: usize,
-    ) -> u32;
-    fn mpeg1_record_numbers() -> usize;
-    fn mpeg1_record_integers() -> usize;
-    fn mpeg1_record_matrices() -> usize;
-    fn mpeg1_record_floats() -> usize;
-    fn mpeg1_store_bytes(width: usize, height: usize) -> usize;
-    fn mpeg1_width(numbers: *const usize, numbers_length: usize) -> usize;
-    fn mpeg1_height(numbers: *const usize, numbers_length: usize) -> usize;
-    fn mpeg1_picture_type(numbers: *const usize, numbers_length: usize) -> u32;
-    fn mpeg1_position(numbers: *const usize, numbers_length: usize) -> usize;
-    fn mpeg1_frame_rate(clock: *const f64, clock_length: usize) -> f64;
-    fn mpeg1_pixel_aspect_ratio(clock: *const f64, clock_length: usize) -> f64;
-    fn mpeg1_row_bytes(numbers: *const usize, numbers_length: usize, plane: usize) -> usize;
-    fn mpeg1_plane_start(numbers: *const usize, numbers_length: usize, index: usize, plane: usize) -> usize;
-    fn mpeg1_plane_bytes(numbers: *const usize, numbers_length: usize, plane: usize) -> usize;
-}
 
 /// The decoder's state: the record, which is plain data, and the store, which holds three pictures.
 pub(crate) struct State {
@@ -74,6 +13,7 @@ pub(crate) struct State {
     integers: Vec<i32>,
     matrices: Vec<u8>,
     clock: Vec<f64>,
+    picture: Vec<usize>,
     shape: Shape,
 }
 
@@ -130,9 +70,9 @@ impl State {
     /// A record of zeros, and a store for pictures of this size; none where there is not enough memory.
     pub fn new(width: usize, height: usize) -> Option<State> {
         let (store, numbers, integers) = unsafe { (mpeg1_store_bytes(width, height), mpeg1_record_numbers(), mpeg1_record_integers()) };
-        let (matrices, clock) = unsafe { (mpeg1_record_matrices(), mpeg1_record_floats()) };
-        let (store, shape) = (zeros(store)?, Shape::default());
-        Some(State { store, numbers: vec![0; numbers], integers: vec![0; integers], matrices: vec![0; matrices], clock: vec![0.0; clock], shape })
+        let (matrices, clock, picture) = unsafe { (mpeg1_record_matrices(), mpeg1_record_floats(), mpeg1_picture_numbers()) };
+        let (numbers, integers, matrices) = (vec![0; numbers], vec![0; integers], vec![0; matrices]);
+        Some(State { store: zeros(store)?, numbers, integers, matrices, clock: vec![0.0; clock], picture: vec![0; picture], shape: Shape::default() })
     }
 
     pub fn open(&mut self, stream: &[u8]) -> Result<(), u32> {
@@ -158,8 +98,8 @@ impl State {
     }
 
     pub fn decode(&mut self, stream: &[u8]) -> Result<Shown, u32> {
-        let State { store, numbers, integers, matrices, clock, .. } = self;
-        let mut shown = Shown { index: 0, time: 0.0 };
+        let State { store, numbers, integers, matrices, clock, picture, .. } = self;
+        let mut time = 0.0;
         answer(unsafe {
             mpeg1_decode(
                 stream.as_ptr(),
@@ -174,11 +114,12 @@ impl State {
                 matrices.len(),
                 clock.as_mut_ptr(),
                 clock.len(),
-                &mut shown.index,
-                &mut shown.time,
+                picture.as_mut_ptr(),
+                picture.len(),
+                &mut time,
             )
         })?;
-        Ok(shown)
+        Ok(Shown { index: picture.first().copied().unwrap_or_default(), time })
     }
 
     pub fn write_rgb_scaled(&self, index: usize, area: &mut [u32], width: usize, height: usize) -> Result<(), u32> {

@@ -35,6 +35,7 @@
 #![deny(unsafe_code, missing_docs)]
 
 mod archive;
+mod calls;
 mod refusal;
 
 use archive::State;

@@ -1,13 +1,14 @@
 use mathlib.Core.Bool.{true, false≢true}
 use mathlib.Core.Path.{_≡_, sym, _∙_}
+use Prim.Native.Nat.{_≤_}
 use borrow.Author.Needs.{needs}
 use borrow.Author.Tests.{not-true, not-false, lt-leb}
 use denote.Ref.{now}
 use lib.ListN.{length}
 use Rattle.decoder.specs.declared.answers.Outcome.{Outcome}
 use Rattle.memory.specs.Memory.{Memory, memory, isRecord}
-use Rattle.mpeg1.specs.Calls.{decodesIn}
-use Rattle.mpeg1.proofs.Answers.{decodes-1, decodes-2, told, decodes}
+use Rattle.mpeg1.specs.Calls.{pictureCount, decodesIn}
+use Rattle.mpeg1.proofs.Answers.{decodes-1, decodes-2, decodes-short, first-set, told, decodes}
 use Rattle.mpeg1.proofs.calls.mpeg1_decode.Statement.{statement}
 use Rattle.mpeg1.proofs.calls.mpeg1_decode.Tie as tie
 use Rattle.bits.specs.Bounds.{longestStream}
@@ -17,66 +18,79 @@ abbrev lent : tie.Start → Memory
 lent s = memory (now (s .args .numbers)) (now (s .args .integers)) (now (s .args .matrices)) (now (s .args .clock))
 
 -- the calls, from the last one back to the entry
-abbrev at-hand-out : tie.After-slice-known8 → tie.After-hand-out
+abbrev at-hand-out : tie.After-slice-known9 → tie.After-hand-out
 at-hand-out c = c .before .before .before .before .before .before .before .before .before
 
-abbrev asked : tie.After-hand-out-arg5 → tie.Else2
+abbrev asked : tie.After-hand-out-arg5 → tie.Else3
 asked c = c .before .before .before .before .before
 
-abbrev small : tie.After-is-record → tie.Else1
-small c = c .before .before .before .before .before
+abbrev roomy : tie.After-is-record → tie.Else2
+roomy c = c .before .before .before .before .before
 
-abbrev entry : tie.After-slice-known4 → tie.Start
-entry c = c .before .before .before .before .before
+abbrev entry : tie.After-slice-known5 → tie.Start
+entry c = c .before .before .before .before .before .before
 
-abbrev begun : tie.After-is-record → tie.Start
-begun c = entry (small c .before)
+abbrev begun : tie.Else2 → tie.Start
+begun c = entry (c .before .before)
 
 -- behind the questions
-is : (c : tie.Else2) → isRecord (lent (begun (c .before))) ≡ true
-is c = sym (c .before .is-record .ensures) ∙ not-false (c .before .is-record .result) (c .if2 .left)
+is : (c : tie.Else3) → isRecord (lent (begun (roomy (c .before)))) ≡ true
+is c = sym (c .before .is-record .ensures) ∙ not-false (c .before .is-record .result) (c .if3 .left)
 
 returns : tie.Need-returns
 returns c =
     let s = entry (c .before) in (
-      decodes-1 (now (s .args .stream)) (now (s .args .store)) (lent s) (now (s .args .shown)) (now (s .args .time)) (c .if1 .taken),
-      λ i h. absurd (false≢true (sym (lt-leb (length (now (s .args .stream))) longestStream (c .if1 .taken)) ∙ h)),
+      decodes-1 (now (s .args .stream)) (now (s .args .store)) (lent s) (now (s .args .picture)) (now (s .args .time)) (c .if1 .taken),
+      λ i h p. absurd (false≢true (sym (lt-leb (length (now (s .args .stream))) longestStream (c .if1 .taken)) ∙ h)),
     )
 
 returns-2 : tie.Need-returns-2
 returns-2 c =
-    let s = begun (c .before) in
-    let e = sym (c .before .is-record .ensures) ∙ not-true (c .before .is-record .result) (c .if2 .taken) in (
-      decodes-2 (now (s .args .stream)) (now (s .args .store)) (lent s) (now (s .args .shown)) (now (s .args .time)) (small (c .before) .if1 .left) e,
-      λ i h. absurd (false≢true (sym e ∙ i)),
+    let s = entry (c .before .before) in let k = now (s .args .picture) in (
+      decodes-short (now (s .args .stream)) (now (s .args .store)) (lent s) k (now (s .args .time)) (c .before .if1 .left) (c .if2 .taken),
+      λ i h p. absurd (false≢true (sym (lt-leb pictureCount (length k) (c .if2 .taken)) ∙ p)),
+    )
+
+returns-3 : tie.Need-returns-3
+returns-3 c =
+    let r = roomy (c .before) in let s = begun r in
+    let e = sym (c .before .is-record .ensures) ∙ not-true (c .before .is-record .result) (c .if3 .taken) in (
+      decodes-2 (now (s .args .stream)) (now (s .args .store)) (lent s) (now (s .args .picture)) (now (s .args .time)) (r .before .if1 .left) e,
+      λ i h p. absurd (false≢true (sym e ∙ i)),
     )
 
 -- the hand-out, and what it leaves
-module _ (c : tie.After-slice-known8) where
+module _ (c : tie.After-slice-known9) where
   abbrev gave : tie.After-hand-out
   gave = at-hand-out c
 
-  abbrev ready : tie.Else2
+  abbrev ready : tie.Else3
   ready = asked (gave .before)
 
   abbrev start : tie.Start
-  start = begun (ready .before)
+  start = begun (roomy (ready .before))
 
   abbrev memory-left : Memory
   memory-left = let x = gave .hand-out .last .1 .1 in memory (x .0) (x .1 .0) (x .1 .1 .0) (x .1 .1 .1 .0)
 
-  gives : {a : Outcome} → gave .hand-out .result ≡ a → told a (gave .hand-out .last .1 .0) memory-left (now (start .args .shown)) (now (start .args .time))
-      ≡ decodesIn (now (start .args .stream)) (now (start .args .store)) (lent start) (now (start .args .shown)) (now (start .args .time))
-  gives e = rw (← e) (decodes _ _ _ _ _ (small (ready .before) .if1 .left) (is ready) (gave .hand-out .ensures))
+  room : pictureCount ≤ length (now (start .args .picture))
+  room = roomy (ready .before) .if2 .left
 
-returns-3 : tie.Need-returns-3
-returns-3 c = let p = c .before .before .before in (gives p (c .before .outcome .given .1), λ i h. gave p .hand-out .ensures .holds)
+  gives : {a : Outcome} → gave .hand-out .result ≡ a → told a (gave .hand-out .last .1 .0) memory-left (now (start .args .picture)) (now (start .args .time))
+      ≡ decodesIn (now (start .args .stream)) (now (start .args .store)) (lent start) (now (start .args .picture)) (now (start .args .time))
+  gives e = rw (← e) (decodes _ _ _ _ _ (roomy (ready .before) .before .if1 .left) (is ready) room (gave .hand-out .ensures))
 
 returns-4 : tie.Need-returns-4
-returns-4 c = let p = c .before .before .before in (gives p (c .before .outcome2 .given .1), λ i h. gave p .hand-out .ensures .holds)
+returns-4 c =
+    let p = c .before .before .before in let h = room p in
+    (rw first-set (gives p (c .before .outcome .given .1)), λ i h q. gave p .hand-out .ensures .holds)
+
+returns-5 : tie.Need-returns-5
+returns-5 c = let p = c .before .before .before in (gives p (c .before .outcome2 .given .1), λ i h q. gave p .hand-out .ensures .holds)
 
 pub mpeg1-decode-spec : {M : Type 1} → statement M
 mpeg1-decode-spec =
-    tie.close (tie.spec returns (λ c κs. search needs) (λ c. search needs) (λ c. search needs) (λ c. search needs) (λ c. search needs) returns-2
-    (λ c κs. is (asked c)) (λ c. search needs) (λ c. search needs) (λ c. search needs) (λ c. search needs) (λ c. search needs) (λ c. search needs)
-    (λ c. search needs) returns-3 (λ c. search needs) (λ c. search needs) (λ c. search needs) (λ c. search needs) (λ c. search needs) returns-4)
+    tie.close (tie.spec returns returns-2 (λ c κs. search needs) (λ c. search needs) (λ c. search needs) (λ c. search needs) (λ c. search needs)
+    returns-3 (λ c κs. is (asked c)) (λ c. search needs) (λ c. search needs) (λ c. search needs) (λ c. search needs) (λ c. search needs)
+    (λ c. search needs) (λ c. search needs) (λ c. search needs) (λ c. search needs) returns-4 (λ c. search needs) (λ c. search needs)
+    (λ c. search needs) (λ c. search needs) (λ c. search needs) returns-5)
