@@ -15,6 +15,11 @@ extern "C" {
 /* The calls of the library. Each part of memory is a pointer, which is not null, and a count of elements. Parts that a call may write overlap
    no other part of the call. A record is four parts: numbers, integers, matrices and clock. Elements behind a record are not touched. */
 
+/* The version that this file declares, and that of the library. A library of a later version may have a longer record, tell more of a picture
+   and have more calls; what this file declares of it holds. */
+#define MPEG1_VERSION 1
+uint32_t mpeg1_version(void);
+
 /* Elements of the four parts. */
 size_t mpeg1_record_numbers(void);
 size_t mpeg1_record_integers(void);

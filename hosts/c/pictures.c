@@ -187,6 +187,7 @@ int main(int argc, char **argv)
     count[NUMBERS] = mpeg1_record_numbers(), count[INTEGERS] = mpeg1_record_integers();
     count[MATRICES] = mpeg1_record_matrices(), count[CLOCK] = mpeg1_record_floats();
     count[PICTURE] = mpeg1_picture_numbers();
+    expect(mpeg1_version() == MPEG1_VERSION, "the version");
     expect(!memcmp(count, record_counts, sizeof count), "the structs are as long as a record and a picture's numbers");
     room = mpeg1_store_bytes(4095, 4095);
     stream = calloc(MOST, 1), store = calloc(room, 1), other_store = calloc(room, 1);

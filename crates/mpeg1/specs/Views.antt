@@ -16,6 +16,10 @@ use Rattle.header.specs.Possible.{sizesOf, possibleSequence}
 use Rattle.memory.specs.Fields.{numberCount, matrixCount, clockCount}
 use Rattle.memory.specs.Memory.{number, sequenceIn}
 
+-- the version of the calls and of the record: a later one has more fields, numbers or calls
+abbrev pub version : ℕ
+version = 1
+
 -- what numbers 1 to 6 say of the sequence; no view reads a matrix
 abbrev pub sequenceSeen : List ℕ → Sequence
 sequenceSeen n = sequenceIn n (replicate matrixCount 0)

@@ -77,6 +77,13 @@ fn plane_number(plane: usize) -> Plane
 }
 
 #[no_mangle]
+pub extern "C" fn mpeg1_version() -> u32
+    ensures { λ r. ⌜ r ≡ View.version ⌝ }
+{
+    1
+}
+
+#[no_mangle]
 pub extern "C" fn mpeg1_record_numbers() -> usize
     ensures { λ r. ⌜ r ≡ numberCount ⌝ }
 {

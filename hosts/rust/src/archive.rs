@@ -6,6 +6,11 @@ use crate::calls::*;
 use std::alloc::{alloc_zeroed, Layout};
 use std::ops::Range;
 
+/// The version of the archive.
+pub(crate) fn version() -> u32 {
+    unsafe { mpeg1_version() }
+}
+
 /// The decoder's state: the record, which is plain data, and the store, which holds three pictures.
 pub(crate) struct State {
     store: Vec<u8>,

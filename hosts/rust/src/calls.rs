@@ -50,6 +50,7 @@ extern "C" {
         width: usize,
         height: usize,
     ) -> u32;
+    pub fn mpeg1_version() -> u32;
     pub fn mpeg1_record_numbers() -> usize;
     pub fn mpeg1_record_integers() -> usize;
     pub fn mpeg1_record_matrices() -> usize;

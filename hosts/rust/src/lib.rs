@@ -41,6 +41,15 @@ mod refusal;
 use archive::State;
 pub use refusal::Refusal;
 
+/// The version of the archive's calls that this wrapper was written for.
+pub const VERSION: u32 = 1;
+
+/// The version of the archive that the program is linked with. A later one than [`VERSION`] may have a longer record and tell more of a picture,
+/// for which the wrapper lends the memory that the archive asks for.
+pub fn version() -> u32 {
+    archive::version()
+}
+
 /// The most bytes that a stream may have.
 pub const LONGEST_STREAM: usize = 16_777_216;
 

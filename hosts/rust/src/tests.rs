@@ -12,6 +12,11 @@ fn refusal(stream: &[u8]) -> u32 {
 }
 
 #[test]
+fn the_archive_has_the_version_that_is_wrapped() {
+    assert_eq!(version(), VERSION);
+}
+
+#[test]
 fn the_small_stream_hands_out_one_picture() {
     let stream = small();
     let mut decoder = Decoder::open(&stream).unwrap();
