@@ -6,7 +6,7 @@ use crate::made;
 use crate::random::Random;
 use crate::record::*;
 use crate::reference::{store_for, Reference};
-use crate::rust::unchanged::video::premultiplier;
+use crate::premultiplier;
 
 // Numbers that question 2 bounds one by one: place, greatest. The least is 0.
 const NATURALS: [(usize, usize); 15] = [

@@ -37,6 +37,7 @@ mod writer;
 
 use case::Case;
 use random::Random;
+use rust::unchanged::video::premultiplier;
 use std::panic::{catch_unwind, AssertUnwindSafe};
 use std::path::Path;
 use std::time::Instant;

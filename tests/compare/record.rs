@@ -1,5 +1,5 @@
-// The decoder's record in the four parts of its memory (crates/memory says their order), and question 2 about it.
-use crate::rust::unchanged::video::premultiplier;
+// The decoder's record in the four parts of its memory (`fields` of crates/memory has their order), and question 2 about it. tests/gate has it from here.
+use crate::premultiplier;
 
 // How many elements the parts have.
 pub const NUMBERS: usize = 21;

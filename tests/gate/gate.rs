@@ -3,22 +3,18 @@
 //        gate answers STREAMS RECORDS          prints the answers
 mod calls;
 mod lines;
+#[allow(dead_code)]
+#[path = "../compare/record.rs"]
+mod record;
 mod records;
+
+use calls::premultiplier;
 
 // The Rust's reader as it stands in docs/src, with its place at hand.
 #[allow(dead_code)]
 mod buffer {
     include!("../../docs/src/crates/native32emu-core/src/mpeg/buffer.rs");
-
-    impl Buffer {
-        pub fn place(&self) -> usize {
-            self.bit_index
-        }
-
-        pub fn set_place(&mut self, place: usize) {
-            self.bit_index = place;
-        }
-    }
+    include!("../compare/place.rs");
 }
 
 // The number at a place of a file, and the bytes behind it, as many as it says.

@@ -1,6 +1,7 @@
 // What crates/calls is to print.
-use crate::calls::{convert, decode, open, Answer, Record};
+use crate::calls::{convert, decode, open, Answer};
 use crate::cases;
+use crate::record::Record;
 use crate::records::{case, Case};
 use std::fmt::Write;
 
@@ -13,8 +14,22 @@ fn sum_bytes(bytes: &[u8]) -> u64 {
     sum(1, bytes.iter().map(|&b| b as u32))
 }
 
+// The bits of a float. There is one NaN.
+fn bits(x: f64) -> u64 {
+    if x.is_nan() { 0x7ff8_0000_0000_0000 } else { x.to_bits() }
+}
+
+// The high half of a number, and the low one.
+fn halves(n: u64) -> [u32; 2] {
+    [(n >> 32) as u32, n as u32]
+}
+
+// The four parts of a record, as they lie in memory.
 fn sum_record(record: &Record) -> u64 {
-    sum(sum(1, record.numbers), record.matrices.iter().map(|&b| b as u32))
+    let numbers = record.numbers.into_iter().flat_map(|n| halves(n as u64));
+    let integers = record.integers.into_iter().map(|n| n as u32);
+    let matrices = record.matrices.into_iter().map(|b| b as u32);
+    sum(1, numbers.chain(integers).chain(matrices).chain(record.clock.into_iter().flat_map(|x| halves(bits(x)))))
 }
 
 // What a store is filled with before a case: crates/lists has the same rule.
@@ -28,12 +43,11 @@ fn show(out: &mut String, record: &Record, answer: &Answer, store: &[u8]) {
         writeln!(out, "{number} {:08x} {:08x}", sum_record(record), sum_bytes(store)).unwrap();
         return;
     };
-    let n = record.get("mb_size") as usize;
+    let n = record.macroblocks();
     let planes = [(0, 256), (256, 320), (320, 384)].map(|(from, to)| sum_bytes(&store[(384 * k + from) * n..(384 * k + to) * n]));
     let mut area = vec![0; 1073];
     let number = convert(record, store, k, &mut area, 37, 29);
-    let bits = if time.is_nan() { 0x7ff8_0000_0000_0000 } else { time.to_bits() };
-    write!(out, "0 {:08x} {:08x} {k} {bits:016x}", sum_record(record), sum_bytes(store)).unwrap();
+    write!(out, "0 {:08x} {:08x} {k} {:016x}", sum_record(record), sum_bytes(store), bits(time)).unwrap();
     writeln!(out, " {:08x} {:08x} {:08x} {number} {:08x}", planes[0], planes[1], planes[2], sum(1, area)).unwrap();
 }
 

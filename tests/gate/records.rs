@@ -1,10 +1,23 @@
 // The file of records made by hand: the stream that they are used on, the number of cases, and for each two texts: its name, and six numbers (bytes of the
-// store, store converted, width and height of the output, length of the area, and how often the hand-out is asked for), the numbers of the record and its
-// matrices. A float is a fraction here, numerator and denominator, so that a file can be read without the bits of floats.
-use crate::calls::{decode, open, Record, FIELDS, NUMBERS};
+// store, store converted, width and height of the output, length of the area, and how often the hand-out is asked for) and the record, in the order of its
+// memory: 21 numbers and 73 integers, each 32 bits, 128 bytes of the matrices, and the clock. A float is a fraction here, numerator and denominator, so that a
+// file can be read without the bits of floats.
+use crate::calls::{decode, open};
+use crate::record::*;
 use crate::{cases, number};
 
-const FLOATS: std::ops::Range<usize> = 27..35;
+// What a line of the changes calls the fields, in their order.
+const NUMBER_FIELDS: [&str; NUMBERS] = [
+    "position", "header", "width", "height", "mb_width", "mb_height", "mb_size", "type", "cur", "fwd", "bwd", "scale", "ff", "fs", "fr", "bf", "bs", "br", "held",
+    "handed", "stop",
+];
+const INTEGER_FIELDS: [&str; BLOCK] = ["code", "address", "fh", "fv", "bh", "bv", "dc0", "dc1", "dc2"];
+const FRACTION_FIELDS: [&str; 2 * FLOATS] = ["rate", "rate_low", "aspect", "aspect_low", "next", "next_low", "shown", "shown_low"];
+
+// Where the parts of a record begin in the text of a case.
+const INTEGERS_AT: usize = 24 + 4 * NUMBERS;
+const MATRICES_AT: usize = INTEGERS_AT + 4 * INTEGERS;
+const CLOCK_AT: usize = MATRICES_AT + MATRICES;
 
 pub struct Case {
     pub name: String,
@@ -23,8 +36,6 @@ pub fn make(streams_file: &[u8], changes: &str) -> Vec<u8> {
     for _ in 0..3 {
         base = decode(&base, &stream, &mut store).0;
     }
-    // rate 25, aspect 1, and three pictures handed out
-    base.numbers[FLOATS].copy_from_slice(&[25, 1, 1, 1, 3, 25, 2, 25]);
     let lines: Vec<&str> = changes.lines().filter(|line| !line.is_empty() && !line.starts_with('#')).collect();
     let mut out = Vec::new();
     out.extend((stream.len() as u32).to_be_bytes());
@@ -36,23 +47,33 @@ pub fn make(streams_file: &[u8], changes: &str) -> Vec<u8> {
     out
 }
 
+fn place(fields: &[&str], field: &str) -> Option<usize> {
+    fields.iter().position(|f| *f == field)
+}
+
 fn add(out: &mut Vec<u8>, line: &str, base: &Record) {
     let mut record = base.clone();
+    // rate 25, aspect 1, and three pictures handed out
+    let mut fractions: [u32; 2 * FLOATS] = [25, 1, 1, 1, 3, 25, 2, 25];
     let mut settings = SETTINGS;
     for change in line.split_whitespace() {
         let (field, value) = change.split_once('=').expect("field=value");
-        let value = value.parse::<i64>().expect("a number") as u32;
+        let value = value.parse::<i64>().expect("a number");
         if let Some(setting) = settings.iter_mut().find(|s| s.0 == field) {
-            setting.1 = value;
-        } else if let Some(place) = field.strip_prefix("left") {
-            record.numbers[FIELDS.len() + place.parse::<usize>().unwrap()] = value;
+            setting.1 = value as u32;
+        } else if let Some(coefficient) = field.strip_prefix("left") {
+            record.integers[BLOCK + coefficient.parse::<usize>().unwrap()] = value as i32;
+        } else if let Some(at) = place(&NUMBER_FIELDS, field) {
+            record.numbers[at] = value as usize;
+        } else if let Some(at) = place(&INTEGER_FIELDS, field) {
+            record.integers[at] = value as i32;
         } else {
-            record.numbers[FIELDS.iter().position(|f| *f == field).expect("a field")] = value;
+            fractions[place(&FRACTION_FIELDS, field).expect("a field")] = value as u32;
         }
     }
-    let settings = settings.iter().map(|s| s.1);
-    let numbers = settings.chain(record.numbers).flat_map(u32::to_be_bytes).chain(record.matrices).collect::<Vec<u8>>();
-    for text in [line.as_bytes(), &numbers] {
+    let numbers = settings.iter().map(|s| s.1).chain(record.numbers.into_iter().map(|n| n as u32)).chain(record.integers.into_iter().map(|n| n as u32));
+    let text: Vec<u8> = numbers.flat_map(u32::to_be_bytes).chain(record.matrices).chain(fractions.into_iter().flat_map(u32::to_be_bytes)).collect();
+    for text in [line.as_bytes(), &text] {
         out.extend((text.len() as u32).to_be_bytes());
         out.extend(text);
     }
@@ -61,12 +82,9 @@ fn add(out: &mut Vec<u8>, line: &str, base: &Record) {
 // The case of a name and a text.
 pub fn case(name: String, text: &[u8]) -> Case {
     let settings = std::array::from_fn(|i| number(text, 4 * i) as usize);
-    let mut numbers: [u32; NUMBERS] = std::array::from_fn(|i| number(text, 24 + 4 * i));
-    for i in FLOATS.step_by(2) {
-        let quotient = numbers[i] as f64 / numbers[i + 1] as f64;
-        let bits = if quotient.is_nan() { 0x7ff8_0000_0000_0000 } else { quotient.to_bits() };
-        (numbers[i], numbers[i + 1]) = ((bits >> 32) as u32, bits as u32);
-    }
-    let matrices = text[24 + 4 * NUMBERS..].try_into().unwrap();
-    Case { name, settings, record: Record { numbers, matrices } }
+    let numbers = std::array::from_fn(|i| number(text, 24 + 4 * i) as usize);
+    let integers = std::array::from_fn(|i| number(text, INTEGERS_AT + 4 * i) as i32);
+    let matrices = text[MATRICES_AT..CLOCK_AT].try_into().unwrap();
+    let clock = std::array::from_fn(|i| number(text, CLOCK_AT + 8 * i) as f64 / number(text, CLOCK_AT + 8 * i + 4) as f64);
+    Case { name, settings, record: Record { numbers, integers, matrices, clock } }
 }

@@ -1,14 +1,10 @@
 -- A checksum while it is made.
 use mathlib.Core.Path.{_≡_, refl, sym, ap, _∙_}
-use mathlib.Core.List.{List, _∷_}
-use Prim.Native.Nat.{ℕ, suc, _+_, _≤_, _<_}
+use mathlib.Core.List.{List}
+use Prim.Native.Nat.{ℕ, _+_, _≤_, _<_}
 use native.Mathlib.Numerals.{add-one}
 use native.Mathlib.Omega.{arith}
-use lib.IntN.{ℤ}
 use lib.ListN.{length, getD, drop}
-use mir.Syntax.{w32}
-use mir.Val.{SFits, ofZ, toZ}
-use mir.Facts.{toZ-ofZ}
 use lib.Seq.{drop-cons, drop-length}
 use Rattle.calls.specs.Sums.{mixed, summed}
 
@@ -40,12 +36,3 @@ module _ {before : ℕ} {ns : List ℕ} where
   summing-all {sum} {i} s h =
       let e : i ≡ length ns = omega (arith, s .most) in
       (sym (ap (summed sum) (ap (λ (k : ℕ). drop k ns) e ∙ drop-length ns)) ∙ s .rest, s .small)
-
--- lists that are equal number by number
-infixr 5 _then_
-pub _then_ : {x y : ℕ} {xs ys : List ℕ} → x ≡ y → xs ≡ ys → (x ∷ xs) ≡ (y ∷ ys)
-_then_ {x} {y} {xs} {ys} p q = ap (λ (k : ℕ). k ∷ xs) p ∙ ap (λ (l : List ℕ). y ∷ l) q
-
--- a signed number that was read from its bits
-pub held-is : {n : ℕ} (z : ℤ) → n ≡ ofZ w32 (toZ w32 (ofZ w32 z)) → SFits w32 z → n ≡ ofZ w32 z
-held-is z e h = e ∙ ap (ofZ w32) (toZ-ofZ {w = w32} {z = z} h)

@@ -1,4 +1,3 @@
 pub mod Cases
-pub mod RecordSums
-pub mod Records
+pub mod Floats
 pub mod Sums

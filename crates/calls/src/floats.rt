@@ -1,12 +1,11 @@
 // Floats of a record: fractions in a file, bits in a line.
 
 ghost use mathlib.Core.Path.{_≡_};
-ghost use Rattle.calls.specs.RecordSums as R;
-ghost use Rattle.calls.specs.Records.{fraction};
+ghost use Rattle.calls.specs.Floats as F;
 
 // The bits of a float; there is one NaN.
 pub fn bits(x: f64) -> u64
-    ensures { λ r. ⌜ r ≡ R.bits x ⌝ }
+    ensures { λ r. ⌜ r ≡ F.bits x ⌝ }
 {
     if x == x {
         return f64::to_bits(x);
@@ -15,7 +14,7 @@ pub fn bits(x: f64) -> u64
 }
 
 pub fn fraction(numerator: u32, denominator: u32) -> f64
-    ensures { λ r. ⌜ r ≡ fraction numerator denominator ⌝ }
+    ensures { λ r. ⌜ r ≡ F.fraction numerator denominator ⌝ }
 {
     numerator as f64 / denominator as f64
 }

@@ -3,7 +3,6 @@
 // A file is a text, the stream that its records are used on, the number of its cases, and for each two texts: its name, and a stream or a record.
 mod cases;
 mod floats;
-mod record_sums;
 mod records;
 mod room;
 mod show;

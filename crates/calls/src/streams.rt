@@ -1,21 +1,22 @@
 // Opening of a stream, and hand-outs.
 use crate::room;
 use crate::show::decode;
-use crate::show::number_of;
 use crate::show::open;
 use lists::noise::fill;
 
-// Opening and hand-outs, until a number other than 5 comes twice.
-fn run(stream: &[u8], store: &mut [u8]) {
-    let opened = open(stream, store);
-    let mut decoder = opened.decoder;
+// Hand-outs, until a number other than 5 comes twice.
+fn run(
+    stream: &[u8],
+    store: &mut [u8],
+    numbers: &mut [usize],
+    integers: &mut [i32],
+    matrices: &mut [u8],
+    clock: &mut [f64],
+) {
     let mut last: u32 = 0;
     let mut left: u32 = 64;
     while 0 < left {
-        let handed = decode(decoder, stream, store);
-        decoder = handed.decoder;
-        let outcome = handed.outcome;
-        let number = number_of(outcome);
+        let number = decode(stream, store, numbers, integers, matrices, clock);
         if (number != 0) & (number != 5) & (number == last) {
             return;
         }
@@ -27,5 +28,24 @@ fn run(stream: &[u8], store: &mut [u8]) {
 pub fn run_stream(stream: &[u8]) {
     let mut store = room::store();
     fill(&mut store, 7);
-    run(stream, &mut store);
+    let mut numbers = [0usize; 21];
+    let mut integers = [0i32; 73];
+    let mut matrices = [0u8; 128];
+    let mut clock = [0.0f64; 4];
+    open(
+        stream,
+        &mut store,
+        &mut numbers,
+        &mut integers,
+        &mut matrices,
+        &mut clock,
+    );
+    run(
+        stream,
+        &mut store,
+        &mut numbers,
+        &mut integers,
+        &mut matrices,
+        &mut clock,
+    );
 }

@@ -1,4 +1,6 @@
 // Checksums.
+use crate::floats::bits;
+use lists::numbers::held;
 ghost use mathlib.Core.Path.{_≡_};
 ghost use Prim.Native.Nat.{_<_};
 ghost use Rattle.calls.specs.Sums.{mixed, summed};
@@ -35,4 +37,61 @@ pub fn sum_bytes(before: u64, bytes: &[u8]) -> u64
         i += 1;
     }
     sum
+}
+
+// A number of 64 bits: its high half, then its low one.
+pub fn sum_word(before: u64, n: u64) -> u64
+    requires { ⌜ before < 4294967311 ⌝ }
+    ensures { λ r. ⌜ r < 4294967311 ⌝ }
+{
+    let high = mixed(before, (n / 4294967296) as u32);
+    mixed(high, (n % 4294967296) as u32)
+}
+
+// The parts of a record.
+fn sum_sizes(before: u64, numbers: &[usize]) -> u64
+    requires { ⌜ before < 4294967311 ⌝ }
+    ensures { λ r. ⌜ r < 4294967311 ⌝ }
+{
+    let mut sum = before;
+    let mut i: usize = 0;
+    while i < numbers.len() {
+        sum = sum_word(sum, numbers[i] as u64);
+        i += 1;
+    }
+    sum
+}
+
+fn sum_integers(before: u64, integers: &[i32]) -> u64
+    requires { ⌜ before < 4294967311 ⌝ }
+    ensures { λ r. ⌜ r < 4294967311 ⌝ }
+{
+    let mut sum = before;
+    let mut i: usize = 0;
+    while i < integers.len() {
+        let z = integers[i];
+        sum = mixed(sum, held(z));
+        i += 1;
+    }
+    sum
+}
+
+fn sum_floats(before: u64, clock: &[f64]) -> u64
+    requires { ⌜ before < 4294967311 ⌝ }
+    ensures { λ r. ⌜ r < 4294967311 ⌝ }
+{
+    let mut sum = before;
+    let mut i: usize = 0;
+    while i < clock.len() {
+        let x = clock[i];
+        sum = sum_word(sum, bits(x));
+        i += 1;
+    }
+    sum
+}
+
+// A record, as it lies in memory.
+pub fn sum_record(numbers: &[usize], integers: &[i32], matrices: &[u8], clock: &[f64]) -> u64 {
+    let heads = sum_integers(sum_sizes(1, numbers), integers);
+    sum_floats(sum_bytes(heads, matrices), clock)
 }

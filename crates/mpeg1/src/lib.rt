@@ -1,3 +1,3 @@
 // The calls of `decoder` for C and Rust hosts. The record crosses in memory that the host owns (crate `memory`).
-mod calls;
-mod views;
+pub mod calls;
+pub mod views;

@@ -5,14 +5,15 @@ use borrow.Author.Needs.{needs}
 use Rattle.calls.proofs.cases.convert.Statement.{statement}
 use Rattle.calls.proofs.cases.convert.Tie as tie
 
-slice-aggregate-show-conversion : tie.Need-slice-aggregate-show-conversion
-slice-aggregate-show-conversion c =
+slice-aggregate-lent : tie.Need-slice-aggregate-lent
+slice-aggregate-lent c =
     let t = c .before .before .before .before in
-    sym (length-take-le (t .before .before .before .before .args .length) (t .before .area .result) (omega (arith, t .before .area .ensures, t .if1 .taken)))
+    sym (length-take-le (t .before .before .before .before .before .before .args .length) (t .before .area .result)
+    (omega (arith, t .before .area .ensures, t .if1 .taken)))
 
 pub convert-spec : {M : Type 1} → statement M
 convert-spec =
     tie.close
     (tie.spec (λ c κs. search needs) (λ c κs. search needs) (λ c. search needs) (λ c κs. search needs) (λ c. search needs)
-    (λ c κs. search needs) (λ c. search needs) (λ c. search needs) slice-aggregate-show-conversion (λ c κs. search needs)
-    (λ c. search needs) (λ c. search needs))
+    (λ c κs. search needs) (λ c. search needs) (λ c. search needs) slice-aggregate-lent (λ c κs. search needs) (λ c. search needs)
+    (λ c. search needs))

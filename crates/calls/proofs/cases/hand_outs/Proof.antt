@@ -4,16 +4,31 @@ use lib.ListN.{length}
 use Rattle.calls.proofs.cases.hand_outs.Statement.{statement}
 use Rattle.calls.proofs.cases.hand_outs.Tie as tie
 
+-- every part keeps its length
 abbrev Inv-loop : tie.InvT-loop
-Inv-loop stream store₀ calls decoder₀ left₀ store decoder left = length store ≡ length store₀
+Inv-loop stream store₀ numbers₀ integers₀ matrices₀ clock₀ calls left₀ store numbers integers matrices clock left =
+    (length store ≡ length store₀)
+    × (length numbers ≡ length numbers₀)
+    × (length integers ≡ length integers₀)
+    × (length matrices ≡ length matrices₀)
+    × (length clock ≡ length clock₀)
 
 abbrev μ-loop : tie.MeasureT-loop
-μ-loop stream store₀ calls decoder₀ left₀ store decoder left = left
+μ-loop stream store₀ numbers₀ integers₀ matrices₀ clock₀ calls left₀ store numbers integers matrices clock left = left
 
 loop-again : tie.Need-loop-again Inv-loop μ-loop
-loop-again c = let d = c .before .before .before in d .decode .kept .1 .1 .0 ∙ d .before .before .before .loop .inv
+loop-again c =
+    let d = c .before .before .before .before .before .before .before .before .before in
+    let l = d .before .before .before .before .before .before .before in (
+      d .decode .kept .1 .0 ∙ l .loop .inv .0,
+      d .decode .kept .1 .1 .0 ∙ l .loop .inv .1,
+      d .decode .kept .1 .1 .1 .0 ∙ l .loop .inv .2,
+      d .decode .kept .1 .1 .1 .1 .0 ∙ l .loop .inv .3,
+      d .decode .kept .1 .1 .1 .1 .1 .0 ∙ l .loop .inv .4,
+    )
 
 pub hand-outs-spec : {M : Type 1} → statement M
 hand-outs-spec =
-    tie.close
-    (tie.spec Inv-loop μ-loop (λ c. refl) (λ c κs. tt) (λ c. omega arith) (λ c. omega arith) loop-again (λ c. c .before .loop .inv) (λ c. tt))
+    tie.close (tie.spec Inv-loop μ-loop (λ c. (refl, refl, refl, refl, refl)) (λ c κs. tt) (λ c. omega arith) (λ c. omega arith) loop-again
+    (λ c. c .before .loop .inv .0) (λ c. c .before .loop .inv .1) (λ c. c .before .loop .inv .2) (λ c. c .before .loop .inv .3)
+    (λ c. c .before .loop .inv .4) (λ c. tt))

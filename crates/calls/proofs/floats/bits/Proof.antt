@@ -2,7 +2,7 @@ use mathlib.Core.Path.{_≡_, refl}
 use mathlib.Core.Bool.{true, not, false≢true}
 use lib.Dec.{T}
 use lib.Ieee.{Float, nan, inf, fin, eq, isNan}
-use Rattle.calls.specs.RecordSums.{bits}
+use Rattle.calls.specs.Floats.{bits}
 use Rattle.calls.proofs.floats.bits.Statement.{statement}
 use Rattle.calls.proofs.floats.bits.Tie as tie
 

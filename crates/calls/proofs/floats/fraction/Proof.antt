@@ -1,6 +1,6 @@
 use mathlib.Core.Path.{refl}
 use borrow.Author.Needs.{needs}
-use Rattle.calls.specs.Records.{fraction}
+use Rattle.calls.specs.Floats.{fraction}
 use Rattle.calls.proofs.floats.fraction.Statement.{statement}
 use Rattle.calls.proofs.floats.fraction.Tie as tie
 

@@ -1,30 +1,45 @@
 use mathlib.Core.Path.{_≡_, refl, _∙_}
 use native.Mathlib.Omega.{arith}
+use denote.Ref.{now}
 use lib.ListN.{length}
 use Rattle.calls.proofs.streams.run.Statement.{statement}
 use Rattle.calls.proofs.streams.run.Tie as tie
 
+-- every part keeps its length
 abbrev Inv-loop : tie.InvT-loop
-Inv-loop stream store₀ decoder₀ last₀ left₀ store decoder last left = length store ≡ length store₀
+Inv-loop stream store₀ numbers₀ integers₀ matrices₀ clock₀ last₀ left₀ store numbers integers matrices clock last left =
+    (length store ≡ length store₀)
+    × (length numbers ≡ length numbers₀)
+    × (length integers ≡ length integers₀)
+    × (length matrices ≡ length matrices₀)
+    × (length clock ≡ length clock₀)
 
 abbrev μ-loop : tie.MeasureT-loop
-μ-loop stream store₀ decoder₀ last₀ left₀ store decoder last left = left
+μ-loop stream store₀ numbers₀ integers₀ matrices₀ clock₀ last₀ left₀ store numbers integers matrices clock last left = left
 
-abbrev opened : tie.At-loop Inv-loop μ-loop → tie.«After-open» Inv-loop μ-loop
-opened l = l .before .before .before .before
+kept : (d : tie.After-decode Inv-loop μ-loop) → let l = d .before .before .before .before .before .before .before in let s = l .before .before .before .before .before .before in
+    (length (d .decode .last .1 .0) ≡ length (now (s .args .store)))
+    × (length (d .decode .last .1 .1 .0) ≡ length (now (s .args .numbers)))
+    × (length (d .decode .last .1 .1 .1 .0) ≡ length (now (s .args .integers)))
+    × (length (d .decode .last .1 .1 .1 .1 .0) ≡ length (now (s .args .matrices)))
+    × (length (d .decode .last .1 .1 .1 .1 .1 .0) ≡ length (now (s .args .clock)))
+kept d =
+    let l = d .before .before .before .before .before .before .before in (
+      d .decode .kept .1 .0 ∙ l .loop .inv .0,
+      d .decode .kept .1 .1 .0 ∙ l .loop .inv .1,
+      d .decode .kept .1 .1 .1 .0 ∙ l .loop .inv .2,
+      d .decode .kept .1 .1 .1 .1 .0 ∙ l .loop .inv .3,
+      d .decode .kept .1 .1 .1 .1 .1 .0 ∙ l .loop .inv .4,
+    )
 
-abbrev decoded : tie.After-number-of Inv-loop μ-loop → tie.After-decode Inv-loop μ-loop
-decoded n = n .before .before .before .before
-
--- a hand-out keeps the store's length, and opening does
-kept : (d : tie.After-decode Inv-loop μ-loop) → length (d .decode .last .1 .1 .0) ≡ length (opened (d .before .before .before) .«open» .last .1 .0)
-kept d = d .decode .kept .1 .1 .0 ∙ d .before .before .before .loop .inv
-
-same-length : tie.Need-same-length Inv-loop μ-loop
-same-length c = let d = decoded (c .before) in kept d ∙ opened (d .before .before .before) .«open» .kept .1 .0
+-- the hand-out, seen from the question behind it
+abbrev decoded : tie.After-slice-known8 Inv-loop μ-loop → tie.After-decode Inv-loop μ-loop
+decoded c = c .before .before .before .before .before .before .before .before .before
 
 pub run-spec : {M : Type 1} → statement M
 run-spec =
-    tie.close
-    (tie.spec Inv-loop μ-loop (λ c κs. tt) (λ c. refl) (λ c κs. tt) (λ c κs. tt) same-length (λ c. tt) (λ c. omega arith) (λ c. omega arith)
-    (λ c. kept (decoded (c .before))) (λ c. c .before .loop .inv ∙ opened (c .before) .«open» .kept .1 .0) (λ c. tt))
+    tie.close (tie.spec Inv-loop μ-loop (λ c. (refl, refl, refl, refl, refl)) (λ c κs. tt) (λ c. kept (decoded (c .before)) .0)
+    (λ c. kept (decoded (c .before)) .1) (λ c. kept (decoded (c .before)) .2) (λ c. kept (decoded (c .before)) .3)
+    (λ c. kept (decoded (c .before)) .4) (λ c. tt) (λ c. omega arith) (λ c. omega arith) (λ c. kept (decoded (c .before)))
+    (λ c. c .before .loop .inv .0) (λ c. c .before .loop .inv .1) (λ c. c .before .loop .inv .2) (λ c. c .before .loop .inv .3)
+    (λ c. c .before .loop .inv .4) (λ c. tt))
