@@ -1,3 +1,4 @@
 pub mod Cases
 pub mod Floats
+pub mod Records
 pub mod Sums

@@ -48,7 +48,7 @@ fn convert(
 
 // A conversion, then hand-outs.
 fn run(stream: &[u8], case: &[u8], store: &mut [u8]) {
-    let record = part(case, 24, 536);
+    let record = part(case, 24, case.len());
     let mut numbers = numbers_in(record);
     let mut integers = integers_in(record);
     let mut matrices = matrices_in(record);

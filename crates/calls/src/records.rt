@@ -1,4 +1,4 @@
-// Records made by hand, in the order of the memory that a call is lent: 21 numbers, 73 integers, 128 bytes, and four floats, each a fraction of two numbers.
+// Records made by hand, in the order of the memory that a call is lent.
 use crate::floats::fraction;
 use lists::bytes::byte_at;
 use lists::numbers::number_at;
@@ -7,8 +7,15 @@ use memory::format::CLOCK;
 use memory::format::INTEGERS;
 use memory::format::MATRICES;
 use memory::format::NUMBERS;
+ghost use mathlib.Core.Path.{_≡_};
+ghost use Rattle.calls.specs.Records.{numbersIn, integersIn, matricesIn, clockIn};
 
-pub fn numbers_in(list: &[u8]) -> [usize; 21] {
+// Behind the numbers and the integers.
+const MATRICES_AT: usize = 4 * (NUMBERS + INTEGERS);
+
+pub fn numbers_in(list: &[u8]) -> [usize; 21]
+    ensures { λ r. ⌜ r ≡ numbersIn (now (list .entry)) ⌝ }
+{
     let mut numbers = [0usize; 21];
     let mut i: usize = 0;
     while i < NUMBERS {
@@ -18,31 +25,38 @@ pub fn numbers_in(list: &[u8]) -> [usize; 21] {
     numbers
 }
 
-pub fn integers_in(list: &[u8]) -> [i32; 73] {
+pub fn integers_in(list: &[u8]) -> [i32; 73]
+    ensures { λ r. ⌜ r ≡ integersIn (now (list .entry)) ⌝ }
+{
     let mut integers = [0i32; 73];
     let mut i: usize = 0;
     while i < INTEGERS {
-        integers[i] = signed(number_at(list, 84 + 4 * i));
+        integers[i] = signed(number_at(list, 4 * (NUMBERS + i)));
         i += 1;
     }
     integers
 }
 
-pub fn matrices_in(list: &[u8]) -> [u8; 128] {
+pub fn matrices_in(list: &[u8]) -> [u8; 128]
+    ensures { λ r. ⌜ r ≡ matricesIn (now (list .entry)) ⌝ }
+{
     let mut matrices = [0u8; 128];
     let mut i: usize = 0;
     while i < MATRICES {
-        matrices[i] = byte_at(list, 376 + i) as u8;
+        matrices[i] = byte_at(list, MATRICES_AT + i) as u8;
         i += 1;
     }
     matrices
 }
 
-pub fn clock_in(list: &[u8]) -> [f64; 4] {
+pub fn clock_in(list: &[u8]) -> [f64; 4]
+    ensures { λ r. ⌜ r ≡ clockIn (now (list .entry)) ⌝ }
+{
     let mut clock = [0.0f64; 4];
     let mut i: usize = 0;
     while i < CLOCK {
-        clock[i] = fraction(number_at(list, 504 + 8 * i), number_at(list, 508 + 8 * i));
+        let at = MATRICES_AT + MATRICES + 8 * i;
+        clock[i] = fraction(number_at(list, at), number_at(list, at + 4));
         i += 1;
     }
     clock

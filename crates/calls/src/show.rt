@@ -10,6 +10,11 @@ use mpeg1::calls::mpeg1_open;
 use mpeg1::calls::mpeg1_write_rgb_scaled;
 use mpeg1::views::mpeg1_plane_bytes;
 use mpeg1::views::mpeg1_plane_start;
+ghost use mathlib.Core.Path.{_≡_};
+ghost use mathlib.Core.List.{[], _∷_};
+ghost use lib.Ieee.{binary64, ofBits};
+ghost use Rattle.memory.specs.Memory.{memory};
+ghost use Rattle.mpeg1.specs.Calls.{kept, opensIn, decodesIn};
 
 fn show_sum(sum: u64) {
     io::write_all(STDOUT_FILENO, b" ");
@@ -48,10 +53,15 @@ pub fn open(
     integers: &mut [i32],
     matrices: &mut [u8],
     clock: &mut [f64],
-) {
+) -> u32
+    ensures { λ r. ⌜ kept r (now (store .exit)) (memory (now (numbers .exit)) (now (integers .exit)) (now (matrices .exit)) (now (clock .exit)))
+        ≡ opensIn (now (stream .entry)) (now (store .entry))
+        (memory (now (numbers .entry)) (now (integers .entry)) (now (matrices .entry)) (now (clock .entry))) ⌝ }
+{
     let answer = mpeg1_open(stream, store, numbers, integers, matrices, clock);
     show_state(answer, store, numbers, integers, matrices, clock);
     end_line();
+    answer
 }
 
 fn show_plane(store: &[u8], numbers: &[usize], k: usize, plane: usize) {
@@ -105,7 +115,11 @@ pub fn decode(
     integers: &mut [i32],
     matrices: &mut [u8],
     clock: &mut [f64],
-) -> u32 {
+) -> u32
+    ensures { λ r. ⌜ kept r (now (store .exit)) (memory (now (numbers .exit)) (now (integers .exit)) (now (matrices .exit)) (now (clock .exit)))
+        ≡ decodesIn (now (stream .entry)) (now (store .entry))
+        (memory (now (numbers .entry)) (now (integers .entry)) (now (matrices .entry)) (now (clock .entry))) (0 ∷ []) (ofBits binary64 0) .kept ⌝ }
+{
     let mut picture = [0usize; 1];
     let mut time: f64 = 0.0;
     let answer = mpeg1_decode(
@@ -124,5 +138,5 @@ pub fn decode(
         return answer;
     }
     show_picture(store, numbers, integers, matrices, picture[0], time);
-    0
+    answer
 }

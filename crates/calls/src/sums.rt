@@ -3,7 +3,7 @@ use crate::floats::bits;
 use lists::numbers::held;
 ghost use mathlib.Core.Path.{_≡_};
 ghost use Prim.Native.Nat.{_<_};
-ghost use Rattle.calls.specs.Sums.{mixed, summed};
+ghost use Rattle.calls.specs.Sums.{mixed, summed, words, halves, signedWord, floatWords, recordSum};
 
 pub fn mixed(sum: u64, n: u32) -> u64
     requires { ⌜ sum < 4294967311 ⌝ }
@@ -40,9 +40,9 @@ pub fn sum_bytes(before: u64, bytes: &[u8]) -> u64
 }
 
 // A number of 64 bits: its high half, then its low one.
-pub fn sum_word(before: u64, n: u64) -> u64
+fn sum_word(before: u64, n: u64) -> u64
     requires { ⌜ before < 4294967311 ⌝ }
-    ensures { λ r. ⌜ r < 4294967311 ⌝ }
+    ensures { λ r. ⌜ (r ≡ summed before (halves n)) × (r < 4294967311) ⌝ }
 {
     let high = mixed(before, (n / 4294967296) as u32);
     mixed(high, (n % 4294967296) as u32)
@@ -51,7 +51,7 @@ pub fn sum_word(before: u64, n: u64) -> u64
 // The parts of a record.
 fn sum_sizes(before: u64, numbers: &[usize]) -> u64
     requires { ⌜ before < 4294967311 ⌝ }
-    ensures { λ r. ⌜ r < 4294967311 ⌝ }
+    ensures { λ r. ⌜ (r ≡ summed before (words halves (now (numbers .entry)))) × (r < 4294967311) ⌝ }
 {
     let mut sum = before;
     let mut i: usize = 0;
@@ -64,7 +64,7 @@ fn sum_sizes(before: u64, numbers: &[usize]) -> u64
 
 fn sum_integers(before: u64, integers: &[i32]) -> u64
     requires { ⌜ before < 4294967311 ⌝ }
-    ensures { λ r. ⌜ r < 4294967311 ⌝ }
+    ensures { λ r. ⌜ (r ≡ summed before (words signedWord (now (integers .entry)))) × (r < 4294967311) ⌝ }
 {
     let mut sum = before;
     let mut i: usize = 0;
@@ -78,7 +78,7 @@ fn sum_integers(before: u64, integers: &[i32]) -> u64
 
 fn sum_floats(before: u64, clock: &[f64]) -> u64
     requires { ⌜ before < 4294967311 ⌝ }
-    ensures { λ r. ⌜ r < 4294967311 ⌝ }
+    ensures { λ r. ⌜ (r ≡ summed before (words floatWords (now (clock .entry)))) × (r < 4294967311) ⌝ }
 {
     let mut sum = before;
     let mut i: usize = 0;
@@ -91,7 +91,9 @@ fn sum_floats(before: u64, clock: &[f64]) -> u64
 }
 
 // A record, as it lies in memory.
-pub fn sum_record(numbers: &[usize], integers: &[i32], matrices: &[u8], clock: &[f64]) -> u64 {
+pub fn sum_record(numbers: &[usize], integers: &[i32], matrices: &[u8], clock: &[f64]) -> u64
+    ensures { λ r. ⌜ r ≡ recordSum (now (numbers .entry)) (now (integers .entry)) (now (matrices .entry)) (now (clock .entry)) ⌝ }
+{
     let heads = sum_integers(sum_sizes(1, numbers), integers);
     sum_floats(sum_bytes(heads, matrices), clock)
 }

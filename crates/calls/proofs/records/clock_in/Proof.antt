@@ -1,17 +1,24 @@
-use mathlib.Core.Path.{_≡_}
+use mathlib.Core.Path.{ap₂, _∙_}
 use Prim.Native.Nat.{_-_}
 use native.Mathlib.Omega.{arith}
-use borrow.Author.Needs.{needs}
-use lib.ListN.{length}
+use lib.Ieee.{binary64, ofBits}
+use lib.ListN.{replicate}
+use Rattle.laws.proofs.Lists.{Stored, none-stored, stored-first, all-stored}
+use Rattle.calls.specs.Floats.{fraction}
+use Rattle.calls.specs.Records.{clockIn, floatAt}
 use Rattle.calls.proofs.records.clock_in.Statement.{statement}
 use Rattle.calls.proofs.records.clock_in.Tie as tie
 
 abbrev Inv-loop : tie.InvT-loop
-Inv-loop list clock₀ i₀ clock i = length clock ≡ 4
+Inv-loop list clock₀ i₀ clock i = Stored (replicate 4 (ofBits binary64 0)) 0 (floatAt list) 4 clock i
 
 abbrev μ-loop : tie.MeasureT-loop
 μ-loop list clock₀ i₀ clock i = 4 - i
 
+loop-again : tie.Need-loop-again Inv-loop μ-loop
+loop-again c = let l = c .before .before .before .before in stored-first (l .loop .inv) (c .before .before .before .loop-test .taken) (c .fraction .ensures ∙ ap₂ fraction (c .before .before .number-at .ensures) (c .before .number-at2 .ensures))
+
 pub clock-in-spec : {M : Type 1} → statement M
+unfolding clockIn
 clock-in-spec =
-    tie.close (tie.spec Inv-loop μ-loop (λ c. search needs) (λ c. omega arith) (λ c. omega arith) (λ c κs. tt) (λ c. omega arith) (λ c. omega arith) (λ c κs. tt) (λ c κs. tt) (λ c. omega arith) (λ c. search needs) (λ c. omega arith) (λ c. omega arith) (λ c. search needs) (λ c. search needs))
+    tie.close (tie.spec Inv-loop μ-loop (λ c. none-stored) (λ c. omega arith) (λ c. omega arith) (λ c. omega arith) (λ c κs. tt) (λ c. omega arith) (λ c κs. tt) (λ c κs. tt) (λ c. omega arith) (λ c. omega (arith, c .before .before .before .before .loop .inv .long)) (λ c. omega arith) (λ c. omega arith) loop-again (λ c. all-stored (c .before .loop .inv) (c .loop-test .left)))

@@ -1,17 +1,27 @@
-use mathlib.Core.Path.{_≡_}
-use Prim.Native.Nat.{_-_}
+use mathlib.Core.Path.{ap, _∙_}
+use Prim.Native.Nat.{_+_, _*_, _-_}
 use native.Mathlib.Omega.{arith}
-use borrow.Author.Needs.{needs}
-use lib.ListN.{length}
+use lib.IntN.{pos}
+use lib.ListN.{replicate}
+use mir.Syntax.{w32}
+use mir.Val.{toZ}
+use Rattle.laws.proofs.Lists.{Stored, none-stored, stored-first, all-stored}
+use Rattle.lists.specs.Numbers.{numberAt}
+use Rattle.lists.proofs.Signs.{given}
+use Rattle.calls.specs.Records.{integersIn}
 use Rattle.calls.proofs.records.integers_in.Statement.{statement}
 use Rattle.calls.proofs.records.integers_in.Tie as tie
 
 abbrev Inv-loop : tie.InvT-loop
-Inv-loop list integers₀ i₀ integers i = length integers ≡ 73
+Inv-loop list integers₀ i₀ integers i = Stored (replicate 73 (pos 0)) 0 (λ k. toZ w32 (numberAt list (4 * (21 + k)))) 73 integers i
 
 abbrev μ-loop : tie.MeasureT-loop
 μ-loop list integers₀ i₀ integers i = 73 - i
 
+loop-again : tie.Need-loop-again Inv-loop μ-loop
+loop-again c = let l = c .before .before .before in stored-first (l .loop .inv) (c .before .before .loop-test .taken) (given (c .signed .ok) (c .signed .ensures) ∙ ap (toZ w32) (c .before .number-at .ensures))
+
 pub integers-in-spec : {M : Type 1} → statement M
+unfolding integersIn
 integers-in-spec =
-    tie.close (tie.spec Inv-loop μ-loop (λ c. search needs) (λ c. omega arith) (λ c. omega arith) (λ c κs. tt) (λ c κs. tt) (λ c. omega arith) (λ c. search needs) (λ c. omega arith) (λ c. omega arith) (λ c. search needs) (λ c. search needs))
+    tie.close (tie.spec Inv-loop μ-loop (λ c. none-stored) (λ c. omega arith) (λ c. omega arith) (λ c κs. tt) (λ c κs. tt) (λ c. omega arith) (λ c. omega (arith, c .before .before .before .loop .inv .long)) (λ c. omega arith) (λ c. omega arith) loop-again (λ c. all-stored (c .before .loop .inv) (c .loop-test .left)))

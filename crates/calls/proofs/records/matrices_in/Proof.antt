@@ -1,17 +1,21 @@
-use mathlib.Core.Path.{_≡_}
-use Prim.Native.Nat.{_-_}
+use Prim.Native.Nat.{_+_, _-_}
 use native.Mathlib.Omega.{arith}
-use borrow.Author.Needs.{needs}
-use lib.ListN.{length}
+use lib.ListN.{getD, replicate}
+use Rattle.laws.proofs.Lists.{Stored, none-stored, stored-first, all-stored}
+use Rattle.calls.specs.Records.{matricesIn}
 use Rattle.calls.proofs.records.matrices_in.Statement.{statement}
 use Rattle.calls.proofs.records.matrices_in.Tie as tie
 
 abbrev Inv-loop : tie.InvT-loop
-Inv-loop list matrices₀ i₀ matrices i = length matrices ≡ 128
+Inv-loop list matrices₀ i₀ matrices i = Stored (replicate 128 0) 0 (λ k. getD list (376 + k) 0) 128 matrices i
 
 abbrev μ-loop : tie.MeasureT-loop
 μ-loop list matrices₀ i₀ matrices i = 128 - i
 
+loop-again : tie.Need-loop-again Inv-loop μ-loop
+loop-again c = let l = c .before .before in stored-first (l .loop .inv) (c .before .loop-test .taken) (c .byte-at .ensures .0)
+
 pub matrices-in-spec : {M : Type 1} → statement M
+unfolding matricesIn
 matrices-in-spec =
-    tie.close (tie.spec Inv-loop μ-loop (λ c. search needs) (λ c. omega arith) (λ c κs. tt) (λ c. search needs) (λ c. search needs) (λ c. omega arith) (λ c. omega arith) (λ c. search needs) (λ c. search needs))
+    tie.close (tie.spec Inv-loop μ-loop (λ c. none-stored) (λ c. omega arith) (λ c κs. tt) (λ c. omega (arith, c .byte-at .ensures)) (λ c. omega (arith, c .before .before .loop .inv .long)) (λ c. omega arith) (λ c. omega arith) loop-again (λ c. all-stored (c .before .loop .inv) (c .loop-test .left)))
