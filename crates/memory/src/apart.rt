@@ -1,4 +1,5 @@
 // The record taken apart into the values of its fields.
+use crate::format::NUMBERS;
 use decoder::record::Decoder;
 ghost use mathlib.Core.Path.{_≡_};
 ghost use lib.ListN.{take};
@@ -11,7 +12,7 @@ fn flag(x: bool) -> usize
 }
 
 // The numbers, in the order of `fields`.
-pub fn numbers_of(d: Decoder) -> [usize; 21]
+pub fn numbers_of(d: Decoder) -> [usize; NUMBERS]
     ensures { λ r. ⌜ (r ≡ numbersOf d) × TypedNumbers (fields .numbers) d ⌝ }
 {
     let q = d.sequence;

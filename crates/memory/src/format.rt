@@ -13,7 +13,7 @@ const SHORT: usize = 4294967295;
 
 const SIZE: usize = 18446744073709551615;
 
-pub const BOUNDS: [usize; 21] = [
+pub const BOUNDS: [usize; NUMBERS] = [
     SIZE,
     FLAG,
     SIZE,

@@ -4,16 +4,16 @@ use native.Mathlib.Decide.{decLt}
 use native.Mathlib.Omega.{arith}
 use denote.Ref.{now}
 use lib.ListN.{getD}
-use Rattle.memory.specs.Fields.{fields}
+use Rattle.memory.specs.Fields.{fields, numberCount}
 use Rattle.memory.proofs.Fields.{bounds, within-all, within-not}
 use Rattle.memory.proofs.reading.in_range.Statement.{statement}
 use Rattle.memory.proofs.reading.in_range.Tie as tie
 
 abbrev Inv-loop : tie.InvT-loop
-Inv-loop numbers table k₀ k = (k ≤ 21) × ((j : ℕ) → j < k → getD numbers j 0 ≤ getD (bounds (fields .numbers)) j 0)
+Inv-loop numbers table k₀ k = (k ≤ numberCount) × ((j : ℕ) → j < k → getD numbers j 0 ≤ getD (bounds (fields .numbers)) j 0)
 
 abbrev μ-loop : tie.MeasureT-loop
-μ-loop numbers table k₀ k = 21 - k
+μ-loop numbers table k₀ k = numberCount - k
 
 returns : tie.Need-returns Inv-loop μ-loop
 returns c =
