@@ -8,7 +8,7 @@ LEFT_OUT = ["ipb2_176x144.m1v"]
 # of these streams, whose pictures have up to 2,700 bytes, the first three pictures
 FIRST_THREE = ["m2e_nob_96x80.m1v", "mat_both_64x48.m1v", "q10_64x48.m1v", "slices3_64x48.m1v"]
 
-CRATES = "laws bits codes motion coefficients transform prediction picture standard".split()
+CRATES = "laws bits look codes motion coefficients transform prediction picture standard".split()
 RULES = ["rust", "printed"]
 # directions of which a picture's header says nothing are not used
 HEAD = """use mathlib.Core.Path.{_≡_, refl}

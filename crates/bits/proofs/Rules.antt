@@ -166,6 +166,11 @@ r-most {p = p} {s} {from} r i =
 pub reading : {A : Type 0} {p : Prog A} {s : List ℕ} {from to : Reader} {v : A} → Inside s from → Runs p s from v to → Reading p s from v to
 reading i r = record { runs = r; inside = r-most r i }
 
+-- a run from a reader that is at the place a
+pub from-reader : {A : Type 0} {p : Prog A} {s : List ℕ} {from to : Reader} {a : ℕ} {v : A} → from ≡ readerAt a → Runs p s from v to
+    → Runs p s (readerAt a) v to
+from-reader e r = rw e at r
+
 -- at the beginning of a stream
 pub first-inside : {s : List ℕ} {from : Reader} → from ≡ readerAt 0 → length s ≤ longestStream → Inside s from
 first-inside e h = rw e (record { place = omega arith; stream = h })

@@ -85,7 +85,7 @@ impl Reader {
         Reader { at: BitPosition(0) }
     }
 
-    // The reader at a place.
+    // The reader at a place. A record keeps the place, and a call makes its reader of it.
     pub fn from_position(at: BitPosition) -> Reader
         ensures { λ r. ⌜ r ≡ readerAt (at .0) ⌝ }
     {
@@ -94,7 +94,7 @@ impl Reader {
 
     // The place of the reader.
     pub fn position(self) -> BitPosition
-        ensures { λ r. ⌜ r .0 ≡ placeOf self ⌝ }
+        ensures { λ r. ⌜ r ≡ record { 0 = placeOf self } ⌝ }
     {
         self.at
     }

@@ -11,18 +11,19 @@ use Rattle.bits.specs.Bounds.{longestStream}
 use Rattle.bits.specs.Programs.{many}
 use Rattle.decoder.specs.declared.record.Decoder.{Decoder}
 use Rattle.decoder.specs.declared.answers.Opening.the-variants as O
-use Rattle.decoder.specs.declared.answers.Outcome.{Outcome}
-use Rattle.decoder.specs.declared.answers.Outcome.the-variants as H
+use Rattle.playback.specs.declared.outcome.Outcome.{Outcome}
+use Rattle.playback.specs.declared.outcome.Outcome.the-variants as H
 use Rattle.decoder.specs.Record.{Left}
 use Rattle.decoder.specs.Headers.{accepted}
 use Rattle.decoder.specs.Opening.{opening}
-use Rattle.decoder.specs.Turns.{Going, going, Ended, gave, stopped}
-use Rattle.decoder.specs.HandOut.{pictures, ended}
-use Rattle.decoder.specs.Run.{call, begin, before, answer, pictureIn, handedOut}
+use Rattle.playback.specs.Turns.{Ended, gave, stopped}
+use Rattle.decoder.specs.HandOut.{ended}
+use Rattle.decoder.specs.Run.{Going, call, begin, before, answer, pictureIn, handedOut}
 use Rattle.demands.specs.Numbers.{among}
 use Rattle.demands.proofs.After.{opening-ready}
-use Rattle.demands.proofs.RunTurns.{Ends, seven, stops, pictures-row}
-use Rattle.demands.proofs.RunCall.{Between, waiting, live, stuck, marked, keeps-call, stuck-call, marked-call, few}
+use Rattle.demands.proofs.Keeps.{Keeps}
+use Rattle.demands.proofs.RunTurns.{seven, stops}
+use Rattle.demands.proofs.RunCall.{EndsFrom, turns-end, Between, waiting, live, stuck, marked, keeps-call, stuck-call, marked-call, few}
 use Rattle.demands.proofs.Run.{run-on, opening-begins, seven-for-good}
 use Rattle.count.specs.Count.{counts, countFrom, countOf, countsIn, CountsRun}
 use Rattle.count.proofs.Counting.{ready-short}
@@ -51,22 +52,22 @@ unfolding among
 mark-ending (inl e) = rw e refl
 mark-ending (inr e) = rw e refl
 
-ended-ending : (s : List ℕ) (d : Decoder) (n : ℕ) (e : Ended) → Ends s n e → Ending (ended d e .answer)
-unfolding ended among
-ended-ending s d n (gave (H.Picture i) x m) r = tt
-ended-ending s d n (gave (H.Refused i) x m) (seven j e u) = refl
-ended-ending s d n (stopped i m) (stops e) = mark-ending e
-
 module _ (s : List ℕ) (short : length s ≤ longestStream) (bytes : (k : ℕ) → getD s k 0 < 256) where
   abbrev Ends-with : Left Outcome → Type 0
   Ends-with r = Ending (r .answer)
+
+  ended-ending : (d : Decoder) (l : List ℕ) (k : Keeps s d l) (n : ℕ) (e : Ended) → EndsFrom s short bytes d k n e → Ending (ended d d e .answer)
+  unfolding ended among
+  ended-ending d l k n (gave (H.Picture i) x) r = tt
+  ended-ending d l k n (gave (H.Refused i) x) (seven j e u) = refl
+  ended-ending d l k n (stopped i m) (stops e) = mark-ending e
 
   call-ending : {x : Going} {n : ℕ} → Between s x n → (n ≡ 0 → x .decoder .sequence .«has_sequence_header» ≡ true) → Ends-with (call s x)
   unfolding among
   call-ending (waiting k q) h = absurd (false≢true (sym (k .header) ∙ h q))
   call-ending {x} (live k q) h =
       let d = x .decoder in let l = x .store in
-      subst Ends-with (sym (keeps-call s short d l k)) (ended-ending s d (d .«frames_decoded») (pictures s (going d l)) (pictures-row s short bytes d l k))
+      subst Ends-with (sym (keeps-call s short d l k)) (ended-ending d l k _ _ (turns-end s short bytes d k))
   call-ending {x} (stuck k t q) h = subst Ends-with (sym (stuck-call s short (x .decoder) (x .store) k t)) refl
   call-ending {x} (marked p m q) h = subst Ends-with (sym (marked-call s short (x .decoder) (x .store) p m)) (mark-ending m)
 

@@ -9,17 +9,16 @@ use lib.ListN.{length, getD}
 use Rattle.bits.specs.Bounds.{longestStream}
 use Rattle.bits.specs.Programs.{many}
 use Rattle.decoder.specs.declared.record.Decoder.{Decoder}
-use Rattle.decoder.specs.declared.answers.Shown.{Shown}
+use Rattle.playback.specs.declared.outcome.Shown.{Shown}
 use Rattle.decoder.specs.declared.answers.Opening.{Opening}
 use Rattle.decoder.specs.declared.answers.Opening.the-variants as O
-use Rattle.decoder.specs.declared.answers.Outcome.{Outcome}
-use Rattle.decoder.specs.declared.answers.Outcome.the-variants as H
+use Rattle.playback.specs.declared.outcome.Outcome.{Outcome}
+use Rattle.playback.specs.declared.outcome.Outcome.the-variants as H
 use Rattle.decoder.specs.Record.{Left, left}
 use Rattle.decoder.specs.Answers.{openingNumber}
 use Rattle.decoder.specs.Opening.{opening}
-use Rattle.decoder.specs.Turns.{going}
 use Rattle.decoder.specs.HandOut.{handOut}
-use Rattle.decoder.specs.Run.{behind, pictureIn}
+use Rattle.decoder.specs.Run.{going, behind, pictureIn}
 use Rattle.demands.proofs.RunCall.{Between, call-on, few}
 use Rattle.demands.proofs.Run.{by-length, opening-begins}
 use Rattle.count.specs.Count.{Counts, counts, countFrom, countOf, countsIn}

@@ -7,10 +7,10 @@ use Rattle.bits.specs.Programs.{many}
 use Rattle.decoder.specs.declared.record.Decoder.{Decoder}
 use Rattle.decoder.specs.declared.answers.Opening.{Opening}
 use Rattle.decoder.specs.declared.answers.Opening.the-variants as O
-use Rattle.decoder.specs.declared.answers.Outcome.the-variants as H
+use Rattle.playback.specs.declared.outcome.Outcome.the-variants as H
 use Rattle.decoder.specs.Record.{Left}
 use Rattle.decoder.specs.Opening.{opening}
-use Rattle.decoder.specs.Turns.{Going}
+use Rattle.decoder.specs.Run.{Going}
 use Rattle.decoder.specs.HandOut.{handOut}
 use Rattle.decoder.specs.Run as Run
 use Rattle.demands.specs.Numbers.{among}

@@ -1,7 +1,7 @@
 // How many pictures a stream hands out. The record is passed by value: it crosses no memory of the host.
 use decoder::answers::Opening;
-use decoder::answers::Outcome;
 use decoder::record::Decoder;
+use playback::outcome::Outcome;
 ghost use mathlib.Core.Path.{_≡_};
 ghost use Rattle.count.specs.Count.{counts, countsIn};
 

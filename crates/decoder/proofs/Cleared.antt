@@ -11,10 +11,9 @@ use Rattle.header.specs.Store.{cleared}
 use Rattle.decoder.specs.declared.record.Decoder.{Decoder}
 use Rattle.decoder.specs.declared.answers.Opening.{Opening}
 use Rattle.decoder.specs.declared.answers.Opening.the-variants as O
-use Rattle.decoder.specs.Record.{Left, fresh, storeBytes}
+use Rattle.decoder.specs.Record.{Left, given, fresh, storeBytes}
 use Rattle.decoder.specs.Headers.{Asked, refused, passed, askHeader, askStore}
 use Rattle.decoder.specs.Opening.{opened, openingFrom, opening}
-use Rattle.decoder.specs.Turns.{going}
 use Rattle.decoder.specs.HandOut.{begun}
 use Rattle.bits.specs.Bounds.{longestStream}
 
@@ -49,6 +48,6 @@ pub opening-clears : (s l : List ℕ) → opening s l .answer ≡ O.Ready
 opening-clears s l e = subst (λ (o : Opening). ReadyRow l o (opening s l .decoder) (opening s l .store)) e (ready-row s l)
 
 -- a hand-out that accepts one
-pub begun-clears : (d x : Decoder) (l : List ℕ) → d .sequence .«has_sequence_header» ≡ false → begun d x l ≡ going x (cleared (storeBytes x) l)
+pub begun-clears : (d x : Decoder) (l : List ℕ) → d .sequence .«has_sequence_header» ≡ false → begun d x l ≡ given x (cleared (storeBytes x) l)
 unfolding begun
 begun-clears d x l h = rw h refl

@@ -2,11 +2,6 @@ pub mod Asking
 pub mod Openings
 pub mod Converting
 pub mod Starts
-pub mod TwoTurns
-pub mod Seeking
 pub mod Fits
-pub mod Showing
-pub mod Turning
 pub mod HandingOut
 pub mod Cleared
-pub mod Searches

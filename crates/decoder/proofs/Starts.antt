@@ -5,6 +5,7 @@ use lib.IntN.{negsuc}
 use Rattle.laws.specs.Each.{allBelow}
 use Rattle.codes.specs.Matrices.{premultiplierMatrix, bounded}
 use Rattle.picture.specs.Possible.{possiblePicture}
+use Rattle.playback.specs.State.{frames, freshState}
 use Rattle.decoder.specs.declared.record.Decoder.{Decoder}
 use Rattle.decoder.specs.Record.{fresh, place, startCode}
 
@@ -12,11 +13,11 @@ use Rattle.decoder.specs.Record.{fresh, place, startCode}
 pub record Starts (d : Decoder) : Type 0 where
   pub unread : place d ≡ 0
   pub code : startCode d ≡ negsuc 0
-  pub picture : possiblePicture (d .picture) ≡ true
+  pub picture : possiblePicture (d .state .picture) ≡ true
   pub block : bounded (d .«block_data») ≡ true
-  pub none : d .«frames_decoded» ≡ 0
+  pub none : frames (d .state) ≡ 0
   pub mark : d .stop ≡ 0
 
 pub fresh-starts : Starts fresh
-unfolding fresh allBelow premultiplierMatrix bounded
+unfolding fresh freshState allBelow premultiplierMatrix bounded
 fresh-starts = record { unread = refl; code = refl; picture = refl; block = refl; none = refl; mark = refl }

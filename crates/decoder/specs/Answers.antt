@@ -3,8 +3,8 @@ use Prim.Native.Nat.{ℕ}
 use lib.Ieee.{Float}
 use Rattle.decoder.specs.declared.answers.Opening.{Opening}
 use Rattle.decoder.specs.declared.answers.Opening.the-variants as O
-use Rattle.decoder.specs.declared.answers.Outcome.{Outcome}
-use Rattle.decoder.specs.declared.answers.Outcome.the-variants as H
+use Rattle.playback.specs.declared.outcome.Outcome.{Outcome}
+use Rattle.playback.specs.declared.outcome.Outcome.the-variants as H
 use Rattle.decoder.specs.declared.answers.Converted.{Converted}
 use Rattle.decoder.specs.declared.answers.Converted.the-variants as C
 

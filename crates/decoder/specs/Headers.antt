@@ -6,12 +6,14 @@ use lib.Dec.{eqb, leb}
 use lib.IntN.{pos, negsuc}
 use lib.ListN.{length}
 use Rattle.bits.specs.Bits.{has}
-use Rattle.bits.specs.Programs.{Out, run, eqZ, findStartCode, if_then_else_}
+use Rattle.bits.specs.Programs.{Out, run, eqZ, if_then_else_}
 use Rattle.picture.specs.State.{storesAs, firstStores}
 use Rattle.header.specs.Possible.{sizesOf}
 use Rattle.header.specs.Sequences.{Size, Rest, size, rest, aspectOf, rateOf}
 use Rattle.decoder.specs.declared.record.Decoder.{Decoder}
-use Rattle.decoder.specs.Record.{place, startCode, placeAs, pictureAs, sequenceAs, clockAs, searchedAs, storeBytes}
+use Rattle.playback.specs.State.{held, frames, nextTime, shownTime}
+use Rattle.playback.specs.Search.{nextCode}
+use Rattle.decoder.specs.Record.{place, startCode, placeAs, sequenceAs, stateAs, storeBytes}
 
 -- the answer to some questions: the first "no" with its number and the record that it leaves, or the record with which the call goes on
 pub data Asked : Type 0 where
@@ -20,9 +22,7 @@ pub data Asked : Type 0 where
 
 -- RULES Q3, Q4: the sequence start code is searched, unless the record has it already
 unfoldable pub findSequence : List ℕ → Decoder → Decoder
-findSequence s d =
-    if eqZ (startCode d) (pos 0xb3) then d
-    else (let o = run (findStartCode (pos 0xb3)) s (place d) in searchedAs (o .value) (o .at) d)
+findSequence s d = stateAs (nextCode (pos 0xb3) s (d .state)) d
 
 -- RULES Q5: width and height as read, and the place behind them
 abbrev pub sized : Out Size → Decoder → Decoder
@@ -36,22 +36,31 @@ sized o d = placeAs (o .at) (sequenceAs (record {
 
 -- RULES O.3, O.4: what accepting a header sets
 unfoldable pub accepted : Out Rest → Decoder → Decoder
-accepted o d =
-    placeAs (o .at) (
-    pictureAs (storesAs firstStores (d .picture)) (
-    clockAs (record {
-      framerate = rateOf (o .value .rate);
-      «pixel_aspect_ratio» = aspectOf (o .value .aspect);
-      time = d .clock .time;
-      «last_frame_time» = d .clock .«last_frame_time»;
-    }) (d .«frames_decoded») (
-    sequenceAs (record {
-      «has_sequence_header» = true;
-      width = d .sequence .width;
-      height = d .sequence .height;
-      sizes = sizesOf (d .sequence .width) (d .sequence .height);
-      matrices = o .value .matrices;
-    }) d)))
+accepted o d = record {
+  sequence = record {
+    «has_sequence_header» = true;
+    width = d .sequence .width;
+    height = d .sequence .height;
+    sizes = sizesOf (d .sequence .width) (d .sequence .height);
+    matrices = o .value .matrices;
+  };
+  state = record {
+    position = record { 0 = o .at };
+    picture = storesAs firstStores (d .state .picture);
+    display = record {
+      clock = record {
+        framerate = rateOf (o .value .rate);
+        «pixel_aspect_ratio» = aspectOf (o .value .aspect);
+        time = nextTime (d .state);
+        «last_frame_time» = shownTime (d .state);
+      };
+      «has_reference_frame» = held (d .state);
+      «frames_decoded» = frames (d .state);
+    };
+  };
+  «block_data» = d .«block_data»;
+  stop = d .stop;
+}
 
 -- RULES Q5: width and height, and with both above 0 the rest of the header
 unfoldable pub askSize : List ℕ → Decoder → Asked

@@ -2,13 +2,10 @@ pub mod Record
 pub mod Answers
 pub mod Possible
 pub mod Fit
-pub mod State
 pub mod Asking
 pub mod Headers
 pub mod Opening
-pub mod Turns
 pub mod HandOut
-pub mod Turned
 pub mod Conversion
 pub mod Listing
 pub mod Run

@@ -7,7 +7,7 @@ use Rattle.bits.specs.Programs.{many, if_then_else_}
 use Rattle.decoder.specs.declared.record.Decoder.{Decoder}
 use Rattle.decoder.specs.declared.answers.Opening.{Opening}
 use Rattle.decoder.specs.declared.answers.Opening.the-variants as O
-use Rattle.decoder.specs.declared.answers.Outcome.the-variants as H
+use Rattle.playback.specs.declared.outcome.Outcome.the-variants as H
 use Rattle.decoder.specs.Record.{Left}
 use Rattle.decoder.specs.Opening.{opening}
 use Rattle.decoder.specs.HandOut.{handOut}
@@ -28,7 +28,7 @@ linesFrom zero s n d l = []
 linesFrom (suc fuel) s n d l =
     let x = handOut d s l in
     elim (x .answer) [
-      | H.Picture p ↦ line (n + 1) (p .store) (x .decoder .picture .«picture_type») 0 ∷ linesFrom fuel s (n + 1) (x .decoder) (x .store)
+      | H.Picture p ↦ line (n + 1) (p .store) (x .decoder .state .picture .«picture_type») 0 ∷ linesFrom fuel s (n + 1) (x .decoder) (x .store)
       | H.Refused answer ↦ line n 0 0 answer ∷ []
     ]
 

@@ -1,12 +1,20 @@
 -- RULES R: a run of calls with one stream. Each is given the record and the store that the one before it left.
 use mathlib.Core.List.{List}
 use Prim.Native.Nat.{ℕ, zero, suc, _+_}
-use Rattle.decoder.specs.declared.answers.Outcome.{Outcome}
-use Rattle.decoder.specs.declared.answers.Outcome.the-variants.{Picture, Refused}
+use Rattle.playback.specs.declared.outcome.Outcome.{Outcome}
+use Rattle.playback.specs.declared.outcome.Outcome.the-variants.{Picture, Refused}
+use Rattle.decoder.specs.declared.record.Decoder.{Decoder}
 use Rattle.decoder.specs.Record.{Left}
 use Rattle.decoder.specs.Opening.{opening}
-use Rattle.decoder.specs.Turns.{Going, going}
 use Rattle.decoder.specs.HandOut.{handOut}
+
+-- between calls: the record and the store
+pub record Going : Type 0 where
+  pub decoder : Decoder
+  pub store : List ℕ
+
+abbrev pub going : Decoder → List ℕ → Going
+going d l = record { decoder = d; store = l }
 
 -- RULES R: one call, and what it leaves to the next
 abbrev pub call : List ℕ → Going → Left Outcome

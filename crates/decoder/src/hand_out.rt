@@ -1,30 +1,25 @@
 // RULES part 8, Q: the hand-out.
 use crate::answers::Handed;
-use crate::answers::Outcome;
 use crate::headers::ask_header;
 use crate::possible::possible_with;
 use crate::record::Decoder;
 use crate::record::store_bytes;
-use crate::state::DecoderState;
-use crate::state::state_of;
-use crate::state::with_state;
-use crate::turns::Turned;
-use crate::turns::picture_turn;
 use bits::position::LONGEST_STREAM;
 use header::store::clear;
-use picture::state::Sizes;
+use playback::outcome::Outcome;
+use playback::outcome::Turned;
+use playback::state::State;
+use playback::turns::pictures;
 ghost use mathlib.Core.Path.{_≡_};
 ghost use mathlib.Core.Bool.{false};
 ghost use mathlib.Core.List.{List};
-ghost use Prim.Native.Nat.{ℕ, _*_, _≤_};
+ghost use Prim.Native.Nat.{ℕ, _≤_};
 ghost use lib.ListN.{length};
-ghost use Rattle.picture.specs.Views.{matrices};
-ghost use Rattle.prediction.specs.Planes.{storesBytes};
-ghost use Rattle.decoder.specs.declared.answers.Outcome.the-variants as Outcomes;
+ghost use Rattle.playback.specs.declared.outcome.Outcome.the-variants as Outcomes;
+ghost use Rattle.playback.specs.Turns.{turnState};
+ghost use Rattle.playback.specs.Turned.{endOf};
 ghost use Rattle.decoder.specs.Record as Record;
 ghost use Rattle.decoder.specs.Fit.{Fit};
-ghost use Rattle.decoder.specs.State.{decoderOf, FitState};
-ghost use Rattle.decoder.specs.Turned.{endOf, Plays};
 ghost use Rattle.decoder.specs.HandOut as Out;
 ghost use Rattle.bits.specs.Bounds.{longestStream};
 
@@ -37,35 +32,22 @@ fn refused(decoder: Decoder, number: u32) -> Handed
     }
 }
 
-// RULES 8.7: at most two turns.
-fn pictures(
-    s: &[u8],
-    store: &mut [u8],
-    values: &mut [i32; 64],
-    sizes: Sizes,
-    intra: &[u8; 64],
-    other: &[u8; 64],
-    d: DecoderState,
-) -> Turned
-    requires { ⌜ FitState sizes (matrices (now intra) (now other)) d (now values) ⌝ }
-    requires { ⌜ length (now s) ≤ longestStream ⌝ }
-    requires { ⌜ storesBytes (sizes .«mb_size») ≤ length (now store) ⌝ }
-    ensures { λ r. ⌜
-        Plays (now (s .entry)) sizes (matrices (now (intra .entry)) (now (other .entry))) d (now (values .entry)) (now (store .entry))
-        r (now (values .exit)) (now (store .exit))
-        ⌝ }
+// The record with what the turns left.
+fn resumed(d: Decoder, state: State, block_data: [i32; 64]) -> Decoder
+    ensures { λ r. ⌜ ((l : List ℕ) → r ≡ Record.resumed d (turnState state «block_data» l)) ⌝ }
 {
-    let t = picture_turn(s, store, values, sizes, intra, other, d);
-    if t.again {
-        return picture_turn(s, store, values, sizes, intra, other, t.state);
+    let sequence = d.sequence;
+    Decoder {
+        sequence,
+        state,
+        block_data,
+        stop: d.stop,
     }
-    t
 }
 
 // RULES 8.14: the record d behind the turns; 8 and 9 leave `before`, the one passed in, with the stop mark.
 fn ended(mut before: Decoder, d: Decoder, t: Turned, left: [i32; 64]) -> Handed
-    ensures { λ r. ⌜ ((l : List ℕ) → Record.left (r .outcome) (r .decoder) l
-        ≡ Out.ended before (endOf (t .stop) t (decoderOf (d .sequence) (d .stop) (t .state) left) l)) ⌝ }
+    ensures { λ r. ⌜ ((l : List ℕ) → Record.left (r .outcome) (r .decoder) l ≡ Out.ended before d (endOf (t .stop) t left l)) ⌝ }
 {
     let stop = t.stop;
     if stop != 0 {
@@ -73,7 +55,7 @@ fn ended(mut before: Decoder, d: Decoder, t: Turned, left: [i32; 64]) -> Handed
         return refused(before, stop);
     }
     let outcome = t.outcome;
-    let decoder = with_state(d, t.state, left);
+    let decoder = resumed(d, t.state, left);
     Handed { decoder, outcome }
 }
 
@@ -100,7 +82,7 @@ fn with_header(s: &[u8], store: &mut [u8], before: Decoder) -> Handed
     let intra = d.sequence.matrices.intra_quant_matrix;
     let other = d.sequence.matrices.non_intra_quant_matrix;
     let sizes = d.sequence.sizes;
-    let t = pictures(s, store, &mut values, sizes, &intra, &other, state_of(d));
+    let t = pictures(s, store, &mut values, sizes, &intra, &other, d.state);
     ended(before, d, t, values)
 }
 
@@ -136,7 +118,7 @@ impl Decoder {
             sizes,
             &intra,
             &other,
-            state_of(self),
+            self.state,
         );
         ended(self, self, t, values)
     }

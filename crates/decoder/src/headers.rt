@@ -1,9 +1,7 @@
 // RULES Q3 to Q6: the questions on the sequence header, and its acceptance.
-use crate::record::Clock;
 use crate::record::Decoder;
-use crate::record::has_code;
-use crate::record::searched_as;
 use crate::record::store_bytes;
+use bits::reader::Reader;
 use header::possible::sizes_of;
 use header::sequences::RestRead;
 use header::sequences::aspect_of;
@@ -12,6 +10,9 @@ use header::sequences::read_rest;
 use header::sequences::read_size;
 use header::state::Sequence;
 use picture::state::Stores;
+use playback::search::has_code;
+use playback::search::next_code;
+use playback::state::Clock;
 ghost use mathlib.Core.Path.{_≡_};
 ghost use Prim.Native.Nat.{_≤_, _<_};
 ghost use lib.ListN.{length};
@@ -19,6 +20,7 @@ ghost use Rattle.decoder.specs.Headers as Headers;
 ghost use Rattle.decoder.specs.Fit.{Fit};
 ghost use Rattle.decoder.specs.Asking.{asked, Roomed};
 ghost use Rattle.bits.specs.Bounds.{longestStream};
+ghost use Rattle.bits.specs.Runs.{placeOf};
 
 // `answer`: 0 where the call goes on, else the number of the first "no".
 pub struct Asked {
@@ -27,17 +29,14 @@ pub struct Asked {
 }
 
 // RULES Q3, Q4: the sequence start code is searched, unless the record has it already.
-fn find_sequence(s: &[u8], d: Decoder) -> Decoder
+fn find_sequence(s: &[u8], mut d: Decoder) -> Decoder
     requires { ⌜ Fit d ⌝ }
     requires { ⌜ length (now s) ≤ longestStream ⌝ }
     ensures { λ r. ⌜ r ≡ Headers.findSequence (now (s .entry)) d ⌝ }
-    ensures { λ r. ⌜ Fit r ⌝ }
 {
-    if has_code(d.picture, 0xb3) {
-        return d;
-    }
-    let found = d.reader.find_start_code(s, 0xb3);
-    searched_as(d, found.reader, found.code)
+    let state = next_code(s, d.state, 0xb3);
+    d.state = state;
+    d
 }
 
 // RULES O.3, O.4: what accepting a header sets.
@@ -46,7 +45,7 @@ fn accepted(rest: RestRead, mut d: Decoder) -> Decoder
     requires { ⌜ rest .rate < 16 ⌝ }
     ensures { λ r. ⌜ r ≡ Headers.accepted (record {
       value = record { aspect = rest .aspect; rate = rest .rate; matrices = rest .matrices };
-      at = rest .reader .at .0;
+      at = placeOf (rest .reader);
     }) d ⌝ }
 {
     let old = d.sequence;
@@ -61,24 +60,28 @@ fn accepted(rest: RestRead, mut d: Decoder) -> Decoder
         matrices,
     };
     d.sequence = sequence;
-    let c = d.clock;
+    let mut x = d.state;
+    let mut display = x.display;
+    let c = display.clock;
     let clock = Clock {
         framerate: rate_of(rest.rate),
         pixel_aspect_ratio: aspect_of(rest.aspect),
         time: c.time,
         last_frame_time: c.last_frame_time,
     };
-    d.clock = clock;
-    let mut p = d.picture;
+    display.clock = clock;
+    x.display = display;
+    let mut picture = x.picture;
     let stores = Stores {
         cur: 0,
         fwd: 1,
         bwd: 2,
     };
-    p.stores = stores;
-    d.picture = p;
-    let reader = rest.reader;
-    d.reader = reader;
+    picture.stores = stores;
+    x.picture = picture;
+    let position = rest.reader.position();
+    x.position = position;
+    d.state = x;
     d
 }
 
@@ -89,11 +92,14 @@ fn ask_size(s: &[u8], mut d: Decoder) -> Asked
     ensures { λ r. ⌜ asked (r .answer) (r .decoder) ≡ Headers.askSize (now (s .entry)) d ⌝ }
     ensures { λ r. ⌜ Fit (r .decoder) ⌝ }
 {
-    let size = read_size(s, d.reader);
+    let size = read_size(s, Reader::from_position(d.state.position));
     let reader = size.reader;
     let width = size.width;
     let height = size.height;
-    d.reader = reader;
+    let mut state = d.state;
+    let position = reader.position();
+    state.position = position;
+    d.state = state;
     let mut sequence = d.sequence;
     sequence.width = width;
     sequence.height = height;
@@ -119,13 +125,13 @@ pub fn ask_header(s: &[u8], before: Decoder) -> Asked
     ensures { λ r. ⌜ Fit (r .decoder) ⌝ }
 {
     let d = find_sequence(s, before);
-    if has_code(d.picture, -1) {
+    if has_code(d.state.picture, -1) {
         return Asked {
             decoder: d,
             answer: 3,
         };
     }
-    if !d.reader.has(s, 1088).value {
+    if !Reader::from_position(d.state.position).has(s, 1088).value {
         return Asked {
             decoder: d,
             answer: 4,

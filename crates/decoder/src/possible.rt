@@ -2,17 +2,17 @@
 // A conversion and a hand-out ask it by a function each, with a body each: called from one place only, it is joined into its caller, which then
 // copies no record for it.
 use crate::record::Decoder;
-use crate::record::MOST_PICTURES;
 use bits::position::LAST_POSITION;
 use codes::matrices::bounded;
 use header::possible::possible_sequence;
 use picture::limits::possible_picture;
+use playback::state::MOST_PICTURES;
 ghost use mathlib.Core.Path.{_≡_};
 ghost use mathlib.Core.Bool.{_&&_, _||_};
 ghost use lib.Dec.{eqb, leb};
 ghost use Rattle.decoder.specs.Possible.{possible, possibleWith};
 ghost use Rattle.bits.specs.Bounds.{lastPosition};
-ghost use Rattle.decoder.specs.Record.{mostPictures};
+ghost use Rattle.playback.specs.State.{mostPictures};
 
 // Position, count of pictures handed out, stop mark.
 fn possible_numbers(at: usize, frames_decoded: u32, stop: u32) -> bool
@@ -28,9 +28,9 @@ pub fn possible(d: Decoder) -> bool
 {
     let values = d.block_data;
     let left = bounded(&values);
-    let numbers = possible_numbers(d.reader.at.0, d.frames_decoded, d.stop);
+    let numbers = possible_numbers(d.state.position.0, d.state.display.frames_decoded, d.stop);
     let sequence = possible_sequence(d.sequence);
-    let picture = possible_picture(d.picture);
+    let picture = possible_picture(d.state.picture);
     numbers & sequence & picture & left
 }
 
@@ -40,8 +40,8 @@ pub fn possible_with(s: &[u8], d: Decoder) -> bool
 {
     let values = d.block_data;
     let left = bounded(&values);
-    let numbers = possible_numbers(d.reader.at.0, d.frames_decoded, d.stop);
+    let numbers = possible_numbers(d.state.position.0, d.state.display.frames_decoded, d.stop);
     let sequence = possible_sequence(d.sequence);
-    let picture = possible_picture(d.picture);
+    let picture = possible_picture(d.state.picture);
     numbers & sequence & picture & left
 }

@@ -10,6 +10,8 @@ use lib.ListN.{length, getD}
 use borrow.Author.Tests.{eqb-true, leb-true, leb-false}
 use Rattle.laws.proofs.Tests.{by-case, each}
 use Rattle.codes.specs.Matrices.{bounded}
+use Rattle.picture.specs.declared.state.Matrices.{Matrices}
+use Rattle.picture.specs.declared.state.Sizes.{Sizes}
 use Rattle.picture.specs.Possible.{possiblePicture}
 use Rattle.picture.proofs.Possible.{stores-of, picture-of}
 use Rattle.picture.specs.State.{firstStores}
@@ -19,14 +21,15 @@ use Rattle.header.proofs.Clearing.{cleared-later, cleared-length}
 use Rattle.decoder.specs.declared.record.Decoder.{Decoder}
 use Rattle.decoder.specs.declared.answers.Opening.{Opening}
 use Rattle.decoder.specs.declared.answers.Opening.the-variants as O
-use Rattle.decoder.specs.declared.answers.Shown.{Shown}
-use Rattle.decoder.specs.declared.answers.Outcome.{Outcome}
-use Rattle.decoder.specs.declared.answers.Outcome.the-variants as H
-use Rattle.decoder.specs.Record.{Left, fresh, place, storeBytes, mostPictures}
+use Rattle.playback.specs.declared.outcome.Shown.{Shown}
+use Rattle.playback.specs.declared.outcome.Outcome.{Outcome}
+use Rattle.playback.specs.declared.outcome.Outcome.the-variants as H
+use Rattle.playback.specs.State.{frames, mostPictures}
+use Rattle.playback.specs.Turns.{Ended}
+use Rattle.decoder.specs.Record.{Left, given, fresh, place, storeBytes}
 use Rattle.decoder.specs.Possible.{possible, possibleWith}
 use Rattle.decoder.specs.Headers.{Asked, refused, passed, accepted, askHeader, askStore}
 use Rattle.decoder.specs.Opening.{opened, openingFrom, opening}
-use Rattle.decoder.specs.Turns.{Going, going, Ended}
 use Rattle.decoder.specs.HandOut.{ended, askFirst, begun, goOn, handOut}
 use Rattle.demands.specs.Questions.{withHeader, headed}
 use Rattle.demands.specs.Stores.{SameFrom}
@@ -34,7 +37,7 @@ use Rattle.demands.specs.After as A
 use Rattle.demands.specs.After.{AfterOpening, AfterHandOut}
 use Rattle.demands.specs.Handing.{Opened, HandsOut}
 use Rattle.demands.proofs.AfterHeader.{AskAfter, IsHeaded, header-after, header-passed}
-use Rattle.demands.proofs.Reached.{same-from, then-same, Fit, CallEnd, hands, seven, stops, pictures-end}
+use Rattle.demands.proofs.Reached.{same-from, then-same, RoomFor, CallEnd, hands, seven, stops, pictures-end}
 use Rattle.demands.proofs.Keeps.{sized}
 use Rattle.bits.specs.Bounds.{longestStream, lastPosition}
 
@@ -71,15 +74,15 @@ opening-ready s l e = subst (λ (o : Opening). OpeningRow s l o (opening s l .de
 
 pub record Parts (d : Decoder) : Type 0 where
   pub sequence : possibleSequence (d .sequence) ≡ true
-  pub picture : possiblePicture (d .picture) ≡ true
+  pub picture : possiblePicture (d .state .picture) ≡ true
   pub block : bounded (d .«block_data») ≡ true
   pub mark : (eqb (d .stop) 0 || eqb (d .stop) 8 || eqb (d .stop) 9) ≡ true
 
 pub parts : (d : Decoder) → possible d ≡ true → Parts d
 unfolding possible
 parts d p =
-    let x = each (leb (place d) lastPosition) (possibleSequence (d .sequence) ∷ possiblePicture (d .picture) ∷ bounded (d .«block_data») ∷
-    leb (d .«frames_decoded») mostPictures ∷ (eqb (d .stop) 0 || eqb (d .stop) 8 || eqb (d .stop) 9) ∷ []) p in
+    let x = each (leb (place d) lastPosition) (possibleSequence (d .sequence) ∷ possiblePicture (d .state .picture) ∷ bounded (d .«block_data») ∷
+    leb (frames (d .state)) mostPictures ∷ (eqb (d .stop) 0 || eqb (d .stop) 8 || eqb (d .stop) 9) ∷ []) p in
     record { sequence = x 1; picture = x 2; block = x 3; mark = x 5 }
 
 -- RULES QA: a stop mark other than 0 is 8 or 9
@@ -101,10 +104,6 @@ not-true false h = refl
 -- ---- the record and the store with which a hand-out comes to its pictures
 
 module _ (d : Decoder) (s l : List ℕ) where
-  begun-decoder : (x : Decoder) → begun d x l .decoder ≡ x
-  unfolding begun
-  begun-decoder x = by-case (λ (z : Going). z .decoder ≡ x) (d .sequence .«has_sequence_header») (λ e. refl) (λ e. refl)
-
   pub cleared-same : (n : ℕ) → n ≤ length l → SameFrom n l (cleared n l)
   cleared-same n h = record {
     long = cleared-length n l h;
@@ -114,19 +113,17 @@ module _ (d : Decoder) (s l : List ℕ) where
   begun-same : (x : Decoder) → storeBytes x ≤ length l → SameFrom (storeBytes x) l (begun d x l .store)
   unfolding begun
   begun-same x h =
-      by-case (λ (z : Going). SameFrom (storeBytes x) l (z .store)) (d .sequence .«has_sequence_header») (λ e. same-from)
-      (λ e. cleared-same (storeBytes x) h)
+      by-case (SameFrom (storeBytes x) l) (d .sequence .«has_sequence_header») (λ e. same-from) (λ e. cleared-same (storeBytes x) h)
 
-  begun-fit : possible d ≡ true → storeBytes (headed s d) ≤ length l → Fit (begun d (headed s d) l .decoder) (begun d (headed s d) l .store)
+  begun-room : possible d ≡ true → storeBytes (headed s d) ≤ length l → RoomFor (headed s d .sequence .sizes) (begun d (headed s d) l)
   unfolding begun accepted
-  begun-fit p = go (d .sequence .«has_sequence_header») refl
+  begun-room p = go (d .sequence .«has_sequence_header») refl
     where
       go : (b : Bool) → d .sequence .«has_sequence_header» ≡ b → storeBytes (cond b d (withHeader s d)) ≤ length l
-          → let x = cond b d (withHeader s d) in
-          let z : Going = cond b (going x l) (going x (cleared (storeBytes x) l)) in Fit (z .decoder) (z .store)
+          → let x = cond b d (withHeader s d) in RoomFor (x .sequence .sizes) (given x (cond b l (cleared (storeBytes x) l)))
       go true e h =
           let q = parts d p in
-          record { area = sized (d .sequence) e (q .sequence) .area; stores = picture-of (d .picture) (q .picture) .stores; long = h }
+          record { area = sized (d .sequence) e (q .sequence) .area; stores = picture-of (d .state .picture) (q .picture) .stores; long = h }
       go false e h =
           record { area = refl; stores = stores-of firstStores refl; long = omega (arith, h, cleared-length (storeBytes (withHeader s d)) l h) }
 
@@ -139,16 +136,21 @@ module _ (d : Decoder) (s l : List ℕ) where
     after : Answered (r .answer) (r .decoder) (r .store)
     same : SameFrom (storeBytes (headed s d)) l (r .store)
 
-  module _ (long : storeBytes (headed s d) ≤ length l) where
-    on-to : {m : List ℕ} → SameFrom (storeBytes (begun d (headed s d) l .decoder)) (begun d (headed s d) l .store) m
-        → SameFrom (storeBytes (headed s d)) l m
-    on-to {m} h =
-        then-same (begun-same (headed s d) long)
-        (subst (λ (x : Decoder). SameFrom (storeBytes x) (begun d (headed s d) l .store) m) (begun-decoder (headed s d)) h)
+  -- the sizes and the matrices of the header
+  abbrev sizes : Sizes
+  sizes = headed s d .sequence .sizes
 
-    ended-row : {e : Ended} → CallEnd s (begun d (headed s d) l) e → Row (ended d e)
+  abbrev matrices : Matrices
+  matrices = headed s d .sequence .matrices
+
+  module _ (long : storeBytes (headed s d) ≤ length l) where
+    on-to : {m : List ℕ} → SameFrom (storeBytes (headed s d)) (begun d (headed s d) l .store) m → SameFrom (storeBytes (headed s d)) l m
+    on-to h = then-same (begun-same (headed s d) long) h
+
+    ended-row : {e : Ended} → CallEnd s sizes matrices (begun d (headed s d) l) e → Row (ended d (headed s d) e)
     unfolding ended
-    ended-row (hands k i h) = record { after = record { given = _; turn = k .turn; handing = i }; same = on-to h }
+    ended-row (hands k i h) =
+        record { after = record { given = _; turn = k .turn; left = _; handing = i; decoder = refl; store = refl }; same = on-to h }
     ended-row (seven k t u) = record { after = A.after-7 (k .turn) t u; same = on-to (k .same) }
     ended-row (stops k e c h) = record { after = A.after-8-9 (k .turn) e c; same = on-to h }
 
@@ -156,7 +158,8 @@ module _ (d : Decoder) (s l : List ℕ) where
   unfolding goOn askStore
   store-row p =
       by-case (λ a. Row (goOn s d l a)) (leb (storeBytes (headed s d)) (length l))
-      (λ e. let h = leb-true (storeBytes (headed s d)) (length l) e in ended-row h (pictures-end s (begun d (headed s d) l) (begun-fit p h)))
+      (λ e. let h = leb-true (storeBytes (headed s d)) (length l) e in
+      ended-row h (pictures-end s sizes matrices (begun d (headed s d) l) (begun-room p h)))
       (λ e. record { after = A.after-6 (leb-false (storeBytes (headed s d)) (length l) e); same = same-from })
 
   header-row : possible d ≡ true → d .sequence .«has_sequence_header» ≡ false → (a : Asked) → AskAfter s d a → IsHeaded s d a

@@ -16,9 +16,11 @@ use Rattle.bits.proofs.Programs.{served-got, served-next}
 use Rattle.laws.proofs.Tests.{by-case}
 use Rattle.header.specs.Sequences.{size}
 use Rattle.decoder.specs.declared.record.Decoder.{Decoder}
-use Rattle.decoder.specs.Record.{place, startCode, searchedAs}
+use Rattle.playback.specs.State as S
+use Rattle.playback.specs.Search.{nextCode}
+use Rattle.decoder.specs.Record.{place, startCode, stateAs, searchedAs}
 use Rattle.decoder.specs.Headers.{Asked, refused, passed, findSequence, askSize, askHeader}
-use Rattle.decoder.proofs.Searches.{eqZ-is}
+use Rattle.playback.proofs.Searches.{eqZ-is}
 use Rattle.demands.specs.Codes.{NoneFound}
 use Rattle.demands.specs.Questions.{withSize, withHeader}
 use Rattle.demands.specs.After.{AtCode, had-it, found-it, AfterHeader, after-3, after-4, after-5}
@@ -31,10 +33,10 @@ pub data Finds (s : List ℕ) (d : Decoder) : Decoder → Type 0 where
   no-code : {e : ℕ} → NoneFound s (place d) e → Finds s d (searchedAs (negsuc 0) e d)
 
 pub find-sequence : (s : List ℕ) (d : Decoder) → length s ≤ longestStream → Finds s d (findSequence s d)
-unfolding findSequence
+unfolding findSequence nextCode
 find-sequence s d h = go (eqZ (startCode d) (pos 0xb3)) refl (run (findStartCode (pos 0xb3)) s (place d)) (search-end s 0xb3 (place d) h)
   where
-    go : (b : Bool) → eqZ (startCode d) (pos 0xb3) ≡ b → (o : Out ℤ) → SearchEnd s 0xb3 (place d) o → Finds s d (cond b d (searchedAs (o .value) (o .at) d))
+    go : (b : Bool) → eqZ (startCode d) (pos 0xb3) ≡ b → (o : Out ℤ) → SearchEnd s 0xb3 (place d) o → Finds s d (stateAs (cond b (d .state) (S.searchedAs (o .value) (o .at) (d .state))) d)
     go true e o k = a-code (had-it (eqZ-is (startCode d) (pos 0xb3) e))
     go false e o (with-code v k) = rw v (a-code (found-it k))
     go false e o (with-none v k) = rw v (no-code k)

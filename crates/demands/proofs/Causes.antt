@@ -29,7 +29,7 @@ use Rattle.prediction.specs.Predict.{start, maxAddress, reach, fetch}
 use Rattle.picture.specs.declared.state.Sizes.{Sizes}
 use Rattle.demands.specs.Causes.{DcOutside, PredictionOutside}
 
-abbrev isOutside : BlockEnd → Bool
+abbrev pub isOutside : BlockEnd → Bool
 isOutside e = elim e [ Whole ↦ false | Dropped ↦ false | Outside ↦ true ]
 
 -- coefficients never end a block so

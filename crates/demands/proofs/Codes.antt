@@ -15,7 +15,7 @@ use Rattle.bits.specs.Bits.{Found, boundary, codePrefix, found}
 use Rattle.bits.specs.Programs.{Out, done, bind, run, eqZ, turn, loop, many, findTurn, findStartCode}
 use Rattle.bits.proofs.Start.{isCode, First, Searched, first, none, found-is-first}
 use Rattle.bits.proofs.Programs.{run-on}
-use Rattle.decoder.proofs.Searches.{Barren, Sought, hit, miss, sought}
+use Rattle.playback.proofs.Searches.{Barren, Sought, hit, miss, sought}
 use Rattle.demands.specs.Codes.{CodeAt, CodeFound, found-at, NoneFound}
 
 prefix-bytes : (s : List ℕ) (b c : ℕ) → codePrefix s b ≡ true → getD s (b + 3) 0 ≡ c → b + 5 ≤ length s → CodeAt s c b

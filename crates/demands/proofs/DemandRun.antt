@@ -9,13 +9,12 @@ use lib.Dec.{leb}
 use lib.ListN.{length, getD}
 use Rattle.decoder.specs.declared.answers.Opening.{Opening}
 use Rattle.decoder.specs.declared.answers.Opened.{Opened}
-use Rattle.decoder.specs.declared.answers.Outcome.{Outcome}
-use Rattle.decoder.specs.declared.answers.Outcome.the-variants as H
+use Rattle.playback.specs.declared.outcome.Outcome.{Outcome}
+use Rattle.playback.specs.declared.outcome.Outcome.the-variants as H
 use Rattle.decoder.specs.declared.answers.Handed.{Handed}
 use Rattle.decoder.specs.Record.{Left}
 use Rattle.decoder.specs.Possible.{possible}
-use Rattle.decoder.specs.Turns.{Going, going}
-use Rattle.decoder.specs.Run.{behind, begin, pictureIn}
+use Rattle.decoder.specs.Run.{Going, going, behind, begin, pictureIn}
 use Rattle.decoder.specs.Answers.{handOutNumber}
 use Rattle.demands.specs.Calls.{Opens, Calls, none, and-then, picturesIn, AllSeven, StaySeven}
 use Rattle.demands.proofs.Waiting.{fresh-waits}

@@ -10,28 +10,31 @@ use lib.ListN.{length, getD}
 use borrow.Author.Tests.{le-leb, eq-eqb}
 use Rattle.laws.specs.Turns.{Turn, again, stop}
 use Rattle.laws.proofs.Tests.{by-case}
+use Rattle.picture.specs.declared.state.Matrices.{Matrices}
+use Rattle.picture.specs.declared.state.Sizes.{Sizes}
 use Rattle.picture.proofs.Possible.{picture-of}
 use Rattle.header.specs.Store.{cleared}
 use Rattle.decoder.specs.declared.record.Decoder.{Decoder}
-use Rattle.decoder.specs.declared.answers.Outcome.{Outcome}
-use Rattle.decoder.specs.declared.answers.Outcome.the-variants as H
-use Rattle.decoder.specs.Record.{Left, stopAs, storeBytes}
+use Rattle.playback.specs.declared.outcome.Outcome.{Outcome}
+use Rattle.playback.specs.declared.outcome.Outcome.the-variants as H
+use Rattle.playback.specs.State.{frames}
+use Rattle.playback.specs.Turns.{TurnState, Ended, gave, stopped, atPicture, pictures}
+use Rattle.playback.specs.Cases.{isThere, TurnIs, gives, holds, leaves, is-seven}
+use Rattle.playback.proofs.Cases.{turn-is}
+use Rattle.decoder.specs.Record.{Left, given, resumed, stopAs, storeBytes}
 use Rattle.decoder.specs.Possible.{possibleWith}
 use Rattle.decoder.specs.Headers.{Asked, refused, passed, askHeader, askStore}
-use Rattle.decoder.specs.Turns.{Going, going, Ended, gave, stopped, nextPicture}
-use Rattle.decoder.specs.HandOut.{pictures, ended, askFirst, begun, goOn}
-use Rattle.decoder.specs.Run.{call, behind}
+use Rattle.decoder.specs.HandOut.{ended, askFirst, begun, goOn}
+use Rattle.decoder.specs.Run.{Going, call, behind}
 use Rattle.decoder.proofs.Cleared.{begun-clears}
-use Rattle.demands.specs.Questions.{isThere}
 use Rattle.demands.specs.Display.{Coded, displayed, waiting, AllDecoded, picturesRead, askedReads, handOutReads, shownBy}
-use Rattle.demands.proofs.Keeps.{Keeps, sized}
-use Rattle.demands.proofs.RunTurns.{Stuck, Ends, hands, flushes, seven, stops, pictures-row}
+use Rattle.demands.proofs.Keeps.{Keeps, keeps-resumed, keeps-sized}
+use Rattle.demands.proofs.RunTurns.{hands, flushes, seven, stops}
 use Rattle.demands.proofs.Waiting.{Waits, Accepts, header-accepts}
 use Rattle.demands.proofs.RunCall.{Resting, keeps-possible, keeps-marked, keeps-call, stuck-call, marked-call, waits-possible, waits-marked, waits-call}
-use Rattle.demands.proofs.RunCall.{accepted-keeps}
-use Rattle.demands.proofs.TurnCases.{TurnIs, gives, holds, leaves, is-seven, turn-is}
-use Rattle.demands.proofs.Reached.{Fit}
-use Rattle.demands.proofs.DisplayTurn.{Showing, none-held, EndShows, reads-none}
+use Rattle.demands.proofs.RunCall.{StuckAt, EndsFrom, turns-end, accepted-keeps}
+use Rattle.demands.proofs.Reached.{RoomFor}
+use Rattle.demands.proofs.DisplayTurn.{ShowingAt, none-held, EndShows, reads-none}
 use Rattle.demands.proofs.DisplayTurns.{pictures-show}
 use Rattle.bits.specs.Bounds.{longestStream}
 
@@ -39,10 +42,18 @@ use Rattle.bits.specs.Bounds.{longestStream}
 abbrev pub Over : List ℕ → Going → Type 0
 Over s x = Resting s x ⊎ ((possibleWith s (x .decoder) ≡ true) × ((x .decoder .stop ≡ 8) ⊎ (x .decoder .stop ≡ 9)))
 
+-- of a record and a store
+abbrev pub ShowingIn : Decoder → List ℕ → List (List ℕ) → Type 0
+ShowingIn d l = ShowingAt (d .sequence .sizes) (given d l)
+
+-- what the turns from a record on read
+abbrev readsFrom : List ℕ → Decoder → List ℕ → List Coded
+readsFrom s d l = picturesRead s (d .sequence .sizes) (d .sequence .matrices) (given d l)
+
 -- between two calls, while h waits for display
 pub data Phase (s : List ℕ) (x : Going) (h : List (List ℕ)) : Type 0 where
   no-header : Waits s (x .decoder) → h ≡ [] → Phase s x h
-  under-way : Keeps s (x .decoder) (x .store) → Showing (x .decoder) (x .store) h → Phase s x h
+  under-way : Keeps s (x .decoder) (x .store) → ShowingIn (x .decoder) (x .store) h → Phase s x h
   over : Over s x → Phase s x h
 
 -- the pictures c were read while h waited: what is shown, and how it goes on; the second case is a flush
@@ -51,17 +62,17 @@ CallShows s h c r =
     ((shownBy (r .answer) (r .decoder) (r .store) ≡ displayed h c) × Phase s (behind r) (waiting h c)) ⊎
     ((shownBy (r .answer) (r .decoder) (r .store) ≡ displayed h c ++ waiting h c) × Over s (behind r))
 
-keeps-fit : {s : List ℕ} {d : Decoder} {l : List ℕ} → Keeps s d l → Fit d l
-keeps-fit {s} {d} k =
-    record { area = sized (d .sequence) (k .header) (k .sequence) .area; stores = picture-of (d .picture) (k .picture) .stores; long = k .long }
+keeps-room : {s : List ℕ} {d : Decoder} {l : List ℕ} → Keeps s d l → RoomFor (d .sequence .sizes) (given d l)
+keeps-room {s} {d} k =
+    record { area = keeps-sized k .area; stores = picture-of (d .state .picture) (k .turn .picture) .stores; long = k .turn .long }
 
 -- ---- what a call reads
 
 module _ (s : List ℕ) (short : length s ≤ longestStream) where
-  keeps-reads : (d : Decoder) (l : List ℕ) → Keeps s d l → handOutReads d s l ≡ picturesRead s (going d l)
+  keeps-reads : (d : Decoder) (l : List ℕ) → Keeps s d l → handOutReads d s l ≡ readsFrom s d l
   unfolding handOutReads askFirst askStore begun
   keeps-reads d l k =
-      let room = le-leb (storeBytes d) (length l) (k .long) in
+      let room = le-leb (storeBytes d) (length l) (k .turn .long) in
       rw (le-leb (length s) longestStream short, keeps-possible s short k, eq-eqb (d .stop) 0 (k .mark), k .header, room) refl
 
   waits-reads : (d : Decoder) (l : List ℕ) → Waits s d → handOutReads d s l ≡ askedReads s d l (askStore d l (askHeader s d))
@@ -75,23 +86,25 @@ module _ (s : List ℕ) (short : length s ≤ longestStream) where
       rw (le-leb (length s) longestStream short, p, z)
 
   -- a turn that answers 7 reads nothing
-  abbrev isSeven : Turn Going Ended → Bool
+  abbrev isSeven : Turn TurnState Ended → Bool
   isSeven (again y) = false
-  isSeven (stop (gave (H.Picture i) d l)) = false
-  isSeven (stop (gave (H.Refused n) d l)) = true
+  isSeven (stop (gave (H.Picture i) x)) = false
+  isSeven (stop (gave (H.Refused n) x)) = true
   isSeven (stop (stopped n l)) = false
 
-  seven-reads : (d : Decoder) (l : List ℕ) {t : Turn Going Ended} → TurnIs s d l t → isSeven t ≡ true → isThere s d ≡ false
-  seven-reads d l (gives h) e = absurd (true≢false (sym e))
-  seven-reads d l (holds i r b h) e = absurd (true≢false (sym e))
-  seven-reads d l (leaves i r) e = absurd (true≢false (sym e))
-  seven-reads d l (is-seven i u) e = i
+  seven-reads : {z : Sizes} {m : Matrices} {x : TurnState} {t : Turn TurnState Ended} → TurnIs s z m x t → isSeven t ≡ true → isThere s (x .state) ≡ false
+  seven-reads (gives h) e = absurd (true≢false (sym e))
+  seven-reads (holds i r b h) e = absurd (true≢false (sym e))
+  seven-reads (leaves i r) e = absurd (true≢false (sym e))
+  seven-reads (is-seven i u) e = i
 
-  stuck-reads : (d : Decoder) (l : List ℕ) → Stuck s d l → picturesRead s (going d l) ≡ []
+  stuck-reads : (d : Decoder) (l : List ℕ) → StuckAt s d l → readsFrom s d l ≡ []
   unfolding picturesRead
   stuck-reads d l t =
-      let none = seven-reads (nextPicture s d) l (turn-is s (going d l)) (ap isSeven t) in
-      rw (reads-none s (nextPicture s d) l none, t) refl
+      let z = d .sequence .sizes in
+      let m = d .sequence .matrices in
+      let none = seven-reads (turn-is s z m (given d l)) (ap isSeven t) in
+      rw (reads-none s z m (atPicture s (given d l)) none, t) refl
 
 -- ---- what a call shows
 
@@ -115,22 +128,24 @@ module _ (s : List ℕ) (short : length s ≤ longestStream) (bytes : (k : ℕ) 
         subst (λ (r : Left Outcome). Over s (behind r)) (sym e) (inr k),
       )
 
-  ended-shows : (d : Decoder) (n : ℕ) (h : List (List ℕ)) (c : List Coded) (e : Ended)
-      → ((i : ℕ) → (i ≡ 8) ⊎ (i ≡ 9) → possibleWith s (stopAs i d) ≡ true) → Ends s n e → EndShows n h c e → CallShows s h c (ended d e)
-  unfolding ended
-  ended-shows d n h c (gave (H.Picture i) x m) p (hands j q) (inl k) = inl (k .0, under-way j (k .1))
-  ended-shows d n h c (gave (H.Picture i) x m) p (hands j q) (inr k) = let f = k .1 in let no : ⊥ = omega arith in absurd no
-  ended-shows d n h c (gave (H.Picture i) x m) p (flushes j q u) (inl k) = inl (k .0, under-way j (k .1))
-  ended-shows d n h c (gave (H.Picture i) x m) p (flushes j q u) (inr k) = inr (k .0, inl (j, u))
-  ended-shows d n h c (gave (H.Refused i) x m) p (seven j q u) k = inl (sym k, over (inl (j, u)))
-  ended-shows d n h c (stopped i m) p (stops q) k = inl (sym k, over (inr (p i q, q)))
-
   -- the turns from x, m on, in a call that was given d
+  ended-shows : (d x : Decoder) (m : List ℕ) (n : ℕ) (h : List (List ℕ)) (c : List Coded) (e : Ended)
+      → ((i : ℕ) → (i ≡ 8) ⊎ (i ≡ 9) → possibleWith s (stopAs i d) ≡ true) → (k : Keeps s x m) → EndsFrom s short bytes x k n e
+      → EndShows (x .sequence .sizes) n h c e → CallShows s h c (ended d x e)
+  unfolding ended
+  ended-shows d x m n h c (gave (H.Picture i) y) p k (hands j q) (inl w) = inl (w .0, under-way (keeps-resumed k j) (w .1))
+  ended-shows d x m n h c (gave (H.Picture i) y) p k (hands j q) (inr w) = let f = w .1 in let no : ⊥ = omega arith in absurd no
+  ended-shows d x m n h c (gave (H.Picture i) y) p k (flushes j q u) (inl w) = inl (w .0, under-way (keeps-resumed k j) (w .1))
+  ended-shows d x m n h c (gave (H.Picture i) y) p k (flushes j q u) (inr w) = inr (w .0, inl (keeps-resumed k j, u))
+  ended-shows d x m n h c (gave (H.Refused i) y) p k (seven j q u) w = inl (sym w, over (inl (keeps-resumed k j, u)))
+  ended-shows d x m n h c (stopped i o) p k (stops q) w = inl (sym w, over (inr (p i q, q)))
+
   turns-show : (d x : Decoder) (m : List ℕ) (h : List (List ℕ)) → ((i : ℕ) → (i ≡ 8) ⊎ (i ≡ 9) → possibleWith s (stopAs i d) ≡ true) → Keeps s x m
-      → Showing x m h → AllDecoded (picturesRead s (going x m)) → CallShows s h (picturesRead s (going x m)) (ended d (pictures s (going x m)))
+      → ShowingIn x m h → AllDecoded (readsFrom s x m)
+      → CallShows s h (readsFrom s x m) (ended d x (pictures s (x .sequence .sizes) (x .sequence .matrices) (given x m)))
   turns-show d x m h p k w q =
-      ended-shows d (x .«frames_decoded») h (picturesRead s (going x m)) (pictures s (going x m)) p (pictures-row s short bytes x m k)
-      (pictures-show s (going x m) (keeps-fit k) w q)
+      ended-shows d x m (frames (x .state)) h (readsFrom s x m) (pictures s (x .sequence .sizes) (x .sequence .matrices) (given x m)) p k
+      (turns-end s short bytes x k) (pictures-show s (x .sequence .sizes) (x .sequence .matrices) (given x m) h (keeps-room k) w q)
 
   asked-shows : (d : Decoder) (l : List ℕ) → Waits s d → (a : Asked) → Accepts s a → AllDecoded (askedReads s d l (askStore d l a))
       → CallShows s [] (askedReads s d l (askStore d l a)) (goOn s d l (askStore d l a))
@@ -138,8 +153,9 @@ module _ (s : List ℕ) (short : length s ≤ longestStream) (bytes : (k : ℕ) 
   asked-shows d l k (refused n x) h = λ q. inl (refl, no-header h refl)
   asked-shows d l k (passed x) h =
       by-case (λ a. AllDecoded (askedReads s d l a) → CallShows s [] (askedReads s d l a) (goOn s d l a)) (leb (storeBytes x) (length l))
-      (λ e. subst (λ (z : Going). AllDecoded (picturesRead s z) → CallShows s [] (picturesRead s z) (ended d (pictures s z)))
-      (sym (begun-clears d x l (k .header)))
+      (λ e. subst (λ (y : TurnState). AllDecoded (picturesRead s (x .sequence .sizes) (x .sequence .matrices) y)
+      → CallShows s [] (picturesRead s (x .sequence .sizes) (x .sequence .matrices) y)
+      (ended d x (pictures s (x .sequence .sizes) (x .sequence .matrices) y))) (sym (begun-clears d x l (k .header)))
       (turns-show d x (cleared (storeBytes x) l) [] (λ i m. waits-marked s short i k m) (accepted-keeps s short l h e) (none-held (h .held))))
       (λ e q. inl (refl, no-header k refl))
 

@@ -10,11 +10,10 @@ use lib.Dec.{leb}
 use lib.ListN.{length, getD}
 use Rattle.decoder.specs.declared.answers.Opening.{Opening}
 use Rattle.decoder.specs.declared.answers.Opened.{Opened}
-use Rattle.decoder.specs.declared.answers.Outcome.{Outcome}
+use Rattle.playback.specs.declared.outcome.Outcome.{Outcome}
 use Rattle.decoder.specs.Record.{Left, left}
 use Rattle.decoder.specs.Opening.{opening}
-use Rattle.decoder.specs.Turns.{Going, going}
-use Rattle.decoder.specs.Run.{behind}
+use Rattle.decoder.specs.Run.{Going, going, behind}
 use Rattle.demands.specs.Calls.{Opens}
 use Rattle.demands.specs.Display.{Coded, displayed, waiting, displayOrder, AllDecoded, handOutReads, shownBy, Shows, none, and-then}
 use Rattle.demands.proofs.RunCall.{accepted-keeps}

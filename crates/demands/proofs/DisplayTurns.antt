@@ -1,66 +1,73 @@
 -- Order of display: what the turns of a hand-out show of the pictures that they read.
-use mathlib.Core.Path.{_≡_, sym, ap, ap₂, subst, _∙_}
-use mathlib.Core.Bool.{true, false≢true}
+use mathlib.Core.Path.{_≡_, refl, sym, ap, ap₂, subst, _∙_}
 use mathlib.Core.List.{List, [], _++_, append-nil}
 use mathlib.Core.Logic.{inl, inr}
 use Prim.Native.Nat.{ℕ}
-use Rattle.laws.specs.Turns.{Turn, again, stop, turns}
-use Rattle.decoder.specs.declared.answers.Outcome.the-variants as H
-use Rattle.decoder.specs.Turns.{Going, Ended, gave, stopped, nextPicture, pictureTurn}
-use Rattle.decoder.specs.HandOut.{pictures}
-use Rattle.decoder.proofs.TwoTurns.{Holds, isStop, goes-held, held-stops}
+use Rattle.laws.specs.Turns.{Turn, again, stop}
+use Rattle.picture.specs.declared.state.Matrices.{Matrices}
+use Rattle.picture.specs.declared.state.Sizes.{Sizes}
+use Rattle.playback.specs.declared.outcome.Outcome.the-variants as H
+use Rattle.playback.specs.State.{frames}
+use Rattle.playback.specs.Turns.{TurnState, Ended, gave, stopped, atPicture, pictureTurn, pictures}
+use Rattle.playback.specs.Cases.{TurnIs}
+use Rattle.playback.proofs.Next.{next-frames}
+use Rattle.playback.proofs.Cases.{turn-is}
+use Rattle.playback.proofs.TwoTurns.{Each, by-turns}
 use Rattle.demands.specs.Display.{Coded, displayed, waiting, AllDecoded, turnReads, picturesRead}
-use Rattle.demands.proofs.TurnCases.{turn-is}
-use Rattle.demands.proofs.Reached.{Fit, next-fit}
+use Rattle.demands.proofs.Reached.{RoomFor, next-room}
 use Rattle.demands.proofs.Display.{waiting-on, displayed-on, decoded-first, decoded-rest}
-use Rattle.demands.proofs.DisplayTurn.{Showing, next-showing, next-frames, EndShows, TurnShows, turn-shows}
+use Rattle.demands.proofs.DisplayTurn.{ShowingAt, next-showing, EndShows, On, TurnShows, turn-shows}
 
 -- the pictures a were read in silence before
-then-shows : (n : ℕ) (h : List (List ℕ)) (a b : List Coded) (e : Ended) → displayed h a ≡ [] → EndShows n (waiting h a) b e → EndShows n h (a ++ b) e
-then-shows n h a b e z = go e
+then-shows : (z : Sizes) (n : ℕ) (h : List (List ℕ)) (a b : List Coded) (e : Ended) → displayed h a ≡ [] → EndShows z n (waiting h a) b e
+    → EndShows z n h (a ++ b) e
+then-shows z n h a b e none = go e
   where
     shown : displayed h (a ++ b) ≡ displayed (waiting h a) b
-    shown = displayed-on h a b ∙ ap (λ (p : List (List ℕ)). p ++ displayed (waiting h a) b) z
+    shown = displayed-on h a b ∙ ap (λ (p : List (List ℕ)). p ++ displayed (waiting h a) b) none
 
     waits : waiting h (a ++ b) ≡ waiting (waiting h a) b
     waits = waiting-on h a b
 
-    go : (e : Ended) → EndShows n (waiting h a) b e → EndShows n h (a ++ b) e
-    go (gave (H.Picture i) x m) (inl q) = inl (q .0 ∙ sym shown, subst (Showing x m) (sym waits) (q .1))
-    go (gave (H.Picture i) x m) (inr q) = inr (q .0 ∙ ap₂ (λ (p w : List (List ℕ)). p ++ w) (sym shown) (sym waits), q .1)
-    go (gave (H.Refused k) x m) q = shown ∙ q
-    go (stopped k m) q = shown ∙ q
+    go : (e : Ended) → EndShows z n (waiting h a) b e → EndShows z n h (a ++ b) e
+    go (gave (H.Picture i) x) (inl q) = inl (q .0 ∙ sym shown, subst (ShowingAt z x) (sym waits) (q .1))
+    go (gave (H.Picture i) x) (inr q) = inr (q .0 ∙ ap₂ (λ (p w : List (List ℕ)). p ++ w) (sym shown) (sym waits), q .1)
+    go (gave (H.Refused k) x) q = shown ∙ q
+    go (stopped k l) q = shown ∙ q
 
-second-shows : (n : ℕ) (h : List (List ℕ)) (c : List Coded) (t : Turn Going Ended) → isStop t ≡ true → TurnShows n h c t
-    → EndShows n h c (elim t [ again y ↦ gave (H.Refused 7) (y .decoder) (y .store) | stop v ↦ v ])
-second-shows n h c (again y) i k = absurd (false≢true i)
-second-shows n h c (stop e) i k = k
+module _ (s : List ℕ) (z : Sizes) (m : Matrices) where
+  -- what the turn from x on reads
+  abbrev reads : TurnState → List Coded
+  reads x = turnReads s z m (atPicture s x)
 
--- the turn from y on, whose record is y's behind the search
-from-shows : (s : List ℕ) (y : Going) {h : List (List ℕ)} → Fit (y .decoder) (y .store) → Showing (y .decoder) (y .store) h
-    → AllDecoded (turnReads s (nextPicture s (y .decoder)) (y .store))
-    → TurnShows (y .decoder .«frames_decoded») h (turnReads s (nextPicture s (y .decoder)) (y .store)) (pictureTurn s y)
-from-shows s y {h} fit k q =
-    subst (λ (n : ℕ). TurnShows n h (turnReads s (nextPicture s (y .decoder)) (y .store)) (pictureTurn s y)) (next-frames s (y .decoder))
-    (turn-shows s (next-fit s fit) (next-showing s k) (turn-is s y) q)
+  from-shows : (x : TurnState) {h : List (List ℕ)} (n : ℕ) → frames (x .state) ≡ n → RoomFor z x → ShowingAt z x h → AllDecoded (reads x)
+      → (t : Turn TurnState Ended) → pictureTurn s z m x ≡ t → TurnShows z n h (reads x) t
+  from-shows x {h} n f room k q t e =
+      subst (λ (n : ℕ). TurnShows z n h (reads x) t) (next-frames s (x .state) ∙ f)
+      (turn-shows s z m (atPicture s x) (next-room s x room) (next-showing s z x h k) (subst (TurnIs s z m (atPicture s x)) e (turn-is s z m x)) q)
 
-first-shows : (s : List ℕ) (n : ℕ) (h : List (List ℕ)) (c : List Coded) (t : Turn Going Ended) → Holds t → TurnShows n h c t
-    → AllDecoded (c ++ (elim t [ again y ↦ turnReads s (nextPicture s (y .decoder)) (y .store) | stop e ↦ [] ]))
-    → EndShows n h (c ++ (elim t [ again y ↦ turnReads s (nextPicture s (y .decoder)) (y .store) | stop e ↦ [] ]))
-    (elim t [ again y ↦ turns 1 (pictureTurn s) (λ z. gave (H.Refused 7) (z .decoder) (z .store)) y | stop v ↦ v ])
-unfolding turns
-first-shows s n h c (again y) i k q =
-    let r = turnReads s (nextPicture s (y .decoder)) (y .store) in
-    let e = turns 1 (pictureTurn s) (λ z. gave (H.Refused 7) (z .decoder) (z .store)) y in
-    then-shows n h c r e (k .silent)
-    (subst (λ (j : ℕ). EndShows j (waiting h c) r e) (k .frames)
-    (second-shows (y .decoder .«frames_decoded») (waiting h c) r (pictureTurn s y) (held-stops s y i)
-    (from-shows s y (k .fit) (k .showing) (decoded-rest c r q))))
-first-shows s n h c (stop e) i k q = subst (λ (r : List Coded). EndShows n h r e) (sym (append-nil c)) k
+  pub pictures-show : (x : TurnState) (h : List (List ℕ)) → RoomFor z x → ShowingAt z x h → AllDecoded (picturesRead s z m x)
+      → EndShows z (frames (x .state)) h (picturesRead s z m x) (pictures s z m x)
+  unfolding picturesRead
+  pictures-show x h room k q =
+      by-turns s z m x (On z n h (reads x)) (λ y. On z n (waiting h (reads x)) (reads y)) (EndShows z n h (picturesRead s z m x))
+      (λ t e. first t e (from-shows x n refl room k (decoded-first (reads x) _ q) t e))
+      (λ y e o t f. second y e o t (from-shows y n (o .frames) (o .room) (o .showing) (decoded-rest (reads x) (reads y) (both y e)) t f))
+    where
+      n : ℕ
+      n = frames (x .state)
 
-pub pictures-show : (s : List ℕ) (x : Going) {h : List (List ℕ)} → Fit (x .decoder) (x .store) → Showing (x .decoder) (x .store) h
-    → AllDecoded (picturesRead s x) → EndShows (x .decoder .«frames_decoded») h (picturesRead s x) (pictures s x)
-unfolding pictures turns picturesRead
-pictures-show s x {h} fit k q =
-    let c = turnReads s (nextPicture s (x .decoder)) (x .store) in
-    first-shows s (x .decoder .«frames_decoded») h c (pictureTurn s x) (goes-held s x) (from-shows s x fit k (decoded-first c _ q)) q
+      -- the pictures of both turns
+      both : (y : TurnState) → pictureTurn s z m x ≡ again y → AllDecoded (reads x ++ reads y)
+      both y e = rw e at q
+
+      first : (t : Turn TurnState Ended) → pictureTurn s z m x ≡ t → TurnShows z n h (reads x) t
+          → Each (On z n h (reads x)) (EndShows z n h (picturesRead s z m x)) t
+      first (again y) e o = o
+      first (stop v) e o = rw e (subst (λ (r : List Coded). EndShows z n h r v) (sym (append-nil (reads x))) o)
+
+      second : (y : TurnState) → pictureTurn s z m x ≡ again y → On z n h (reads x) y → (t : Turn TurnState Ended)
+          → TurnShows z n (waiting h (reads x)) (reads y) t
+          → Each (On z n (waiting h (reads x)) (reads y)) (EndShows z n h (picturesRead s z m x)) t
+      second y e o (again v) p = p
+      second y e o (stop v) p = rw e (then-shows z n h (reads x) (reads y) v (o .silent) p)

@@ -17,15 +17,19 @@ use Rattle.header.specs.Store.{cleared}
 use Rattle.decoder.specs.declared.record.Decoder.{Decoder}
 use Rattle.decoder.specs.declared.answers.Opening.the-variants as O
 use Rattle.decoder.specs.declared.answers.Opened.{Opened}
-use Rattle.decoder.specs.declared.answers.Outcome.the-variants as H
+use Rattle.playback.specs.declared.outcome.Outcome.the-variants as H
 use Rattle.decoder.specs.declared.answers.Handed.{Handed}
-use Rattle.decoder.specs.Record.{fresh, place, startCode, storeBytes}
+use Rattle.picture.specs.declared.state.Matrices.{Matrices}
+use Rattle.picture.specs.declared.state.Sizes.{Sizes}
+use Rattle.playback.specs.State.{freshState}
+use Rattle.playback.specs.Turns.{TurnState, Ended, atPicture, pictureTurn}
+use Rattle.playback.specs.Cases.{isThere}
+use Rattle.decoder.specs.Record.{fresh, given, place, startCode, storeBytes}
 use Rattle.decoder.specs.Possible.{possible}
-use Rattle.decoder.specs.Turns.{Going, going, Ended, nextPicture, pictureTurn}
 use Rattle.demands.specs.Calls.{Opens, Decodes}
 use Rattle.demands.specs.Codes.{SequenceAt}
 use Rattle.demands.specs.Questions as Q
-use Rattle.demands.specs.Questions.{Question, ask, IsFirstNo, this-one, a-later, withHeader, isThere, pictureEnd, turnAsks, picturesAsk}
+use Rattle.demands.specs.Questions.{Question, ask, IsFirstNo, this-one, a-later, withHeader, pictureEnd, turnAsks, picturesAsk}
 use Rattle.demands.specs.Questions.{openingAsks}
 use Rattle.demands.proofs.Demand1.{open-says, open-means, decode-means}
 use Rattle.demands.proofs.Order.{Begins, asks-unheaded, says-4}
@@ -43,28 +47,27 @@ either (q ∷ a) (a-later y k) = go (either a k)
     go (inr i) = inr i
 
 -- those of a turn
-turn-number : {n : ℕ} (s : List ℕ) (d : Decoder) (l : List ℕ) → IsFirstNo n (turnAsks s d l) → 6 < n
+turn-number : {n : ℕ} (s : List ℕ) (z : Sizes) (m : Matrices) (x : TurnState) → IsFirstNo n (turnAsks s z m x) → 6 < n
 unfolding turnAsks
-turn-number {n} s d l = by-case (λ (qs : List Question). IsFirstNo n (Q.hasPicture s d ∷ qs) → 6 < n) (isThere s d) (λ t k. three k) (λ t k. one k)
+turn-number {n} s z m x =
+    by-case (λ (qs : List Question). IsFirstNo n (Q.hasPicture s (x .state) ∷ qs) → 6 < n) (isThere s (x .state)) (λ t k. three k) (λ t k. one k)
   where
-    three : IsFirstNo n (Q.hasPicture s d ∷ Q.isInside 8 (pictureEnd s d l) ∷ Q.isInside 9 (pictureEnd s d l) ∷ []) → 6 < n
+    three : IsFirstNo n (Q.hasPicture s (x .state) ∷ Q.isInside 8 (pictureEnd s z m x) ∷ Q.isInside 9 (pictureEnd s z m x) ∷ []) → 6 < n
     three (this-one e z) = omega arith
     three (a-later y (this-one e z)) = omega arith
     three (a-later y (a-later u (this-one e z))) = omega arith
 
-    one : IsFirstNo n (Q.hasPicture s d ∷ []) → 6 < n
+    one : IsFirstNo n (Q.hasPicture s (x .state) ∷ []) → 6 < n
     one (this-one e z) = omega arith
 
-pictures-number : {n : ℕ} (s : List ℕ) (x : Going) → IsFirstNo n (picturesAsk s x) → 6 < n
+pictures-number : {n : ℕ} (s : List ℕ) (z : Sizes) (m : Matrices) (x : TurnState) → IsFirstNo n (picturesAsk s z m x) → 6 < n
 unfolding picturesAsk
-pictures-number {n} s x k = go (pictureTurn s x) (either (turnAsks s (nextPicture s (x .decoder)) (x .store)) k)
+pictures-number {n} s z m x k = go (pictureTurn s z m x) (either (turnAsks s z m (atPicture s x)) k)
   where
-    go : (t : Turn Going Ended)
-        → IsFirstNo n (turnAsks s (nextPicture s (x .decoder)) (x .store)) ⊎
-        IsFirstNo n (elim t [ again y ↦ turnAsks s (nextPicture s (y .decoder)) (y .store) | stop e ↦ [] ])
-        → 6 < n
-    go t (inl i) = turn-number s _ _ i
-    go (again y) (inr i) = turn-number s _ _ i
+    go : (t : Turn TurnState Ended)
+        → IsFirstNo n (turnAsks s z m (atPicture s x)) ⊎ IsFirstNo n (elim t [ again y ↦ turnAsks s z m (atPicture s y) | stop e ↦ [] ]) → 6 < n
+    go t (inl i) = turn-number s z m (atPicture s x) i
+    go (again y) (inr i) = turn-number s z m (atPicture s y) i
 
 -- a number that is neither 3 nor 4
 other : {j n : ℕ} → (n ≡ 3) ⊎ (n ≡ 4) → j ≡ n → (j ≡ 3 → ⊥) → (j ≡ 4 → ⊥) → ⊥
@@ -82,7 +85,7 @@ module _ (s : List ℕ) (d : Decoder) (b : ℕ) (unread : eqZ (startCode d) (pos
 
 module _ (s l : List ℕ) (r : Opened) (m : List ℕ) (gave : Opens s l r m) (b : ℕ) (k : SequenceAt s (place fresh) b) where
   unread : eqZ (startCode fresh) (pos 0xb3) ≡ false
-  unfolding fresh
+  unfolding fresh freshState
   unread = refl
 
   pub open-edge-fails : length s ≤ longestStream → length s < b + 4 + 136 → r .answer ≡ O.Refused 4
@@ -111,11 +114,11 @@ module _ (d : Decoder) (s l : List ℕ) (r : Handed) (m : List ℕ) (gave : Deco
 
   pub decode-edge-passes : b + 4 + 136 ≤ length s → (n : ℕ) → r .outcome ≡ H.Refused n → (n ≡ 3) ⊎ (n ≡ 4) → ⊥
   decode-edge-passes f n e w =
-      go (going (withHeader s d) (cleared (storeBytes (withHeader s d)) l)) (subst (IsFirstNo n) (asks-unheaded d s l none) (decode-means d s l r m gave n e))
+      go (given (withHeader s d) (cleared (storeBytes (withHeader s d)) l)) (subst (IsFirstNo n) (asks-unheaded d s l none) (decode-means d s l r m gave n e))
     where
-      go : (x : Going)
+      go : (x : TurnState)
           → IsFirstNo n (Q.isShort s ∷ ask 2 (possible d) ∷ ask (d .stop) (eqb (d .stop) 0) ∷ Q.hasCode s d ∷ Q.hasBits s d ∷ Q.hasSize s d ∷
-          Q.hasStore (withHeader s d) l ∷ picturesAsk s x)
+          Q.hasStore (withHeader s d) l ∷ picturesAsk s (withHeader s d .sequence .sizes) (withHeader s d .sequence .matrices) x)
           → ⊥
       go x (this-one e z) = other w e (λ g. omega arith) (λ g. omega arith)
       go x (a-later y (this-one e z)) = other w e (λ g. omega arith) (λ g. omega arith)
@@ -125,4 +128,4 @@ module _ (d : Decoder) (s l : List ℕ) (r : Handed) (m : List ℕ) (gave : Deco
       go x (a-later y (a-later u (a-later v (a-later t (a-later q (this-one e z)))))) = other w e (λ g. omega arith) (λ g. omega arith)
       go x (a-later y (a-later u (a-later v (a-later t (a-later q (a-later o (this-one e z))))))) = other w e (λ g. omega arith) (λ g. omega arith)
       go x (a-later y (a-later u (a-later v (a-later t (a-later q (a-later o (a-later p i))))))) =
-          let h = pictures-number s x i in ⊎-elim (λ (g : n ≡ 3). omega arith) (λ (g : n ≡ 4). omega arith) w
+          let h = pictures-number s (withHeader s d .sequence .sizes) (withHeader s d .sequence .matrices) x i in ⊎-elim (λ (g : n ≡ 3). omega arith) (λ (g : n ≡ 4). omega arith) w

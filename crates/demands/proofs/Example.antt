@@ -44,10 +44,13 @@ use Rattle.laws.specs.Each.{allBelow}
 use Rattle.decoder.specs.Possible.{possible}
 use Rattle.decoder.specs.Headers.{findSequence, accepted, askSize, askHeader, askStore}
 use Rattle.decoder.specs.Opening.{opened, openingFrom, opening}
-use Rattle.decoder.specs.Turns.{nextPicture, isFollowed, timeOf, counted, handed, shown, flushed, pastPicture, decoded, searched, pictureTurn}
-use Rattle.decoder.specs.HandOut.{pictures, ended, askFirst, begun, goOn, handOut}
+use Rattle.playback.specs.State.{freshState}
+use Rattle.playback.specs.Search.{nextCode, isFollowed}
+use Rattle.playback.specs.Display.{timeOf, counted, handed, shown, flushed}
+use Rattle.playback.specs.Turns.{pastPicture, decoded, searched, pictureTurn, pictures}
+use Rattle.decoder.specs.HandOut.{ended, askFirst, begun, goOn, handOut}
 use Rattle.decoder.specs.declared.answers.Opening.{Opening}
-use Rattle.decoder.specs.declared.answers.Outcome.{Outcome}
+use Rattle.playback.specs.declared.outcome.Outcome.{Outcome}
 
 -- 32 × 16 samples
 abbrev headerBytes : List ℕ
@@ -174,7 +177,7 @@ unfolding clamp255 half0 odd storeRow storeRows turns allBelow ofInt div
     macroblockType scale vector forward backward vectors head pattern blockPlace results written blockEnd oneBlock lastBlocks blocks skipReset
     advance predictUnlessIntra body firstOf laterOf macroblock extraTurn extra pastMacroblock sliceTurn slice P.direction P.backwardHeader
     P.forwardHeader P.pictureHeader P.pastSlice P.slicesTurn P.slices P.coded P.picture
-    fresh cleared possible matrix size rest findSequence accepted askSize askHeader askStore opened openingFrom opening nextPicture isFollowed timeOf
+    fresh freshState cleared possible matrix size rest findSequence accepted askSize askHeader askStore opened openingFrom opening nextCode isFollowed timeOf
     counted handed shown flushed pastPicture decoded searched pictureTurn pictures ended askFirst begun goOn handOut
 shown-pictures = record {
   hands = refl;

@@ -17,6 +17,7 @@ use Rattle.bits.proofs.Programs.{served-has, refused-has}
 use Rattle.bits.proofs.Rules.{at-find}
 use Rattle.decoder.specs.declared.record.Decoder.{Decoder}
 use Rattle.decoder.specs.Record.{place, startCode, searchedAs}
+use Rattle.playback.specs.Search.{nextCode}
 use Rattle.decoder.specs.Headers.{findSequence}
 use Rattle.demands.specs.Codes.{CodeAt, SequenceAt}
 use Rattle.demands.specs.Questions.{hasCode, hasBits}
@@ -55,7 +56,7 @@ seeks s a b k = at-find (pos 0xb3) (found-there s a b k) refl
 
 module _ (s : List ℕ) (d : Decoder) (b : ℕ) (no-code : eqZ (startCode d) (pos 0xb3) ≡ false) (k : SequenceAt s (place d) b) where
   pub finds : findSequence s d ≡ searchedAs (pos 0xb3) ((b + 4) * 8) d
-  unfolding findSequence
+  unfolding findSequence nextCode
   finds = rw no-code (ap (λ (o : Out ℤ). searchedAs (o .value) (o .at) d) (seeks s (place d) b k .is))
 
   -- question 3 is answered "yes", and question 4 exactly if 136 bytes are behind the code

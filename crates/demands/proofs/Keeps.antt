@@ -8,35 +8,48 @@ use lib.Dec.{leb}
 use lib.IntN.{ℤ, pos, negℤ}
 use lib.ListN.{length}
 use borrow.Author.Tests.{eqb-true, leb-true}
-use Rattle.laws.specs.Turns.{stop}
 use Rattle.laws.proofs.Tests.{both, each}
 use Rattle.codes.specs.Matrices.{bounded}
 use Rattle.picture.specs.declared.state.Sizes.{Sizes}
 use Rattle.picture.specs.declared.state.Picture.{Picture}
 use Rattle.picture.specs.State.{startCodeAs}
 use Rattle.picture.specs.Possible.{between, possiblePicture}
-use Rattle.picture.specs.Pictures.{picture}
 use Rattle.picture.proofs.Possible.{picture-of, picture-by}
 use Rattle.header.specs.declared.state.Sequence.{Sequence}
 use Rattle.header.specs.Possible.{across, sizesOf, sameSizes, possibleSequence}
+use Rattle.prediction.specs.Planes.{storesBytes}
+use Rattle.playback.specs.State.{place, frames, searchedAs}
+use Rattle.playback.specs.Display.{counted}
+use Rattle.playback.specs.Turns.{TurnState, inState}
 use Rattle.decoder.specs.declared.record.Decoder.{Decoder}
-use Rattle.decoder.specs.Record.{place, startCode, heldAs, searchedAs, storeBytes}
-use Rattle.decoder.specs.Turns.{counted}
+use Rattle.decoder.specs.Record.{given, resumed}
 
--- what a record keeps from an accepted header on, with no stop mark. 29 bits are read for each picture handed out; before a picture start code that
--- is in the record bits are left
+-- what the turns keep, of the sizes, the place, the picture, the left-over coefficients, the count of pictures handed out and the store: 29 bits are
+-- read for each picture handed out; before a picture start code that is in the state bits are left
+pub record TurnKeeps (s : List ℕ) (z : Sizes) (a : ℕ) (p : Picture) (c : List ℤ) (n : ℕ) (l : List ℕ) : Type 0 where
+  pub picture : possiblePicture p ≡ true
+  pub block : bounded c ≡ true
+  pub long : storesBytes (z .«mb_size») ≤ length l
+  pub inside : a ≤ length s * 8
+  pub ahead : p .«start_code» ≡ pos 0 → a < length s * 8
+  pub count : 29 * n ≤ a
+
+abbrev pub KeepsAt : List ℕ → Sizes → TurnState → Type 0
+KeepsAt s z x = TurnKeeps s z (place (x .state)) (x .state .picture) (x .«block_data») (frames (x .state)) (x .store)
+
+-- what a record keeps from an accepted header on, with no stop mark
 pub record Keeps (s : List ℕ) (d : Decoder) (l : List ℕ) : Type 0 where
   pub header : d .sequence .«has_sequence_header» ≡ true
   pub sequence : possibleSequence (d .sequence) ≡ true
-  pub picture : possiblePicture (d .picture) ≡ true
-  pub block : bounded (d .«block_data») ≡ true
   pub mark : d .stop ≡ 0
-  pub long : storeBytes d ≤ length l
-  pub inside : place d ≤ length s * 8
-  pub ahead : startCode d ≡ pos 0 → place d < length s * 8
-  pub count : 29 * d .«frames_decoded» ≤ place d
+  pub turn : KeepsAt s (d .sequence .sizes) (given d l)
 
--- ---- changes of a record that keep it
+-- behind turns
+pub keeps-resumed : {s : List ℕ} {d : Decoder} {l : List ℕ} {x : TurnState} → Keeps s d l → KeepsAt s (d .sequence .sizes) x
+    → Keeps s (resumed d x) (x .store)
+keeps-resumed k h = record { header = k .header; sequence = k .sequence; mark = k .mark; turn = h }
+
+-- ---- changes of a state that keep it
 
 -- another start code, within -1..255
 pub code-possible : (c : ℤ) (p : Picture) → between (negℤ (pos 1)) (pos 255) c ≡ true → possiblePicture p ≡ true
@@ -45,43 +58,18 @@ code-possible c p h k =
     let x = picture-of p k in
     picture-by {p = startCodeAs c p} (record { type = x .type; code = h; stores = x .stores; slice = x .slice })
 
-module _ {s : List ℕ} {d : Decoder} {l : List ℕ} (k : Keeps s d l) where
-  pub keeps-held : (b : Bool) → Keeps s (heldAs b d) l
-  keeps-held b = record {
-    header = k .header;
-    sequence = k .sequence;
-    picture = k .picture;
-    block = k .block;
-    mark = k .mark;
-    long = k .long;
-    inside = k .inside;
-    ahead = k .ahead;
-    count = k .count;
-  }
-
-  pub keeps-counted : 29 * d .«frames_decoded» + 29 ≤ place d → Keeps s (counted d) l
+module _ {s : List ℕ} {z : Sizes} (x : TurnState) (k : KeepsAt s z x) where
+  pub keeps-counted : 29 * frames (x .state) + 29 ≤ place (x .state) → KeepsAt s z (inState (counted (x .state)) x)
   unfolding counted
-  keeps-counted h = record {
-    header = k .header;
-    sequence = k .sequence;
-    picture = k .picture;
-    block = k .block;
-    mark = k .mark;
-    long = k .long;
-    inside = k .inside;
-    ahead = k .ahead;
-    count = omega arith;
-  }
+  keeps-counted h =
+      record { picture = k .picture; block = k .block; long = k .long; inside = k .inside; ahead = k .ahead; count = omega arith }
 
-  pub keeps-searched : (c : ℤ) (e : ℕ) → between (negℤ (pos 1)) (pos 255) c ≡ true → place d ≤ e → e ≤ length s * 8
+  pub keeps-searched : (c : ℤ) (e : ℕ) → between (negℤ (pos 1)) (pos 255) c ≡ true → place (x .state) ≤ e → e ≤ length s * 8
       → (c ≡ pos 0 → e < length s * 8)
-      → Keeps s (searchedAs c e d) l
+      → KeepsAt s z (inState (searchedAs c e (x .state)) x)
   keeps-searched c e h f m a = record {
-    header = k .header;
-    sequence = k .sequence;
-    picture = code-possible c (d .picture) h (k .picture);
+    picture = code-possible c (x .state .picture) h (k .picture);
     block = k .block;
-    mark = k .mark;
     long = k .long;
     inside = m;
     ahead = a;
@@ -106,3 +94,6 @@ sized q h p =
     let wide : q .sizes .«mb_width» ≡ across (q .width) = eqb-true _ _ (w 0) in
     let high : q .sizes .«mb_height» ≡ across (q .height) = eqb-true _ _ (w 1) in
     record { wide = omega arith; high = omega arith; area = eqb-true _ _ (w 2) ∙ sym (ap₂ _*_ wide high) }
+
+pub keeps-sized : {s : List ℕ} {d : Decoder} {l : List ℕ} → Keeps s d l → Sized (d .sequence .sizes)
+keeps-sized {d = d} k = sized (d .sequence) (k .header) (k .sequence)

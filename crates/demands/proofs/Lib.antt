@@ -1,9 +1,7 @@
 pub mod Questions
 pub mod Causes
-pub mod PictureStores
 pub mod OtherStores
 pub mod PictureLeft
-pub mod TurnCases
 pub mod Reached
 pub mod Codes
 pub mod AfterHeader

@@ -12,11 +12,10 @@ use Rattle.laws.proofs.Tests.{by-case}
 use Rattle.decoder.specs.declared.record.Decoder.{Decoder}
 use Rattle.decoder.specs.declared.answers.Opening.{Opening}
 use Rattle.decoder.specs.declared.answers.Opening.the-variants as O
-use Rattle.decoder.specs.declared.answers.Outcome.{Outcome}
-use Rattle.decoder.specs.declared.answers.Outcome.the-variants as H
+use Rattle.playback.specs.declared.outcome.Outcome.{Outcome}
+use Rattle.playback.specs.declared.outcome.Outcome.the-variants as H
 use Rattle.decoder.specs.Opening.{opening}
-use Rattle.decoder.specs.Turns.{Going, going}
-use Rattle.decoder.specs.Run.{call, pictureIn}
+use Rattle.decoder.specs.Run.{Going, going, call, pictureIn}
 use Rattle.decoder.specs.Listing.{Line, line, linesFrom, linesOf, listing}
 use Rattle.demands.specs.Lines.{Lines, a-picture, the-number}
 use Rattle.demands.proofs.Numbers.{opening-named, hand-named, positive, opening-positive}
@@ -26,7 +25,7 @@ use Rattle.demands.proofs.Run.{opening-begins}
 
 -- the line of an answer, and those behind it
 abbrev lines : ℕ → Outcome → Decoder → List Line → List Line
-lines n o d t = elim o [ H.Picture p ↦ line (n + 1) (p .store) (d .picture .«picture_type») 0 ∷ t | H.Refused a ↦ line n 0 0 a ∷ [] ]
+lines n o d t = elim o [ H.Picture p ↦ line (n + 1) (p .store) (d .state .picture .«picture_type») 0 ∷ t | H.Refused a ↦ line n 0 0 a ∷ [] ]
 
 module _ (s : List ℕ) (most : length s ≤ longestStream) (bytes : (k : ℕ) → getD s k 0 < 256) where
   lines-from : (j n : ℕ) (x : Going) → Between s x n → 8 * length s / 29 + 1 < n + j → Lines n (linesFrom j s n (x .decoder) (x .store))
@@ -40,7 +39,7 @@ module _ (s : List ℕ) (most : length s ≤ longestStream) (bytes : (k : ℕ) �
       go : (o : Outcome) (d : Decoder) (l : List ℕ) → Between s (going d l) (n + pictureIn o) → ((a : ℕ) → o ≡ H.Refused a → 1 ≤ a)
           → ((y : Going) → Between s y (n + 1) → Lines (n + 1) (linesFrom j s (n + 1) (y .decoder) (y .store)))
           → Lines n (lines n o d (linesFrom j s (n + 1) d l))
-      go (H.Picture i) d l c q r = a-picture (i .store) (d .picture .«picture_type») (r (going d l) c)
+      go (H.Picture i) d l c q r = a-picture (i .store) (d .state .picture .«picture_type») (r (going d l) c)
       go (H.Refused a) d l c q r = the-number a (q a refl)
 
   lines-of : (l : List ℕ) → Lines 0 (linesOf s (opening s l))

@@ -8,18 +8,20 @@ use native.Mathlib.Omega.{arith}
 use lib.Dec.{eqb}
 use lib.ListN.{length}
 use borrow.Author.Tests.{le-leb, lt-leb, eq-eqb, ne-eqb}
-use Rattle.picture.specs.Ways.{out}
+use Rattle.picture.specs.Ways.{Way, out}
+use Rattle.picture.specs.Pictures.{Frame}
 use Rattle.header.specs.Store.{cleared}
 use Rattle.decoder.specs.declared.record.Decoder.{Decoder}
-use Rattle.decoder.specs.declared.answers.Outcome.the-variants as H
+use Rattle.playback.specs.declared.outcome.Outcome.the-variants as H
 use Rattle.decoder.specs.declared.answers.Handed.{Handed}
-use Rattle.decoder.specs.Record.{storeBytes}
+use Rattle.decoder.specs.Record.{given, storeBytes}
 use Rattle.decoder.specs.Possible.{possible}
-use Rattle.decoder.specs.Turns.{going, nextPicture}
+use Rattle.playback.specs.Turns.{atPicture}
+use Rattle.playback.specs.Cases.{isThere, isFlush}
 use Rattle.decoder.specs.HandOut.{begun}
 use Rattle.demands.specs.Calls.{Decodes}
 use Rattle.demands.specs.Questions as Q
-use Rattle.demands.specs.Questions.{Question, ask, firstNo, withHeader, isThere, isFlush, pictureEnd, turnAsks, picturesAsk, handOutAsks}
+use Rattle.demands.specs.Questions.{Question, ask, firstNo, withHeader, pictureEnd, turnAsks, picturesAsk, handOutAsks}
 use Rattle.demands.proofs.Questions.{is-first}
 use Rattle.demands.proofs.Demand1.{decode-says}
 use Rattle.bits.specs.Bounds.{longestStream}
@@ -28,7 +30,7 @@ module _ (d : Decoder) (s l : List ℕ) where
   -- with a header: 1, 2, the stop mark, 6, and the pictures' 7, 8, 9
   pub asks-headed : d .sequence .«has_sequence_header» ≡ true
       → handOutAsks d s l
-      ≡ Q.isShort s ∷ ask 2 (possible d) ∷ ask (d .stop) (eqb (d .stop) 0) ∷ Q.hasStore d l ∷ picturesAsk s (going d l)
+      ≡ Q.isShort s ∷ ask 2 (possible d) ∷ ask (d .stop) (eqb (d .stop) 0) ∷ Q.hasStore d l ∷ picturesAsk s (d .sequence .sizes) (d .sequence .matrices) (given d l)
   unfolding handOutAsks begun
   asks-headed h = rw h refl
 
@@ -36,7 +38,8 @@ module _ (d : Decoder) (s l : List ℕ) where
   pub asks-unheaded : d .sequence .«has_sequence_header» ≡ false
       → handOutAsks d s l
       ≡ Q.isShort s ∷ ask 2 (possible d) ∷ ask (d .stop) (eqb (d .stop) 0) ∷ Q.hasCode s d ∷ Q.hasBits s d ∷ Q.hasSize s d ∷
-      Q.hasStore (withHeader s d) l ∷ picturesAsk s (going (withHeader s d) (cleared (storeBytes (withHeader s d)) l))
+      Q.hasStore (withHeader s d) l ∷ picturesAsk s (withHeader s d .sequence .sizes) (withHeader s d .sequence .matrices)
+      (given (withHeader s d) (cleared (storeBytes (withHeader s d)) l))
   unfolding handOutAsks begun
   asks-unheaded h = rw h refl
 
@@ -89,23 +92,27 @@ module _ (d : Decoder) (s l : List ℕ) (r : Handed) (m : List ℕ) (gave : Deco
     says-6-new c h z k = says 6 (omega arith) (from _ b (asks-unheaded d s l none) ∙ rw (c, h, z, lt-leb (storeBytes (withHeader s d)) (length l) k))
 
   module _ (b : Begins d s) (header : d .sequence .«has_sequence_header» ≡ true) where
+    -- how the first picture ends
+    abbrev endAt : Way Frame
+    endAt = pictureEnd s (d .sequence .sizes) (d .sequence .matrices) (atPicture s (given d l))
+
     -- the store is too short for the header that an earlier call read
     pub says-6 : length l < storeBytes d → r .outcome ≡ H.Refused 6
     unfolding firstNo
     says-6 k = says 6 (omega arith) (from _ b (asks-headed d s l header) ∙ rw (lt-leb (storeBytes d) (length l) k) refl)
 
     -- no picture to decode, and none to flush
-    pub says-7 : storeBytes d ≤ length l → isThere s (nextPicture s d) ≡ false → isFlush s (nextPicture s d) ≡ false → r .outcome ≡ H.Refused 7
+    pub says-7 : storeBytes d ≤ length l → isThere s (atPicture s (given d l) .state) ≡ false → isFlush s (atPicture s (given d l) .state) ≡ false → r .outcome ≡ H.Refused 7
     unfolding firstNo picturesAsk turnAsks
     says-7 k t u = says 7 (omega arith) (from _ b (asks-headed d s l header) ∙ rw (le-leb (storeBytes d) (length l) k, t, u))
 
     -- the picture leaves early with 8
-    pub says-8 : storeBytes d ≤ length l → isThere s (nextPicture s d) ≡ true → {x : List ℕ} → pictureEnd s (nextPicture s d) l ≡ out 8 x
+    pub says-8 : storeBytes d ≤ length l → isThere s (atPicture s (given d l) .state) ≡ true → {x : List ℕ} → endAt ≡ out 8 x
         → r .outcome ≡ H.Refused 8
     unfolding firstNo picturesAsk turnAsks
     says-8 k t e = says 8 (omega arith) (from _ b (asks-headed d s l header) ∙ rw (le-leb (storeBytes d) (length l) k, t, e))
 
-    pub says-9 : storeBytes d ≤ length l → isThere s (nextPicture s d) ≡ true → {x : List ℕ} → pictureEnd s (nextPicture s d) l ≡ out 9 x
+    pub says-9 : storeBytes d ≤ length l → isThere s (atPicture s (given d l) .state) ≡ true → {x : List ℕ} → endAt ≡ out 9 x
         → r .outcome ≡ H.Refused 9
     unfolding firstNo picturesAsk turnAsks
     says-9 k t e = says 9 (omega arith) (from _ b (asks-headed d s l header) ∙ rw (le-leb (storeBytes d) (length l) k, t, e))

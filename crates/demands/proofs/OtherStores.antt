@@ -1,5 +1,5 @@
 -- RULES D2.3, Q8, Q9: decoding a picture changes no byte outside its own store, and leaves early with a cause.
-use mathlib.Core.Path.{_≡_, refl, sym, _∙_}
+use mathlib.Core.Path.{_≡_, refl, sym, ap, _∙_}
 use mathlib.Core.Bool.{Bool}
 use mathlib.Core.List.{List}
 use mathlib.Core.Logic.{_⊎_, ⊎-elim}
@@ -11,6 +11,8 @@ use lib.IntN.{ℤ}
 use lib.ListN.{length}
 use Rattle.laws.proofs.Lists.{length-mid, put-before, put-after, length-rows}
 use Rattle.laws.proofs.Tests.{by-case}
+use Rattle.bits.specs.Programs.{nextStartCode}
+use Rattle.bits.proofs.Gives.{g-any, g-as}
 use Rattle.coefficients.specs.declared.quantiser.Quantiser.{Quantiser}
 use Rattle.coefficients.specs.Blocks.{Filled, firstOnly}
 use Rattle.prediction.specs.declared.place.Place.{Place}
@@ -24,12 +26,16 @@ use Rattle.prediction.specs.Predict.{macroblockAt, blockOf, bytes, fetch, predi
 use Rattle.prediction.specs.Planes.{After, blockSize, planeOf, planeLength, planeStart, offset, follow, next, predictedPlanes, storesBytes}
 use Rattle.prediction.specs.Writers.{setConst, overwrite, addConst, addBlock, blockWidth, blockPlace}
 use Rattle.picture.specs.declared.state.Context.{Context}
+use Rattle.picture.specs.declared.state.Matrices.{Matrices}
 use Rattle.picture.specs.Blocks.{results, written}
+use Rattle.picture.specs.Heads.{head}
+use Rattle.picture.specs.Increments.{increment}
 use Rattle.picture.specs.Predictions.{unlessRefused}
+use Rattle.picture.proofs.Exits.{Ways}
+use Rattle.picture.proofs.Walk.{Invariant, Keeps}
 use Rattle.demands.specs.Causes.{Cause, dc, prediction}
 use Rattle.demands.specs.Stores.{SameBut}
-use Rattle.demands.proofs.Causes.{fetch-past}
-use Rattle.demands.proofs.PictureStores.{Ways, Keeping}
+use Rattle.demands.proofs.Causes.{isOutside, block-caused, fetch-past}
 
 -- ---- a part of the picture number k is replaced
 
@@ -134,13 +140,29 @@ module _ (s : List ℕ) (g : Context) (l : List ℕ) (area : g .sizes .«mb_size
       put-same-but (g .sizes .«mb_size») (g .stores .cur) at size l m ys (omega arith) (omega arith) fit
       (results-length q f (blockPlace b number) (blockWidth b number) (midOf at size m) ∙ length-mid at size m fit) e
 
-  pub keeping : Keeping s g S O
+  abbrev pub otherStores : Invariant
+  otherStores = record {
+    start = λ x. Unit {0};
+    slice = λ x. Unit {0};
+    block = λ c. Unit {0};
+    store = S;
+    code = λ k. Unit {0};
+    exit = O;
+  }
+
+  pub keeping : (m : Matrices) → Keeps s g m otherStores
   unfolding predictedPlanes
-  keeping = record {
+  keeping m = record {
+    codes = g-any nextStartCode;
+    starts = λ number q x h j k. tt;
+    first = g-as (λ n u x k. tt) (g-any increment);
+    next = λ n x h k. tt;
+    skips = λ n x h k. tt;
+    heads = λ t x k. g-any (head (g .«picture_type») t x);
+    blocks = λ intra number x c h k j. g-as (λ r e. record { slice = tt; block = tt; outside = λ o m i. (i, dc (e (ap isOutside o))) }) (block-caused _ _ _ _ _);
     writes = written-same;
     predicts = λ a from h v interpolate m e.
         next-ways S O _ _ (plane-ways a from interpolate Y h v m e) (λ m₁ e₁.
         next-ways S O _ _ (plane-ways a from interpolate Cr (chroma h) (chroma v) m₁ e₁)
         (λ m₂ e₂. plane-ways a from interpolate Cb (chroma h) (chroma v) m₂ e₂));
-    stops = λ o m e. (e, dc o);
   }

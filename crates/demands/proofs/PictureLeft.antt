@@ -19,7 +19,8 @@ use Rattle.picture.specs.Pictures as P
 use Rattle.prediction.specs.Planes.{storesBytes}
 use Rattle.demands.specs.Causes.{Cause}
 use Rattle.demands.specs.Stores.{SameBut}
-use Rattle.demands.proofs.PictureStores.{Ways, Framed, slices-ways, onward-ways, ways-as}
+use Rattle.picture.proofs.Exits.{Ways, ways-as, onward-ways}
+use Rattle.picture.proofs.Walk.{Framed, slices-ways}
 use Rattle.demands.proofs.OtherStores.{keeping}
 
 -- RULES 7.2: the roles of the stores behind a picture of this type that is decoded
@@ -61,17 +62,18 @@ module _ (s : List ℕ) (z : Sizes) (m : Matrices) (area : z .«mb_size» ≡ z 
   coded-left f cur long =
       let p = f .picture in
       let q = storesAs (P.before (p .stores)) p in
-      let c = keeping s (P.contextOf z p) (f .store) area cur long in
-      let d = keeping s (P.contextOf z q) (f .store) area cur long in
+      let c = keeping s (P.contextOf z p) (f .store) area cur long m in
+      let d = keeping s (P.contextOf z q) (f .store) area cur long m in
       g-if (eqb (p .«picture_type») 3)
-      (λ b. g-as (ways-as (Stopped f) {P = Framed c m p} {Q = Left z f true}
+      (λ b. g-as (ways-as (Stopped f) {P = Framed c p} {Q = Left z f true}
       (λ x k. record {
         store = k .store;
         stores = λ e. k .stores ∙ sym (ap (λ (t : ℕ). turned t (p .stores)) (k .type) ∙ three (p .«picture_type») b);
         others = λ e. absurd (true≢false e);
       }))
-      (slices-ways c m f same-but))
-      (λ b. onward-ways (Stopped f) {P = Framed d m q} _ (slices-ways d m (P.inPicture q f) same-but)
+      (slices-ways c p f (record { type = refl; stores = refl; code = tt; slice = tt; block = tt; store = same-but })))
+      (λ b. onward-ways (Stopped f) {P = Framed d q} _
+      (slices-ways d q (P.inPicture q f) (record { type = refl; stores = refl; code = tt; slice = tt; block = tt; store = same-but }))
       (λ x k. g-done (record {
         store = k .store;
         stores = λ e. sym (ap (λ (t : ℕ). turned t (p .stores)) (k .type) ∙ other (p .«picture_type») b);

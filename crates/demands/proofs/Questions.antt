@@ -1,6 +1,6 @@
 -- RULES D1.4: each call answers the number of its first question whose answer is "no", and a result where there is none. Assumes nothing.
-use mathlib.Core.Path.{_≡_, refl, sym, ap, _∙_}
-use mathlib.Core.Bool.{Bool, true, false, cond, not, _&&_, _||_, false≢true}
+use mathlib.Core.Path.{_≡_, refl, sym, ap, subst, _∙_}
+use mathlib.Core.Bool.{Bool, true, false, cond, not, _&&_, _||_}
 use mathlib.Core.List.{List, [], _∷_, _++_, append-nil}
 use mathlib.Core.Logic.{_⊎_, inl, inr}
 use Prim.Native.Nat.{ℕ, _<_}
@@ -8,28 +8,31 @@ use native.Mathlib.Omega.{arith}
 use lib.Dec.{eqb, leb}
 use lib.IntN.{negsuc}
 use lib.ListN.{length}
-use Rattle.laws.specs.Turns.{Turn, again, stop, turns}
+use Rattle.laws.specs.Turns.{Turn, again, stop}
 use Rattle.bits.specs.Bounds.{longestStream}
 use Rattle.bits.specs.Bits.{has}
-use Rattle.bits.specs.Programs.{eqZ}
-use Rattle.laws.proofs.Tests.{by-case}
-use Rattle.picture.specs.Ways.{Way, on, out}
-use Rattle.picture.specs.Pictures.{Frame, picture}
+use Rattle.bits.specs.Programs.{Out, eqZ}
+use Rattle.picture.specs.declared.state.Matrices.{Matrices}
+use Rattle.picture.specs.declared.state.Sizes.{Sizes}
+use Rattle.picture.specs.Ways.{Way, out}
+use Rattle.picture.specs.Pictures.{Frame}
 use Rattle.picture.proofs.Kept.{Ends, SameLength, picture-leaves}
 use Rattle.conversion.specs.Pictures.{fits}
 use Rattle.decoder.specs.declared.record.Decoder.{Decoder}
 use Rattle.decoder.specs.declared.answers.Opening.{Opening}
-use Rattle.decoder.specs.declared.answers.Outcome.{Outcome}
-use Rattle.decoder.specs.declared.answers.Outcome.the-variants as H
-use Rattle.decoder.specs.Record.{Left, fresh, place, startCode, storeBytes, frameOf}
+use Rattle.playback.specs.declared.outcome.Outcome.{Outcome}
+use Rattle.playback.specs.declared.outcome.Outcome.the-variants as H
+use Rattle.playback.specs.State as S
+use Rattle.playback.specs.Turns.{TurnState, Ended, gave, stopped, frameOf, atPicture, pictureRun, pictureTurn, pictures}
+use Rattle.playback.specs.Cases.{isThere, isFlush, Reads, b-picture, held-picture, flushed-picture, TurnIs, gives, holds, leaves, is-seven}
+use Rattle.playback.proofs.Cases.{turn-is}
+use Rattle.playback.proofs.TwoTurns.{Each, by-turns}
+use Rattle.decoder.specs.Record.{Left, fresh, place, startCode, storeBytes}
 use Rattle.decoder.specs.Possible.{possible, possibleWith}
 use Rattle.decoder.specs.Headers.{Asked, refused, passed, findSequence, askSize, askHeader, askStore}
 use Rattle.decoder.specs.Opening.{opened, openingFrom, opening}
-use Rattle.decoder.specs.Turns.{Going, Ended, gave, stopped, nextPicture, hasEnded, isFollowed, isReference}
-use Rattle.decoder.specs.Turns.{handed, shown, flushed, pastPicture, decoded, searched, pictureTurn}
-use Rattle.decoder.specs.HandOut.{pictures, ended, askFirst, begun, goOn, handOut}
+use Rattle.decoder.specs.HandOut.{ended, askFirst, begun, goOn, handOut}
 use Rattle.decoder.specs.Conversion.{Area, converted}
-use Rattle.decoder.proofs.TwoTurns.{Holds, isStop, goes-held, held-stops}
 use Rattle.decoder.specs.Answers.{openingNumber, handOutNumber, conversionNumber}
 use Rattle.demands.specs.Questions as Q
 use Rattle.demands.specs.Questions.{Question, ask, firstNo, IsFirstNo, this-one, a-later, withSize, withHeader, turnAsks, picturesAsk}
@@ -86,85 +89,102 @@ opening-asks s l =
 -- ---- the pictures of a hand-out
 
 abbrev endNumber : Ended → ℕ
-endNumber (gave o d l) = handOutNumber o
+endNumber (gave o x) = handOutNumber o
 endNumber (stopped n l) = n
 
 -- a turn that goes on has said "yes" to its questions
-abbrev TurnSays : List Question → Turn Going Ended → Type 0
-TurnSays qs (again y) = (rs : List Question) → firstNo (qs ++ rs) ≡ firstNo rs
-TurnSays qs (stop e) = endNumber e ≡ firstNo qs
+abbrev Yes : List Question → Type 0
+Yes qs = (rs : List Question) → firstNo (qs ++ rs) ≡ firstNo rs
 
-shown-says : (d : Decoder) (l : List ℕ) → TurnSays (ask 7 true ∷ ask 8 true ∷ ask 9 true ∷ []) (shown d l)
-unfolding shown handed firstNo
-shown-says d l =
-    let P = TurnSays (ask 7 true ∷ ask 8 true ∷ ask 9 true ∷ []) in
-    by-case P (eqb (d .picture .«picture_type») 3) (λ e. refl) (λ e. by-case P (d .«has_reference_frame») (λ e. refl) (λ e rs. refl))
+abbrev Says : List Question → Ended → Type 0
+Says qs e = endNumber e ≡ firstNo qs
 
-past-says : (d : Decoder) (l : List ℕ) (w : Way Frame) (a : ℕ) → Ends (length l) (SameLength l) w
-    → TurnSays (ask 7 true ∷ Q.isInside 8 w ∷ Q.isInside 9 w ∷ []) (pastPicture d (record { value = w; at = a }))
-unfolding pastPicture firstNo
-past-says d l (on f) a h = shown-says _ _
-past-says d l (out n m) a h = go (h .0)
-  where
-    go : (n ≡ 8) ⊎ (n ≡ 9) → n ≡ firstNo (ask 7 true ∷ ask 8 (not (eqb n 8)) ∷ ask 9 (not (eqb n 9)) ∷ [])
-    go (inl e) = rw e refl
-    go (inr e) = rw e refl
+module _ (s : List ℕ) (z : Sizes) (m : Matrices) where
+  -- a picture is there, and is read to its end
+  read-asks : (x : TurnState) {f : Frame} {a : ℕ} → isThere s (x .state) ≡ true → Reads s z m x f a
+      → turnAsks s z m x ≡ ask 7 true ∷ ask 8 true ∷ ask 9 true ∷ []
+  unfolding turnAsks
+  read-asks x i r = rw i (ap (λ (o : Out (Way Frame)). ask 7 true ∷ Q.isInside 8 (o .value) ∷ Q.isInside 9 (o .value) ∷ []) r)
 
--- found or not, followed or not, flushed or not
-choice-says : (t f u : Bool) (o : Outcome) (x : Decoder) (d : Decoder) (l : List ℕ) (p : Turn Going Ended) (p8 p9 : Question) → handOutNumber o ≡ 0
-    → TurnSays (ask 7 true ∷ p8 ∷ p9 ∷ []) p
-    → TurnSays (ask 7 (not t && f || t && u) ∷ cond (not t && f) (p8 ∷ p9 ∷ []) [])
-    (cond t (stop (cond u (gave o x l) (gave (H.Refused 7) d l))) (cond f p (stop (gave (H.Refused 7) d l))))
-unfolding firstNo
-choice-says true f true o x d l p p8 p9 z h = z
-choice-says true f false o x d l p p8 p9 z h = refl
-choice-says false true u o x d l p p8 p9 z h = h
-choice-says false false u o x d l p p8 p9 z h = refl
+  -- it leaves early
+  leave-asks : (x : TurnState) {n a : ℕ} {l : List ℕ} → isThere s (x .state) ≡ true → pictureRun s z m x ≡ record { value = out n l; at = a }
+      → turnAsks s z m x ≡ ask 7 true ∷ ask 8 (not (eqb n 8)) ∷ ask 9 (not (eqb n 9)) ∷ []
+  unfolding turnAsks
+  leave-asks x i r = rw i (ap (λ (o : Out (Way Frame)). ask 7 true ∷ Q.isInside 8 (o .value) ∷ Q.isInside 9 (o .value) ∷ []) r)
 
-turn-says : (s : List ℕ) (x : Going) → TurnSays (turnAsks s (nextPicture s (x .decoder)) (x .store)) (pictureTurn s x)
-unfolding pictureTurn searched flushed decoded turnAsks
-turn-says s x =
-    let d = nextPicture s (x .decoder) in
-    let l = x .store in
-    choice-says (eqZ (startCode d) (negsuc 0)) (isFollowed s (place d)) (d .«has_reference_frame» && hasEnded s (place d) && isReference d) _ _ d l _ _ _ refl
-    (past-says d l _ _ (picture-leaves _ _ (frameOf d l) s (place d)))
+  -- none is there
+  none-asks : (x : TurnState) {b : Bool} → isThere s (x .state) ≡ false → isFlush s (x .state) ≡ b → turnAsks s z m x ≡ ask 7 b ∷ []
+  unfolding turnAsks
+  none-asks x i u = rw (i, u)
 
--- RULES 8.7: with a reference held the second turn ends the call
-second-says : (qs : List Question) (t : Turn Going Ended) → isStop t ≡ true → TurnSays qs t
-    → endNumber (elim t [ again y ↦ gave (H.Refused 7) (y .decoder) (y .store) | stop v ↦ v ]) ≡ firstNo qs
-second-says qs (again y) i h = absurd (false≢true i)
-second-says qs (stop e) i h = h
+  leave-says : (x : TurnState) {n a : ℕ} {l : List ℕ} → isThere s (x .state) ≡ true → pictureRun s z m x ≡ record { value = out n l; at = a }
+      → n ≡ firstNo (turnAsks s z m x)
+  unfolding firstNo
+  leave-says x {n} i r =
+      go (subst (λ (o : Out (Way Frame)). Ends (length (x .store)) (SameLength (x .store)) (o .value)) r
+      (picture-leaves z m (frameOf x) s (S.place (x .state))) .0) ∙ ap firstNo (sym (leave-asks x i r))
+    where
+      go : (n ≡ 8) ⊎ (n ≡ 9) → n ≡ firstNo (ask 7 true ∷ ask 8 (not (eqb n 8)) ∷ ask 9 (not (eqb n 9)) ∷ [])
+      go (inl e) = rw e refl
+      go (inr e) = rw e refl
 
-first-says : (s : List ℕ) (qs : List Question) (t : Turn Going Ended) → Holds t → TurnSays qs t
-    → endNumber (elim t [ again y ↦ turns 1 (pictureTurn s) (λ y. gave (H.Refused 7) (y .decoder) (y .store)) y | stop v ↦ v ])
-    ≡ firstNo (qs ++ (elim t [ again y ↦ turnAsks s (nextPicture s (y .decoder)) (y .store) | stop e ↦ [] ]))
-unfolding turns
-first-says s qs (again y) i h = second-says _ (pictureTurn s y) (held-stops s y i) (turn-says s y) ∙ sym (h _)
-first-says s qs (stop e) i h = h ∙ ap firstNo (sym (append-nil qs))
+  turn-says : (x : TurnState) {t : Turn TurnState Ended} → TurnIs s z m x t → Each (λ y. Yes (turnAsks s z m x)) (Says (turnAsks s z m x)) t
+  unfolding firstNo
+  turn-says x (gives (b-picture i r b)) = ap firstNo (sym (read-asks x i r))
+  turn-says x (gives (held-picture i r b h)) = ap firstNo (sym (read-asks x i r))
+  turn-says x (gives (flushed-picture i u)) = ap firstNo (sym (none-asks x i u))
+  turn-says x (holds i r b h) = λ rs. ap (λ (qs : List Question). firstNo (qs ++ rs)) (read-asks x i r)
+  turn-says x (leaves i r) = leave-says x i r
+  turn-says x (is-seven i u) = ap firstNo (sym (none-asks x i u))
 
-pictures-say : (s : List ℕ) (x : Going) → endNumber (pictures s x) ≡ firstNo (picturesAsk s x)
-unfolding pictures turns picturesAsk
-pictures-say s x = first-says s _ (pictureTurn s x) (goes-held s x) (turn-says s x)
+  -- the turn from x on
+  from-says : (x : TurnState) (t : Turn TurnState Ended) → pictureTurn s z m x ≡ t
+      → Each (λ y. Yes (turnAsks s z m (atPicture s x))) (Says (turnAsks s z m (atPicture s x))) t
+  from-says x t e = turn-says (atPicture s x) (subst (TurnIs s z m (atPicture s x)) e (turn-is s z m x))
+
+  pictures-say : (x : TurnState) → Says (picturesAsk s z m x) (pictures s z m x)
+  unfolding picturesAsk
+  pictures-say x =
+      by-turns s z m x (λ y. Yes (turnAsks s z m (atPicture s x))) (λ y v. Unit {0}) (Says (picturesAsk s z m x))
+      (λ t e. first t e (from-says x t e)) (λ y e k t f. second y e k t (from-says y t f))
+    where
+      -- the questions of one turn, and of two
+      first : (t : Turn TurnState Ended) → pictureTurn s z m x ≡ t
+          → Each (λ y. Yes (turnAsks s z m (atPicture s x))) (Says (turnAsks s z m (atPicture s x))) t
+          → Each (λ y. Yes (turnAsks s z m (atPicture s x))) (Says (picturesAsk s z m x)) t
+      first (again y) e h = h
+      first (stop v) e h = rw e (h ∙ ap firstNo (sym (append-nil (turnAsks s z m (atPicture s x)))))
+
+      second : (y : TurnState) → pictureTurn s z m x ≡ again y → Yes (turnAsks s z m (atPicture s x)) → (t : Turn TurnState Ended)
+          → Each (λ v. Yes (turnAsks s z m (atPicture s y))) (Says (turnAsks s z m (atPicture s y))) t
+          → Each (λ v. Unit {0}) (Says (picturesAsk s z m x)) t
+      second y e k (again v) h = tt
+      second y e k (stop v) h = rw e (h ∙ sym (k (turnAsks s z m (atPicture s y))))
 
 -- ---- a hand-out
 
-ended-number : (d : Decoder) (e : Ended) → handOutNumber (ended d e .answer) ≡ endNumber e
+ended-number : (d x : Decoder) (e : Ended) → handOutNumber (ended d x e .answer) ≡ endNumber e
 unfolding ended
-ended-number d (gave o x l) = refl
-ended-number d (stopped n l) = refl
+ended-number d x (gave o y) = refl
+ended-number d x (stopped n l) = refl
 
 module _ (d : Decoder) (s l : List ℕ) where
   abbrev N : Asked → ℕ
   N a = handOutNumber (goOn s d l a .answer)
 
-  store-asks : (x : Decoder) → N (askStore d l (passed x)) ≡ firstNo (Q.hasStore x l ∷ picturesAsk s (begun d x l))
+  -- the questions of the pictures
+  abbrev asks : Decoder → List Question
+  asks x = picturesAsk s (x .sequence .sizes) (x .sequence .matrices) (begun d x l)
+
+  store-asks : (x : Decoder) → N (askStore d l (passed x)) ≡ firstNo (Q.hasStore x l ∷ asks x)
   unfolding askStore goOn firstNo
-  store-asks x = if-yes N (leb (storeBytes x) (length l)) (ended-number d _ ∙ pictures-say s (begun d x l)) refl
+  store-asks x =
+      if-yes N (leb (storeBytes x) (length l)) (ended-number d x _ ∙ pictures-say s (x .sequence .sizes) (x .sequence .matrices) (begun d x l)) refl
 
   first-asks : (b : Bool)
       → N (askStore d l (cond b (passed d) (askHeader s d)))
       ≡ firstNo (cond b [] (Q.hasCode s d ∷ Q.hasBits s d ∷ Q.hasSize s d ∷ []) ++
-      (Q.hasStore (cond b d (withHeader s d)) l ∷ picturesAsk s (begun d (cond b d (withHeader s d)) l)))
+      (Q.hasStore (cond b d (withHeader s d)) l ∷ asks (cond b d (withHeader s d))))
   unfolding askStore goOn
   first-asks true = store-asks d
   first-asks false = header-asks (λ a. N (askStore d l a)) (λ n x. refl) s d _ (store-asks (withHeader s d))

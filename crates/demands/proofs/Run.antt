@@ -12,15 +12,14 @@ use Rattle.laws.proofs.Tests.{by-case}
 use Rattle.header.specs.Store.{cleared}
 use Rattle.decoder.specs.declared.record.Decoder.{Decoder}
 use Rattle.decoder.specs.declared.answers.Opening.{Opening}
-use Rattle.decoder.specs.declared.answers.Outcome.{Outcome}
-use Rattle.decoder.specs.declared.answers.Outcome.the-variants as H
+use Rattle.playback.specs.declared.outcome.Outcome.{Outcome}
+use Rattle.playback.specs.declared.outcome.Outcome.the-variants as H
 use Rattle.decoder.specs.Record.{Left, left, fresh, storeBytes}
 use Rattle.decoder.specs.Possible.{possibleWith}
 use Rattle.decoder.specs.Headers.{Asked, refused, passed, askHeader, askStore}
 use Rattle.decoder.specs.Opening.{opened, openingFrom, opening}
-use Rattle.decoder.specs.Turns.{Going, going}
 use Rattle.decoder.specs.HandOut.{handOut}
-use Rattle.decoder.specs.Run.{call, behind, begin, before, answer, handedOut}
+use Rattle.decoder.specs.Run.{Going, going, call, behind, begin, before, answer, handedOut}
 use Rattle.decoder.specs.Answers.{handOutNumber}
 use Rattle.demands.proofs.Waiting.{Waits, Accepted, fresh-waits, Accepts, header-accepts}
 use Rattle.demands.proofs.RunCall.{Between, waiting, live, Resting, accepted-keeps, waits-possible, stuck-call, call-on, few, admitted}

@@ -13,20 +13,21 @@ use Rattle.laws.proofs.Tests.{by-case}
 use Rattle.header.specs.Store.{cleared}
 use Rattle.header.proofs.Clearing.{cleared-length}
 use Rattle.decoder.specs.declared.record.Decoder.{Decoder}
-use Rattle.decoder.specs.declared.answers.Shown.{Shown}
-use Rattle.decoder.specs.declared.answers.Outcome.{Outcome}
-use Rattle.decoder.specs.declared.answers.Outcome.the-variants as H
-use Rattle.decoder.specs.Record.{Left, left, place, stopAs, storeBytes, mostPictures}
+use Rattle.playback.specs.declared.outcome.Shown.{Shown}
+use Rattle.playback.specs.declared.outcome.Outcome.{Outcome}
+use Rattle.playback.specs.declared.outcome.Outcome.the-variants as H
+use Rattle.playback.specs.State.{frames, mostPictures}
+use Rattle.playback.specs.Turns.{TurnState, Ended, gave, stopped, pictureTurn, pictures}
+use Rattle.decoder.specs.Record.{Left, left, given, resumed, place, stopAs, storeBytes}
 use Rattle.decoder.specs.Possible.{possible, possibleWith}
 use Rattle.decoder.specs.Headers.{Asked, refused, passed, askHeader, askStore}
-use Rattle.decoder.specs.Turns.{Going, going, Ended, gave, stopped, pictureTurn}
-use Rattle.decoder.specs.HandOut.{pictures, ended, askFirst, begun, goOn, handOut}
-use Rattle.decoder.specs.Run.{call, behind, pictureIn}
+use Rattle.decoder.specs.HandOut.{ended, askFirst, begun, goOn, handOut}
+use Rattle.decoder.specs.Run.{Going, going, call, behind, pictureIn}
 use Rattle.decoder.proofs.Cleared.{begun-clears}
 use Rattle.demands.specs.After.{AfterHeader, after-3, after-4, after-5}
 use Rattle.decoder.specs.Answers.{handOutNumber}
 use Rattle.demands.proofs.AfterHeader.{AskAfter, header-after}
-use Rattle.demands.proofs.Keeps.{Keeps}
+use Rattle.demands.proofs.Keeps.{Keeps, keeps-resumed, keeps-sized}
 use Rattle.demands.proofs.RunTurns.{Stuck, Ends, hands, flushes, seven, stops, pictures-row}
 use Rattle.demands.proofs.Waiting.{Waits, waits-sequence, Accepted, Accepts, header-accepts}
 use Rattle.bits.specs.Bounds.{longestStream, lastPosition}
@@ -38,28 +39,37 @@ all-true p q r t u v = rw (p, q, r, t, u, v)
 
 -- ---- a call that is given a record with a header
 
+-- of a record and a store
+abbrev pub StuckAt : List ℕ → Decoder → List ℕ → Type 0
+StuckAt s d l = Stuck s (d .sequence .sizes) (d .sequence .matrices) (given d l)
+
 module _ (s : List ℕ) (short : length s ≤ longestStream) where
   pub keeps-possible : {d : Decoder} {l : List ℕ} → Keeps s d l → possibleWith s d ≡ true
   unfolding possible
   keeps-possible {d} {l} k =
-      all-true (le-leb (place d) lastPosition (omega arith)) (k .sequence) (k .picture) (k .block) (le-leb (d .«frames_decoded») mostPictures (omega arith))
-      (rw (k .mark) refl)
+      all-true (le-leb (place d) lastPosition (omega (arith, k .turn .inside))) (k .sequence) (k .turn .picture) (k .turn .block)
+      (le-leb (frames (d .state)) mostPictures (omega (arith, k .turn .count, k .turn .inside))) (rw (k .mark) refl)
 
   pub keeps-marked : {d : Decoder} {l : List ℕ} (n : ℕ) → Keeps s d l → (n ≡ 8) ⊎ (n ≡ 9) → possibleWith s (stopAs n d) ≡ true
   unfolding possible
   keeps-marked {d} {l} n k m =
-      all-true (le-leb (place d) lastPosition (omega arith)) (k .sequence) (k .picture) (k .block) (le-leb (d .«frames_decoded») mostPictures (omega arith))
+      all-true (le-leb (place d) lastPosition (omega (arith, k .turn .inside))) (k .sequence) (k .turn .picture) (k .turn .block)
+      (le-leb (frames (d .state)) mostPictures (omega (arith, k .turn .count, k .turn .inside)))
       (⊎-elim (λ (e : n ≡ 8). rw e refl) (λ (e : n ≡ 9). rw e refl) m)
 
   -- the questions 3 to 6 are passed, and the turns follow
-  pub keeps-call : (d : Decoder) (l : List ℕ) → Keeps s d l → handOut d s l ≡ ended d (pictures s (going d l))
+  pub keeps-call : (d : Decoder) (l : List ℕ) → Keeps s d l
+      → handOut d s l ≡ ended d d (pictures s (d .sequence .sizes) (d .sequence .matrices) (given d l))
   unfolding handOut askFirst askStore goOn begun
   keeps-call d l k =
-      rw (le-leb (length s) longestStream short, keeps-possible k, eq-eqb (d .stop) 0 (k .mark), k .header, le-leb (storeBytes d) (length l) (k .long)) refl
+      let room = le-leb (storeBytes d) (length l) (k .turn .long) in
+      rw (le-leb (length s) longestStream short, keeps-possible k, eq-eqb (d .stop) 0 (k .mark), k .header, room) refl
 
-  pub stuck-call : (d : Decoder) (l : List ℕ) → Keeps s d l → Stuck s d l → handOut d s l ≡ left (H.Refused 7) d l
+  pub stuck-call : (d : Decoder) (l : List ℕ) → Keeps s d l → StuckAt s d l → handOut d s l ≡ left (H.Refused 7) d l
   unfolding ended pictures
-  stuck-call d l k t = keeps-call d l k ∙ ap (ended d) (turns-stop (pictureTurn s) 1 _ (going d l) (gave (H.Refused 7) d l) t)
+  stuck-call d l k t =
+      keeps-call d l k
+      ∙ ap (ended d d) (turns-stop (pictureTurn s (d .sequence .sizes) (d .sequence .matrices)) 1 _ (given d l) (gave (H.Refused 7) (given d l)) t)
 
   pub marked-call : (d : Decoder) (l : List ℕ) → possibleWith s d ≡ true → (d .stop ≡ 8) ⊎ (d .stop ≡ 9)
       → handOut d s l ≡ left (H.Refused (d .stop)) d l
@@ -74,38 +84,47 @@ module _ (s : List ℕ) (short : length s ≤ longestStream) where
   unfolding possible
   waits-possible {d} k =
       all-true (le-leb (place d) lastPosition (omega (arith, k .inside))) (waits-sequence k) (k .picture) (k .block)
-      (le-leb (d .«frames_decoded») mostPictures (omega (arith, k .count))) (rw (k .mark) refl)
+      (le-leb (frames (d .state)) mostPictures (omega (arith, k .count))) (rw (k .mark) refl)
 
   pub waits-marked : {d : Decoder} (n : ℕ) → Waits s d → (n ≡ 8) ⊎ (n ≡ 9) → possibleWith s (stopAs n d) ≡ true
   unfolding possible
   waits-marked {d} n k m =
       all-true (le-leb (place d) lastPosition (omega (arith, k .inside))) (waits-sequence k) (k .picture) (k .block)
-      (le-leb (d .«frames_decoded») mostPictures (omega (arith, k .count))) (⊎-elim (λ (e : n ≡ 8). rw e refl) (λ (e : n ≡ 9). rw e refl) m)
+      (le-leb (frames (d .state)) mostPictures (omega (arith, k .count))) (⊎-elim (λ (e : n ≡ 8). rw e refl) (λ (e : n ≡ 9). rw e refl) m)
 
   pub waits-call : (d : Decoder) (l : List ℕ) → Waits s d → handOut d s l ≡ goOn s d l (askStore d l (askHeader s d))
   unfolding handOut askFirst
   waits-call d l k = rw (le-leb (length s) longestStream short, waits-possible k, eq-eqb (d .stop) 0 (k .mark), k .header) refl
 
   -- a header is accepted in this call
-  pub accepted-call : (d x : Decoder) (l : List ℕ) → Waits s d → goOn s d l (passed x) ≡ ended d (pictures s (going x (cleared (storeBytes x) l)))
+  pub accepted-call : (d x : Decoder) (l : List ℕ) → Waits s d
+      → goOn s d l (passed x) ≡ ended d x (pictures s (x .sequence .sizes) (x .sequence .matrices) (given x (cleared (storeBytes x) l)))
   unfolding goOn
-  accepted-call d x l k = ap (λ (z : Going). ended d (pictures s z)) (begun-clears d x l (k .header))
+  accepted-call d x l k = ap (λ (z : TurnState). ended d x (pictures s (x .sequence .sizes) (x .sequence .matrices) z)) (begun-clears d x l (k .header))
 
   pub accepted-keeps : {x : Decoder} (l : List ℕ) → Accepted s x → leb (storeBytes x) (length l) ≡ true → Keeps s x (cleared (storeBytes x) l)
   accepted-keeps {x} l k e =
       let h = leb-true (storeBytes x) (length l) e in k .keeps (cleared (storeBytes x) l) (omega (arith, cleared-length (storeBytes x) l h))
+
+-- how the turns from the record x on end
+abbrev pub EndsFrom : (s : List ℕ) → length s ≤ longestStream → ((k : ℕ) → getD s k 0 < 256) → (x : Decoder) {m : List ℕ} → Keeps s x m → ℕ → Ended → Type 0
+EndsFrom s short bytes x k = Ends s (x .sequence .sizes) (x .sequence .matrices) short bytes (keeps-sized k)
+
+pub turns-end : (s : List ℕ) (short : length s ≤ longestStream) (bytes : (k : ℕ) → getD s k 0 < 256) (x : Decoder) {m : List ℕ} (k : Keeps s x m)
+    → EndsFrom s short bytes x k (frames (x .state)) (pictures s (x .sequence .sizes) (x .sequence .matrices) (given x m))
+turns-end s short bytes x {m} k = pictures-row s (x .sequence .sizes) (x .sequence .matrices) short bytes (keeps-sized k) (given x m) (k .turn)
 
 -- ---- between two calls
 
 -- record and store, with n pictures handed out so far
 pub data Between (s : List ℕ) (x : Going) (n : ℕ) : Type 0 where
   waiting : Waits s (x .decoder) → n ≡ 0 → Between s x n
-  live : Keeps s (x .decoder) (x .store) → n ≡ x .decoder .«frames_decoded» → Between s x n
-  stuck : Keeps s (x .decoder) (x .store) → Stuck s (x .decoder) (x .store) → n ≤ x .decoder .«frames_decoded» + 1 → Between s x n
+  live : Keeps s (x .decoder) (x .store) → n ≡ frames (x .decoder .state) → Between s x n
+  stuck : Keeps s (x .decoder) (x .store) → StuckAt s (x .decoder) (x .store) → n ≤ frames (x .decoder .state) + 1 → Between s x n
   marked : possibleWith s (x .decoder) ≡ true → (x .decoder .stop ≡ 8) ⊎ (x .decoder .stop ≡ 9) → 29 * n ≤ length s * 8 + 29 → Between s x n
 
 abbrev pub Resting : List ℕ → Going → Type 0
-Resting s x = Keeps s (x .decoder) (x .store) × Stuck s (x .decoder) (x .store)
+Resting s x = Keeps s (x .decoder) (x .store) × StuckAt s (x .decoder) (x .store)
 
 not-seven : {A : Type 0} {n : ℕ} → (n ≡ 8) ⊎ (n ≡ 9) → n ≡ 7 → A
 not-seven (inl e) h = let no : ⊥ = omega arith in absurd no
@@ -122,25 +141,34 @@ header-number (after-5 e f g) = omega arith
 
 module _ (s : List ℕ) (short : length s ≤ longestStream) (bytes : (k : ℕ) → getD s k 0 < 256) where
   -- the turns from x, m on, in a call that was given d
-  ended-on : (d x : Decoder) (m : List ℕ) (n : ℕ) (e : Ended) → Keeps s x m → n ≡ x .«frames_decoded»
+  ended-on : (d x : Decoder) (m : List ℕ) (n : ℕ) (e : Ended) → (k : Keeps s x m) → n ≡ frames (x .state)
       → ((i : ℕ) → (i ≡ 8) ⊎ (i ≡ 9) → possibleWith s (stopAs i d) ≡ true)
-      → Ends s (x .«frames_decoded») e
-      → Between s (behind (ended d e)) (n + pictureIn (ended d e .answer))
+      → EndsFrom s short bytes x k (frames (x .state)) e
+      → Between s (behind (ended d x e)) (n + pictureIn (ended d x e .answer))
   unfolding ended
-  ended-on d x m n (gave (H.Picture i) y o) k q p (hands j e) = live j (omega arith)
-  ended-on d x m n (gave (H.Picture i) y o) k q p (flushes j e u) = stuck j u (omega arith)
-  ended-on d x m n (gave (H.Refused i) y o) k q p (seven j e u) = stuck j u (omega arith)
-  ended-on d x m n (stopped i o) k q p (stops e) = marked (p i e) e (omega arith)
+  ended-on d x m n (gave (H.Picture i) y) k q p (hands j e) = live (keeps-resumed k j) (omega arith)
+  ended-on d x m n (gave (H.Picture i) y) k q p (flushes j e u) = stuck (keeps-resumed k j) u (omega arith)
+  ended-on d x m n (gave (H.Refused i) y) k q p (seven j e u) = stuck (keeps-resumed k j) u (omega arith)
+  ended-on d x m n (stopped i o) k q p (stops e) = marked (p i e) e (omega (arith, k .turn .count, k .turn .inside))
 
   -- R.2: a call that answers 7 leaves a record and a store at which every call answers 7
-  ended-seven : (d : Decoder) (n : ℕ) (e : Ended) → Ends s n e → ended d e .answer ≡ H.Refused 7 → Resting s (behind (ended d e))
+  ended-seven : (d x : Decoder) (m : List ℕ) (n : ℕ) (e : Ended) → (k : Keeps s x m) → EndsFrom s short bytes x k n e
+      → ended d x e .answer ≡ H.Refused 7 → Resting s (behind (ended d x e))
   unfolding ended
-  ended-seven d n (gave (H.Picture i) x m) r h = not-picture h
-  ended-seven d n (gave (H.Refused i) x m) (seven j e u) h = (j, u)
-  ended-seven d n (stopped i m) (stops e) h = not-seven e (ap handOutNumber h)
+  ended-seven d x m n (gave (H.Picture i) y) k r h = not-picture h
+  ended-seven d x m n (gave (H.Refused i) y) k (seven j e u) h = (keeps-resumed k j, u)
+  ended-seven d x m n (stopped i o) k (stops e) h = not-seven e (ap handOutNumber h)
 
   abbrev Onward : ℕ → Left Outcome → Type 0
   Onward n r = Between s (behind r) (n + pictureIn (r .answer)) × (r .answer ≡ H.Refused 7 → Resting s (behind r))
+
+  turns-on : (d x : Decoder) (m : List ℕ) (n : ℕ) → Keeps s x m → n ≡ frames (x .state)
+      → ((i : ℕ) → (i ≡ 8) ⊎ (i ≡ 9) → possibleWith s (stopAs i d) ≡ true)
+      → Onward n (ended d x (pictures s (x .sequence .sizes) (x .sequence .matrices) (given x m)))
+  turns-on d x m n k q p =
+      let e = pictures s (x .sequence .sizes) (x .sequence .matrices) (given x m) in
+      let r = turns-end s short bytes x k in
+      (ended-on d x m n e k q p r, ended-seven d x m (frames (x .state)) e k r)
 
   asked-on : (d : Decoder) (l : List ℕ) → Waits s d → (a : Asked) → Accepts s a → AskAfter s d a → Onward 0 (goOn s d l (askStore d l a))
   unfolding askStore goOn
@@ -149,11 +177,8 @@ module _ (s : List ℕ) (short : length s ≤ longestStream) (bytes : (k : ℕ) 
   asked-on d l k (passed x) h r =
       by-case (λ a. Onward 0 (goOn s d l a)) (leb (storeBytes x) (length l))
       (λ e. let j = accepted-keeps s short l h e in
-      let t = pictures-row s short bytes x (cleared (storeBytes x) l) j in
-      subst (Onward 0) (sym (accepted-call s short d x l k)) (
-        ended-on d x (cleared (storeBytes x) l) 0 (pictures s (going x (cleared (storeBytes x) l))) j (sym (h .count)) (λ i m. waits-marked s short i k m) t,
-        ended-seven d (x .«frames_decoded») (pictures s (going x (cleared (storeBytes x) l))) t,
-      ))
+      subst (Onward 0) (sym (accepted-call s short d x l k))
+      (turns-on d x (cleared (storeBytes x) l) 0 j (sym (h .count)) (λ i m. waits-marked s short i k m)))
       (λ e. (waiting k refl, λ q. let z : _≡_ {A = ℕ} 6 7 = ap handOutNumber q in let no : ⊥ = omega arith in absurd no))
 
   pub call-on : {x : Going} {n : ℕ} → Between s x n → Onward n (call s x)
@@ -166,9 +191,7 @@ module _ (s : List ℕ) (short : length s ≤ longestStream) (bytes : (k : ℕ) 
   call-on {x} {n} (live k q) =
       let d = x .decoder in
       let l = x .store in
-      let t = pictures-row s short bytes d l k in
-      subst (Onward n) (sym (keeps-call s short d l k))
-      (ended-on d d l n (pictures s (going d l)) k q (λ i m. keeps-marked s short i k m) t, ended-seven d (d .«frames_decoded») (pictures s (going d l)) t)
+      subst (Onward n) (sym (keeps-call s short d l k)) (turns-on d d l n k q (λ i m. keeps-marked s short i k m))
   call-on {x} {n} (stuck k t q) = subst (Onward n) (sym (stuck-call s short (x .decoder) (x .store) k t)) (stuck k t (omega arith), λ h. (k, t))
   call-on {x} {n} (marked p m q) =
       subst (Onward n) (sym (marked-call s short (x .decoder) (x .store) p m)) (marked p m (omega arith), λ h. not-seven m (ap handOutNumber h))

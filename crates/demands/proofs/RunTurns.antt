@@ -1,193 +1,168 @@
 -- For RULES R: what the turns of a hand-out keep.
 use mathlib.Core.Path.{_≡_, refl, sym, ap, subst, _∙_}
-use mathlib.Core.Bool.{Bool, true, false, cond, not, _&&_, _||_, true≢false, false≢true}
+use mathlib.Core.Bool.{Bool, true, false, not, _&&_, _||_, true≢false, false≢true}
 use mathlib.Core.List.{List}
 use mathlib.Core.Logic.{_⊎_}
 use Prim.Native.Nat.{ℕ, _+_, _*_, _≤_, _<_}
 use native.Mathlib.Omega.{arith}
-use lib.Dec.{eqb}
 use lib.IntN.{ℤ, pos, negsuc}
 use lib.ListN.{length, getD}
 use borrow.Author.Tests.{leb-true}
-use Rattle.laws.specs.Turns.{Turn, again, stop, turns}
+use Rattle.laws.specs.Turns.{Turn, again, stop}
+use Rattle.laws.proofs.Tests.{both}
 use Rattle.bits.specs.Bounds.{longestStream}
 use Rattle.bits.specs.Programs.{Out, run, eqZ, findStartCode}
 use Rattle.bits.proofs.Start.{isCode}
-use Rattle.bits.proofs.Programs.{run-on, run-most}
-use Rattle.laws.proofs.Tests.{by-case}
+use Rattle.bits.proofs.Programs.{run-most}
 use Rattle.codes.proofs.Bounds.{bounded-of, bounded-by}
+use Rattle.picture.specs.declared.state.Matrices.{Matrices}
+use Rattle.picture.specs.declared.state.Sizes.{Sizes}
 use Rattle.picture.specs.Ways.{Way, on, out}
-use Rattle.picture.specs.declared.state.Picture.{Picture}
 use Rattle.picture.specs.Pictures.{Frame, picture}
 use Rattle.picture.proofs.Kept as Kept
 use Rattle.picture.proofs.Places.{Ahead, picture-past, picture-ahead}
-use Rattle.decoder.specs.declared.record.Decoder.{Decoder}
-use Rattle.decoder.specs.declared.answers.Shown.{Shown}
-use Rattle.decoder.specs.declared.answers.Outcome.the-variants as H
-use Rattle.decoder.specs.Record.{place, startCode, pastFrame, frameOf, heldAs, searchedAs}
-use Rattle.decoder.specs.Turns.{Going, going, Ended, gave, stopped, nextPicture, hasEnded, isFollowed, isReference}
-use Rattle.decoder.specs.Turns.{counted, handed, shown, flushed, pastPicture, decoded, searched, pictureTurn}
-use Rattle.decoder.specs.HandOut.{pictures}
-use Rattle.decoder.proofs.Searches.{Barren, Sought, hit, miss, sought, still-barren, eqZ-is}
-use Rattle.demands.proofs.Keeps.{Keeps, keeps-held, keeps-counted, keeps-searched, sized}
-use Rattle.decoder.proofs.TwoTurns.{Holds, isStop, goes-held, held-stops}
-
--- a turn answers 7 and changes nothing
-abbrev pub Stuck : List ℕ → Decoder → List ℕ → Type 0
-Stuck s d l = pictureTurn s (going d l) ≡ stop (gave (H.Refused 7) d l)
-
--- ---- the search
-
-next-barren : (s : List ℕ) (d : Decoder) → startCode d ≡ negsuc 0 → Barren s (place d) → nextPicture s d ≡ d
-unfolding nextPicture
-next-barren s d c b =
-    ap (λ (k : ℤ). cond (eqZ k (pos 0)) d (let o = run (findStartCode (pos 0)) s (place d) in searchedAs (o .value) (o .at) d)) c
-    ∙ ap (λ (o : Out ℤ). searchedAs (o .value) (o .at) d) (still-barren (pos 0) s (place d) b .is)
-    ∙ ap (λ (k : ℤ). searchedAs k (place d) d) (sym c)
-
-next-has : (s : List ℕ) (d : Decoder) → startCode d ≡ pos 0 → nextPicture s d ≡ d
-unfolding nextPicture
-next-has s d c = ap (λ (k : ℤ). cond (eqZ k (pos 0)) d (let o = run (findStartCode (pos 0)) s (place d) in searchedAs (o .value) (o .at) d)) c
-
--- RULES 8.2: the record behind it
-data Next (s : List ℕ) (d : Decoder) : Decoder → Type 0 where
-  has : startCode d ≡ pos 0 → Next s d d
-  finds : (e : ℕ) → place d ≤ e → e + 8 ≤ length s * 8 → Next s d (searchedAs (pos 0) e d)
-  fails : (e : ℕ) → place d ≤ e → e ≤ length s * 8 → Barren s e → Next s d (searchedAs (negsuc 0) e d)
-
-next-is : (s : List ℕ) (d : Decoder) → length s ≤ longestStream → place d ≤ length s * 8 → Next s d (nextPicture s d)
-unfolding nextPicture
-next-is s d h i =
-    go (eqZ (startCode d) (pos 0)) refl (run (findStartCode (pos 0)) s (place d)) (sought (pos 0) s (place d) h) (run-on (findStartCode (pos 0)) s (place d))
-    (run-most (findStartCode (pos 0)) s (place d) (length s) i (omega arith))
-  where
-    go : (b : Bool) → eqZ (startCode d) (pos 0) ≡ b → (o : Out ℤ) → Sought (pos 0) s (place d) o → place d ≤ o .at → o .at ≤ length s * 8
-        → Next s d (cond b d (searchedAs (o .value) (o .at) d))
-    go true e o k f m = has (eqZ-is (startCode d) (pos 0) e)
-    go false e o (hit x y z) f m = rw x (finds (o .at) f z)
-    go false e o (miss x y) f m = rw x (fails (o .at) f m y)
+use Rattle.playback.specs.declared.outcome.Shown.{Shown}
+use Rattle.playback.specs.declared.outcome.Outcome.the-variants as H
+use Rattle.playback.specs.declared.state.State.{State}
+use Rattle.playback.specs.State.{place, startCode, frames, pastFrame, heldAs}
+use Rattle.playback.specs.Search.{nextPicture, hasEnded, isFollowed}
+use Rattle.playback.specs.Display.{counted, isWaiting}
+use Rattle.playback.specs.Turns.{TurnState, inState, Ended, gave, stopped, frameOf, atPicture, pictureRun, pictureTurn, pictures}
+use Rattle.playback.specs.Cases.{isThere, isFlush, Reads, leftBy, b-picture, held-picture, flushed-picture, TurnIs, gives, holds, leaves, is-seven}
+use Rattle.playback.proofs.Searches.{Barren, Sought, hit, miss, sought}
+use Rattle.playback.proofs.Next.{Next, has, finds, fails, next-is, next-has, next-barren}
+use Rattle.playback.proofs.Cases.{turn-is, turn-seven}
+use Rattle.playback.proofs.TwoTurns.{Each, by-turns}
+use Rattle.demands.proofs.Keeps.{KeepsAt, keeps-counted, keeps-searched, Sized}
 
 -- ---- 7, for good
 
--- RULES 8.8: nothing is found, and nothing is to be flushed
-abbrev isFlush : List ℕ → Decoder → Bool
-isFlush s d = d .«has_reference_frame» && hasEnded s (place d) && isReference d
+-- a turn answers 7 and changes nothing
+abbrev pub Stuck : List ℕ → Sizes → Matrices → TurnState → Type 0
+Stuck s z m x = pictureTurn s z m x ≡ stop (gave (H.Refused 7) x)
 
-barren-stuck : (s : List ℕ) (d : Decoder) (l : List ℕ) → startCode d ≡ negsuc 0 → Barren s (place d) → isFlush s d ≡ false → Stuck s d l
-unfolding pictureTurn searched flushed
-barren-stuck s d l c b f = rw (next-barren s d c b) (rw c (rw f refl))
+-- a turn whose search changes nothing
+stuck : (s : List ℕ) (z : Sizes) (m : Matrices) (x : TurnState) → nextPicture s (x .state) ≡ x .state → isThere s (x .state) ≡ false
+    → isFlush s (x .state) ≡ false → Stuck s z m x
+stuck s z m x e i u = turn-seven s z m x (x .state) e i u
 
--- RULES 8.3: a picture start code is in the record, and no second one is found
-last-stuck : (s : List ℕ) (d : Decoder) (l : List ℕ) → startCode d ≡ pos 0 → isFollowed s (place d) ≡ false → Stuck s d l
-unfolding pictureTurn searched
-last-stuck s d l c f = rw (next-has s d c) (rw c (rw f refl))
+-- ---- the search
 
--- ---- the end of a hand-out
+-- RULES 8.2: a picture start code is in the state, or nothing is found from there on
+data Behind (s : List ℕ) (x : State) : Type 0 where
+  at-code : startCode x ≡ pos 0 → Behind s x
+  at-end : startCode x ≡ negsuc 0 → Barren s (place x) → Behind s x
 
--- a turn or a call that began with n pictures handed out
-pub data Ends (s : List ℕ) (n : ℕ) : Ended → Type 0 where
-  hands : {i : Shown} {x : Decoder} {m : List ℕ} → Keeps s x m → x .«frames_decoded» ≡ n + 1 → Ends s n (gave (H.Picture i) x m)
-  flushes : {i : Shown} {x : Decoder} {m : List ℕ} → Keeps s x m → x .«frames_decoded» ≡ n → Stuck s x m → Ends s n (gave (H.Picture i) x m)
-  seven : {x : Decoder} {m : List ℕ} → Keeps s x m → x .«frames_decoded» ≡ n → Stuck s x m → Ends s n (gave (H.Refused 7) x m)
-  stops : {k : ℕ} {m : List ℕ} → (k ≡ 8) ⊎ (k ≡ 9) → Ends s n (stopped k m)
+search-row : (s : List ℕ) {z : Sizes} (x : TurnState) → length s ≤ longestStream → KeepsAt s z x
+    → KeepsAt s z (atPicture s x) × Behind s (nextPicture s (x .state)) × (frames (nextPicture s (x .state)) ≡ frames (x .state))
+search-row s {z} x short k = go (next-is s (x .state) short (k .inside))
+  where
+    go : {y : State} → Next s (x .state) y → KeepsAt s z (inState y x) × Behind s y × (frames y ≡ frames (x .state))
+    go (has c) = (k, at-code c, refl)
+    go (finds e f m) = (keeps-searched x k (pos 0) e refl f (omega arith) (λ c. omega arith), at-code refl, refl)
+    go (fails e f m b) = (keeps-searched x k (negsuc 0) e refl f m (λ c. absurd (true≢false (sym (ap isCode c)))), at-end refl b, refl)
 
-data Turns (s : List ℕ) (n : ℕ) : Turn Going Ended → Type 0 where
-  goes : {y : Going} → Keeps s (y .decoder) (y .store) → y .decoder .«frames_decoded» ≡ n → Turns s n (again y)
-  ends : {e : Ended} → Ends s n e → Turns s n (stop e)
+no-code : {A : Type 0} (s : List ℕ) (x : State) → startCode x ≡ negsuc 0 → isThere s x ≡ true → A
+no-code s x c i = absurd (false≢true (sym (ap (λ (k : ℤ). not (eqZ k (negsuc 0)) && isFollowed s (place x)) c) ∙ i))
 
--- RULES 8.5: behind a picture, which has taken 29 bits
-shown-row : (s : List ℕ) (d : Decoder) (l : List ℕ) → Keeps s d l → 29 * d .«frames_decoded» + 29 ≤ place d
-    → Turns s (d .«frames_decoded») (shown d l)
-unfolding shown handed counted
-shown-row s d l k h =
-    by-case (Turns s (d .«frames_decoded»)) (eqb (d .picture .«picture_type») 3) (λ e. ends (hands (keeps-counted k h) refl))
-    (λ e. by-case (Turns s (d .«frames_decoded»)) (d .«has_reference_frame»)
-    (λ e. ends (hands (keeps-counted k h) refl)) (λ e. goes (keeps-held k true) refl))
+-- RULES 8.3: before a picture start code bits are left, so a second one is found
+followed : (s : List ℕ) (a : ℕ) → length s ≤ longestStream → a < length s * 8 → isFollowed s a ≡ true → a + 40 ≤ length s * 8
+unfolding isFollowed
+followed s a short h = go (run (findStartCode (pos 0)) s a) (sought (pos 0) s a short)
+  where
+    go : (o : Out ℤ) → Sought (pos 0) s a o → (not (eqZ (o .value) (negsuc 0)) || hasEnded s a) ≡ true → a + 40 ≤ length s * 8
+    go o (hit x y z) f = omega arith
+    go o (miss x y) f = let e = leb-true (length s * 8) a (rw x at f) in omega arith
 
--- ---- a picture
+there : (s : List ℕ) {z : Sizes} (x : TurnState) → length s ≤ longestStream → KeepsAt s z x → Behind s (x .state) → isThere s (x .state) ≡ true
+    → place (x .state) + 40 ≤ length s * 8
+there s x short k (at-code c) i = followed s (place (x .state)) short (k .ahead c) (both (not (eqZ (startCode (x .state)) (negsuc 0))) (isFollowed s (place (x .state))) i .1)
+there s x short k (at-end c b) i = no-code s (x .state) c i
 
-module _ (s : List ℕ) (short : length s ≤ longestStream) (bytes : (k : ℕ) → getD s k 0 < 256) where
-  past-row : (d : Decoder) (l : List ℕ) (w : Way Frame) (e : ℕ) → Keeps s d l → Kept.Ends (length l) (Kept.StaysPossible l) w → Ahead s e w
-      → place d + 29 ≤ e → e ≤ length s * 8 → Turns s (d .«frames_decoded») (pastPicture d (record { value = w; at = e }))
-  unfolding pastPicture
-  past-row d l (on f) e k h a p m = shown-row s (pastFrame f e d) (f .store) (record {
-    header = k .header;
-    sequence = k .sequence;
-    picture = h .picture;
-    block = bounded-by (h .block);
-    mark = k .mark;
-    long = omega arith;
-    inside = m;
-    ahead = a;
-    count = omega arith;
-  }) (omega arith)
-  past-row d l (out n i) e k h a p m = ends (stops (h .0))
+-- ---- a turn
 
-  decoded-row : (d : Decoder) (l : List ℕ) → Keeps s d l → place d + 40 ≤ length s * 8 → Turns s (d .«frames_decoded») (decoded s d l)
-  unfolding decoded
-  decoded-row d l k h =
-      let z = d .sequence .sizes in
-      let y = sized (d .sequence) (k .header) (k .sequence) in
-      let p = picture z (d .sequence .matrices) (frameOf d l) in
-      past-row d l (run p s (place d) .value) (run p s (place d) .at) k
-      (Kept.picture-kept z (d .sequence .matrices) (frameOf d l) s (place d) (y .wide) (y .high) (y .area) (k .picture)
-      (bounded-of (d .«block_data») (k .block)) short bytes)
-      (picture-ahead z (d .sequence .matrices) (frameOf d l) s (place d) short h)
-      (picture-past z (d .sequence .matrices) (frameOf d l) s (place d) (omega arith))
-      (run-most p s (place d) (length s) (k .inside) (omega arith))
+module _ (s : List ℕ) (z : Sizes) (m : Matrices) (short : length s ≤ longestStream) (bytes : (k : ℕ) → getD s k 0 < 256) (y : Sized z) where
+  -- the end of a turn or a call that began with n pictures handed out
+  pub data Ends (n : ℕ) : Ended → Type 0 where
+    hands : {i : Shown} {x : TurnState} → KeepsAt s z x → frames (x .state) ≡ n + 1 → Ends n (gave (H.Picture i) x)
+    flushes : {i : Shown} {x : TurnState} → KeepsAt s z x → frames (x .state) ≡ n → Stuck s z m x → Ends n (gave (H.Picture i) x)
+    seven : {x : TurnState} → KeepsAt s z x → frames (x .state) ≡ n → Stuck s z m x → Ends n (gave (H.Refused 7) x)
+    stops : {k : ℕ} {l : List ℕ} → (k ≡ 8) ⊎ (k ≡ 9) → Ends n (stopped k l)
 
-  -- RULES 8.3: before a picture start code bits are left, so a second one is found
-  followed : (a : ℕ) → a < length s * 8 → isFollowed s a ≡ true → a + 40 ≤ length s * 8
-  unfolding isFollowed
-  followed a h = go (run (findStartCode (pos 0)) s a) (sought (pos 0) s a short)
-    where
-      go : (o : Out ℤ) → Sought (pos 0) s a o → (not (eqZ (o .value) (negsuc 0)) || hasEnded s a) ≡ true → a + 40 ≤ length s * 8
-      go o (hit x y z) f = omega arith
-      go o (miss x y) f = let e = leb-true (length s * 8) a (rw x at f) in omega arith
+  -- what another turn is given
+  abbrev Goes : ℕ → TurnState → Type 0
+  Goes n x = KeepsAt s z x × (frames (x .state) ≡ n)
 
-  -- a picture start code is in the record
-  found-row : (d : Decoder) (l : List ℕ) → Keeps s d l → startCode d ≡ pos 0 → Turns s (d .«frames_decoded») (searched s d l)
-  unfolding searched
-  found-row d l k c =
-      by-case (Turns s (d .«frames_decoded»)) (eqZ (startCode d) (negsuc 0))
-      (λ e. absurd (false≢true (sym (ap (λ (z : ℤ). eqZ z (negsuc 0)) c) ∙ e)))
-      (λ e. by-case (Turns s (d .«frames_decoded»)) (isFollowed s (place d)) (λ f. decoded-row d l k (followed (place d) (k .ahead c) f))
-      (λ f. ends (seven k refl (last-stuck s d l c f))))
+  module _ (x : TurnState) (k : KeepsAt s z x) (b : Behind s (x .state)) where
+    -- what is known of a picture's run
+    record Ran (o : Out (Way Frame)) : Type 0 where
+      kept : Kept.Ends (length (x .store)) (Kept.StaysPossible (x .store)) (o .value)
+      ahead : Ahead s (o .at) (o .value)
+      past : place (x .state) + 29 ≤ o .at
+      inside : o .at ≤ length s * 8
 
-  -- RULES 8.8: none is found
-  none-row : (d : Decoder) (l : List ℕ) → Keeps s d l → startCode d ≡ negsuc 0 → Barren s (place d)
-      → Turns s (d .«frames_decoded») (searched s d l)
-  unfolding searched flushed
-  none-row d l k c b =
-      by-case (Turns s (d .«frames_decoded»)) (eqZ (startCode d) (negsuc 0))
-      (λ e. ends (by-case (Ends s (d .«frames_decoded»)) (isFlush s d)
-      (λ f. flushes (keeps-held k false) refl (barren-stuck s (heldAs false d) l c b refl))
-      (λ f. seven k refl (barren-stuck s d l c b f))))
-      (λ e. absurd (true≢false (sym (ap (λ (z : ℤ). eqZ z (negsuc 0)) c) ∙ e)))
+    ran : isThere s (x .state) ≡ true → Ran (pictureRun s z m x)
+    ran i =
+        let a = place (x .state) in
+        let h = there s x short k b i in
+        record {
+          kept = Kept.picture-kept z m (frameOf x) s a (y .wide) (y .high) (y .area) (k .picture) (bounded-of (x .«block_data») (k .block)) short bytes;
+          ahead = picture-ahead z m (frameOf x) s a short h;
+          past = picture-past z m (frameOf x) s a (omega arith);
+          inside = run-most (picture z m (frameOf x)) s a (length s) (k .inside) (omega arith);
+        }
 
-  turn-row : (d : Decoder) (l : List ℕ) → Keeps s d l → Turns s (d .«frames_decoded») (pictureTurn s (going d l))
-  unfolding pictureTurn
-  turn-row d l k = go (next-is s d short (k .inside))
-    where
-      go : {x : Decoder} → Next s d x → Turns s (d .«frames_decoded») (searched s x l)
-      go (has c) = found-row d l k c
-      go (finds e f m) = found-row (searchedAs (pos 0) e d) l (keeps-searched k (pos 0) e refl f (omega arith) (λ c. omega arith)) refl
-      go (fails e f m b) =
-          none-row (searchedAs (negsuc 0) e d) l (keeps-searched k (negsuc 0) e refl f m (λ c. absurd (true≢false (sym (ap isCode c))))) refl b
+    -- a picture that is read to its end has taken 29 bits
+    read-row : {f : Frame} {a : ℕ} → isThere s (x .state) ≡ true → Reads s z m x f a
+        → KeepsAt s z (leftBy f (pastFrame f a (x .state))) × (29 * frames (x .state) + 29 ≤ a)
+    read-row i r =
+        let o = subst Ran r (ran i) in (
+          record {
+            picture = o .kept .picture;
+            block = bounded-by (o .kept .block);
+            long = omega (arith, k .long, o .kept .store);
+            inside = o .inside;
+            ahead = o .ahead;
+            count = omega (arith, k .count, o .past);
+          },
+          omega (arith, k .count, o .past),
+        )
 
-  -- RULES 8.7: a second turn, with a reference held, ends the call
-  second-row : (n : ℕ) (t : Turn Going Ended) → isStop t ≡ true → Turns s n t
-      → Ends s n (elim t [ again y ↦ gave (H.Refused 7) (y .decoder) (y .store) | stop v ↦ v ])
-  second-row n (again y) i r = absurd (false≢true i)
-  second-row n (stop e) i (ends r) = r
+    shown-row : {f : Frame} {a : ℕ} → isThere s (x .state) ≡ true → Reads s z m x f a → KeepsAt s z (leftBy f (counted (pastFrame f a (x .state))))
+    shown-row {f} {a} i r = let h = read-row i r in keeps-counted (leftBy f (pastFrame f a (x .state))) (h .0) (h .1)
 
-  first-row : (n : ℕ) (t : Turn Going Ended) → Holds t → Turns s n t
-      → Ends s n (elim t [ again y ↦ turns 1 (pictureTurn s) (λ y. gave (H.Refused 7) (y .decoder) (y .store)) y | stop v ↦ v ])
-  unfolding turns
-  first-row n (again y) i (goes k e) =
-      second-row n (pictureTurn s y) (held-stops s y i) (subst (λ (m : ℕ). Turns s m (pictureTurn s y)) e (turn-row (y .decoder) (y .store) k))
-  first-row n (stop v) i (ends r) = r
+    -- RULES 8.8: the held picture is flushed, and every later turn answers 7
+    flush-row : isThere s (x .state) ≡ false → isFlush s (x .state) ≡ true → Stuck s z m (inState (heldAs false (x .state)) x)
+    flush-row i u = go b
+      where
+        go : Behind s (x .state) → Stuck s z m (inState (heldAs false (x .state)) x)
+        go (at-code c) = absurd (false≢true (sym (ap (λ (k : ℤ). eqZ k (negsuc 0) && isWaiting s (x .state)) c) ∙ u))
+        go (at-end c e) = stuck s z m (inState (heldAs false (x .state)) x) (next-barren s (heldAs false (x .state)) c e) i (rw c refl)
 
-  pub pictures-row : (d : Decoder) (l : List ℕ) → Keeps s d l → Ends s (d .«frames_decoded») (pictures s (going d l))
-  unfolding pictures turns
-  pictures-row d l k = first-row (d .«frames_decoded») (pictureTurn s (going d l)) (goes-held s (going d l)) (turn-row d l k)
+    seven-row : isThere s (x .state) ≡ false → isFlush s (x .state) ≡ false → Stuck s z m x
+    seven-row i u = go b
+      where
+        go : Behind s (x .state) → Stuck s z m x
+        go (at-code c) = stuck s z m x (next-has s (x .state) c) i u
+        go (at-end c e) = stuck s z m x (next-barren s (x .state) c e) i u
+
+    case-row : {t : Turn TurnState Ended} → TurnIs s z m x t → Each (Goes (frames (x .state))) (Ends (frames (x .state))) t
+    unfolding counted
+    case-row (gives (b-picture i r e)) = hands (shown-row i r) refl
+    case-row (gives (held-picture i r e h)) = hands (shown-row i r) refl
+    case-row (gives (flushed-picture i u)) = flushes k refl (flush-row i u)
+    case-row (holds i r e h) = (read-row i r .0, refl)
+    case-row (leaves i r) = stops (subst Ran r (ran i) .kept .0)
+    case-row (is-seven i u) = seven k refl (seven-row i u)
+
+  turn-row : (x : TurnState) → KeepsAt s z x → (n : ℕ) → frames (x .state) ≡ n → (t : Turn TurnState Ended) → pictureTurn s z m x ≡ t
+      → Each (Goes n) (Ends n) t
+  turn-row x k n q t e =
+      let h = search-row s x short k in
+      subst (λ (n : ℕ). Each (Goes n) (Ends n) t) (h .2 ∙ q)
+      (case-row (atPicture s x) (h .0) (h .1) (subst (TurnIs s z m (atPicture s x)) e (turn-is s z m x)))
+
+  pub pictures-row : (x : TurnState) → KeepsAt s z x → Ends (frames (x .state)) (pictures s z m x)
+  pictures-row x k =
+      let n = frames (x .state) in
+      by-turns s z m x (Goes n) (λ v. Goes n) (Ends n) (turn-row x k n refl) (λ v e h. turn-row v (h .0) n (h .1))

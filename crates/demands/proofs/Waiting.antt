@@ -22,6 +22,10 @@ use Rattle.picture.specs.Possible.{possiblePicture}
 use Rattle.picture.proofs.Possible.{stores-of, picture-of, picture-by}
 use Rattle.header.specs.Possible.{across, sizesOf, sameSizes, possibleSequence}
 use Rattle.header.specs.Sequences.{size, rest}
+use Rattle.playback.specs.declared.state.State.{State}
+use Rattle.playback.specs.State as S
+use Rattle.playback.specs.State.{held, frames, freshState}
+use Rattle.playback.specs.Search.{nextCode}
 use Rattle.decoder.specs.declared.record.Decoder.{Decoder}
 use Rattle.decoder.specs.Record.{fresh, place, startCode, searchedAs, storeBytes}
 use Rattle.decoder.specs.Headers.{Asked, refused, passed, findSequence, accepted, askSize, askHeader}
@@ -39,15 +43,15 @@ pub record Waits (s : List ℕ) (d : Decoder) : Type 0 where
   pub width : d .sequence .width ≤ 4095
   pub height : d .sequence .height ≤ 4095
   pub sizes : sameSizes (d .sequence .sizes) noSizes ≡ true
-  pub picture : possiblePicture (d .picture) ≡ true
+  pub picture : possiblePicture (d .state .picture) ≡ true
   pub block : bounded (d .«block_data») ≡ true
   pub mark : d .stop ≡ 0
   pub inside : place d ≤ length s * 8
-  pub count : d .«frames_decoded» ≡ 0
-  pub held : d .«has_reference_frame» ≡ false
+  pub count : frames (d .state) ≡ 0
+  pub held : held (d .state) ≡ false
 
 pub fresh-waits : (s : List ℕ) → Waits s fresh
-unfolding fresh
+unfolding fresh freshState
 fresh-waits s = record {
   header = refl;
   width = omega arith;
@@ -67,7 +71,7 @@ waits-sequence {s} {d} k = rw (le-leb (d .sequence .width) 4095 (k .width), le-l
 -- ---- the search
 
 module _ {s : List ℕ} {d : Decoder} (k : Waits s d) where
-  searched-waits : (c : ℤ) (e : ℕ) → possiblePicture (searchedAs c e d .picture) ≡ true → e ≤ length s * 8 → Waits s (searchedAs c e d)
+  searched-waits : (c : ℤ) (e : ℕ) → possiblePicture (searchedAs c e d .state .picture) ≡ true → e ≤ length s * 8 → Waits s (searchedAs c e d)
   searched-waits c e h m = record {
     header = k .header;
     width = k .width;
@@ -82,15 +86,15 @@ module _ {s : List ℕ} {d : Decoder} (k : Waits s d) where
   }
 
   find-inside : place (findSequence s d) ≤ length s * 8
-  unfolding findSequence
+  unfolding findSequence nextCode
   find-inside =
-      by-case (λ (x : Decoder). place x ≤ length s * 8) (eqZ (startCode d) (pos 0xb3)) (λ e. k .inside)
+      by-case (λ (x : State). S.place x ≤ length s * 8) (eqZ (startCode d) (pos 0xb3)) (λ e. k .inside)
       (λ e. run-most (findStartCode (pos 0xb3)) s (place d) (length s) (k .inside) (omega arith))
 
   found-waits : {x : Decoder} → Finds s d x → place x ≤ length s * 8 → Waits s x
   found-waits (a-code (had-it e)) i = k
-  found-waits (a-code (found-it c)) i = searched-waits (pos 0xb3) _ (code-possible (pos 0xb3) (d .picture) refl (k .picture)) i
-  found-waits (no-code c) i = searched-waits (negsuc 0) _ (code-possible (negsuc 0) (d .picture) refl (k .picture)) i
+  found-waits (a-code (found-it c)) i = searched-waits (pos 0xb3) _ (code-possible (pos 0xb3) (d .state .picture) refl (k .picture)) i
+  found-waits (no-code c) i = searched-waits (negsuc 0) _ (code-possible (negsuc 0) (d .state .picture) refl (k .picture)) i
 
 -- ---- width and height: numbers of 12 bits (RULES O.3)
 
@@ -119,8 +123,8 @@ sequence-first w h a b c d =
 -- a record whose header has just been accepted
 pub record Accepted (s : List ℕ) (d : Decoder) : Type 0 where
   pub keeps : (l : List ℕ) → storeBytes d ≤ length l → Keeps s d l
-  pub count : d .«frames_decoded» ≡ 0
-  pub held : d .«has_reference_frame» ≡ false
+  pub count : frames (d .state) ≡ 0
+  pub held : held (d .state) ≡ false
 
 abbrev pub Accepts : List ℕ → Asked → Type 0
 Accepts s (refused n x) = Waits s x
@@ -156,13 +160,15 @@ size-accepts {s} {d} k c =
       keeps = λ l long. record {
         header = refl;
         sequence = sequence-first w v (small .0) (small .1) (above w (q .0)) (above v (q .1));
-        picture = first-stores (d .picture) (k .picture);
-        block = k .block;
         mark = k .mark;
-        long = long;
-        inside = run-most rest s (run size s (place d) .at) (length s) there (omega arith);
-        ahead = λ e. never (ap natAbs (sym c ∙ e));
-        count = omega (arith, k .count);
+        turn = record {
+          picture = first-stores (d .state .picture) (k .picture);
+          block = k .block;
+          long = long;
+          inside = run-most rest s (run size s (place d) .at) (length s) there (omega arith);
+          ahead = λ e. never (ap natAbs (sym c ∙ e));
+          count = omega (arith, k .count);
+        };
       };
       count = k .count;
       held = k .held;

@@ -8,14 +8,18 @@ use lib.IntN.{pos, negsuc}
 use lib.ListN.{length}
 use Rattle.laws.specs.Turns.{again}
 use Rattle.bits.specs.Bits.{bitsAt}
-use Rattle.picture.specs.Ways.{out}
+use Rattle.picture.specs.declared.state.Matrices.{Matrices}
+use Rattle.picture.specs.declared.state.Sizes.{Sizes}
+use Rattle.picture.specs.Ways.{Way, out}
+use Rattle.picture.specs.Pictures.{Frame}
+use Rattle.playback.specs.Turns.{TurnState, atPicture, pictureTurn}
+use Rattle.playback.specs.Cases.{isThere, isFlush}
 use Rattle.decoder.specs.declared.record.Decoder.{Decoder}
-use Rattle.decoder.specs.Record.{fresh, place, startCode, placeAs, sequenceAs, searchedAs, stopAs, storeBytes}
+use Rattle.decoder.specs.Record.{fresh, place, startCode, placeAs, sequenceAs, searchedAs, stopAs, resumed, storeBytes}
 use Rattle.decoder.specs.Possible.{possible}
-use Rattle.decoder.specs.Turns.{Going, nextPicture, pictureTurn}
 use Rattle.decoder.specs.HandOut.{begun}
 use Rattle.demands.specs.Codes.{CodeFound, NoneFound}
-use Rattle.demands.specs.Questions.{withHeader, headed, isThere, isFlush, pictureEnd}
+use Rattle.demands.specs.Questions.{withHeader, headed, pictureEnd}
 use Rattle.demands.specs.Causes.{Cause}
 
 -- RULES Q4: the record at the sequence start code: it has the code already, or has found it; nothing but place and start code differs from d
@@ -47,9 +51,17 @@ pub data AfterOpening (s l : List ℕ) : ℕ → Decoder → Type 0 where
   after-6 : length l < storeBytes (withHeader s fresh) → AfterOpening s l 6 fresh
 
 -- RULES 8.7: the turn of a hand-out in which it came to its number: the first, given x, or the second, given what the first left
-pub data InTurn (s : List ℕ) (x : Going) : Going → Type 0 where
-  in-the-first : InTurn s x x
-  in-the-second : {y : Going} → pictureTurn s x ≡ again y → InTurn s x y
+pub data InTurn (s : List ℕ) (z : Sizes) (m : Matrices) (x : TurnState) : TurnState → Type 0 where
+  in-the-first : InTurn s z m x x
+  in-the-second : {y : TurnState} → pictureTurn s z m x ≡ again y → InTurn s z m x y
+
+-- of a hand-out with the record d, the stream s and the store l
+abbrev pub InCall : Decoder → List ℕ → List ℕ → TurnState → Type 0
+InCall d s l y = let q = headed s d .sequence in InTurn s (q .sizes) (q .matrices) (begun d (headed s d) l) y
+
+-- how the picture ends that such a turn decodes
+abbrev pub endIn : Decoder → List ℕ → TurnState → Way Frame
+endIn d s y = let q = headed s d .sequence in pictureEnd s (q .sizes) (q .matrices) (atPicture s y)
 
 -- RULES Q: a hand-out with the record d, the stream s and the store l: the number, and record and store then
 pub data AfterHandOut (d : Decoder) (s l : List ℕ) : ℕ → Decoder → List ℕ → Type 0 where
@@ -59,8 +71,8 @@ pub data AfterHandOut (d : Decoder) (s l : List ℕ) : ℕ → Decoder → List 
   after-header : {n : ℕ} {x : Decoder} → d .sequence .«has_sequence_header» ≡ false → AfterHeader s d n x → AfterHandOut d s l n x l
   after-6 : length l < storeBytes (headed s d) → AfterHandOut d s l 6 d l
   -- no picture is there to decode or to flush: the record is the one behind that search, and nothing is written since
-  after-7 : {y : Going} → InTurn s (begun d (headed s d) l) y → isThere s (nextPicture s (y .decoder)) ≡ false
-      → isFlush s (nextPicture s (y .decoder)) ≡ false → AfterHandOut d s l 7 (nextPicture s (y .decoder)) (y .store)
+  after-7 : {y : TurnState} → InCall d s l y → isThere s (atPicture s y .state) ≡ false → isFlush s (atPicture s y .state) ≡ false
+      → AfterHandOut d s l 7 (resumed (headed s d) (atPicture s y)) (y .store)
   -- the picture leaves early: the store is what it has written up to there
-  after-8-9 : {y : Going} {n : ℕ} {m : List ℕ} → InTurn s (begun d (headed s d) l) y
-      → pictureEnd s (nextPicture s (y .decoder)) (y .store) ≡ out n m → Cause s (y .decoder .sequence .sizes) n → AfterHandOut d s l n (stopAs n d) m
+  after-8-9 : {y : TurnState} {n : ℕ} {m : List ℕ} → InCall d s l y → endIn d s y ≡ out n m → Cause s (headed s d .sequence .sizes) n
+      → AfterHandOut d s l n (stopAs n d) m

@@ -4,14 +4,13 @@ use mathlib.Core.List.{List, [], _∷_}
 use Prim.Native.Nat.{ℕ, _+_}
 use Rattle.decoder.specs.declared.record.Decoder.{Decoder}
 use Rattle.decoder.specs.declared.answers.Opened.{Opened}
-use Rattle.decoder.specs.declared.answers.Outcome.the-variants as H
+use Rattle.playback.specs.declared.outcome.Outcome.the-variants as H
 use Rattle.decoder.specs.declared.answers.Handed.{Handed}
 use Rattle.decoder.specs.declared.answers.Converted.{Converted}
 use Rattle.decoder.specs.Record.{left}
 use Rattle.decoder.specs.Opening.{opening}
-use Rattle.decoder.specs.Turns.{Going, going}
 use Rattle.decoder.specs.HandOut.{handOut}
-use Rattle.decoder.specs.Run.{pictureIn}
+use Rattle.decoder.specs.Run.{Going, going, pictureIn}
 use Rattle.decoder.specs.Conversion.{area, converted}
 
 -- contract of `open`: given the stream s and the store l it gave r, and left the store m

@@ -9,20 +9,22 @@ use lib.ListN.{length}
 use Rattle.laws.specs.Turns.{again, stop}
 use Rattle.bits.specs.Bounds.{longestStream}
 use Rattle.bits.specs.Programs.{run, if_then_else_}
+use Rattle.picture.specs.declared.state.Matrices.{Matrices}
+use Rattle.picture.specs.declared.state.Sizes.{Sizes}
 use Rattle.picture.specs.Ways.{Way, on, out}
 use Rattle.picture.specs.Pictures.{Frame, pictureHeader}
+use Rattle.playback.specs.State.{place}
+use Rattle.playback.specs.Turns.{TurnState, atPicture, pictureRun, pictureTurn}
+use Rattle.playback.specs.Cases.{isThere, isB}
 use Rattle.decoder.specs.declared.record.Decoder.{Decoder}
-use Rattle.decoder.specs.declared.answers.Outcome.{Outcome}
-use Rattle.decoder.specs.declared.answers.Outcome.the-variants as H
+use Rattle.playback.specs.declared.outcome.Outcome.{Outcome}
+use Rattle.playback.specs.declared.outcome.Outcome.the-variants as H
 use Rattle.decoder.specs.declared.answers.Handed.{Handed}
-use Rattle.decoder.specs.Record.{place}
 use Rattle.decoder.specs.Possible.{possibleWith}
 use Rattle.decoder.specs.Headers.{Asked, refused, passed}
-use Rattle.decoder.specs.Turns.{Going, going, nextPicture, pictureTurn}
 use Rattle.decoder.specs.HandOut.{askFirst, begun}
+use Rattle.decoder.specs.Run.{Going, going}
 use Rattle.demands.specs.Calls.{Decodes}
-use Rattle.demands.specs.Questions.{isThere}
-use Rattle.demands.specs.Handing.{pictureRun, isB}
 
 -- ---- the rule
 
@@ -57,27 +59,26 @@ abbrev pub samplesOf : ℕ → ℕ → List ℕ → List ℕ
 samplesOf n k l = midOf (k * (384 * n)) (384 * n) l
 
 -- a picture that is read to its end is in the store that was the current one before; one that leaves early is none
-abbrev pub codedBy : List ℕ → Decoder → Way Frame → List Coded
-codedBy s d (on f) = record {
+abbrev pub codedBy : List ℕ → Sizes → TurnState → Way Frame → List Coded
+codedBy s z x (on f) = record {
   isB = isB f;
-  decoded = run (pictureHeader (d .picture)) s (place d) .value .decoded;
-  samples = samplesOf (d .sequence .sizes .«mb_size») (d .picture .stores .cur) (f .store);
+  decoded = run (pictureHeader (x .state .picture)) s (place (x .state)) .value .decoded;
+  samples = samplesOf (z .«mb_size») (x .state .picture .stores .cur) (f .store);
 } ∷ []
-codedBy s d (out n m) = []
+codedBy s z x (out n m) = []
 
--- RULES 8.2, 8.3: the picture that a turn reads, with the record d behind its search
-unfoldable pub turnReads : List ℕ → Decoder → List ℕ → List Coded
-turnReads s d l = if isThere s d then codedBy s d (pictureRun s d l .value) else []
+-- RULES 8.2, 8.3: the picture that a turn reads, behind its search
+unfoldable pub turnReads : List ℕ → Sizes → Matrices → TurnState → List Coded
+turnReads s z m x = if isThere s (x .state) then codedBy s z x (pictureRun s z m x .value) else []
 
 -- RULES 8.7: in one turn, or two
-unfoldable pub picturesRead : List ℕ → Going → List Coded
-picturesRead s x =
-    turnReads s (nextPicture s (x .decoder)) (x .store) ++
-    (elim (pictureTurn s x) [ again y ↦ turnReads s (nextPicture s (y .decoder)) (y .store) | stop e ↦ [] ])
+unfoldable pub picturesRead : List ℕ → Sizes → Matrices → TurnState → List Coded
+picturesRead s z m x =
+    turnReads s z m (atPicture s x) ++ (elim (pictureTurn s z m x) [ again y ↦ turnReads s z m (atPicture s y) | stop e ↦ [] ])
 
 abbrev pub askedReads : List ℕ → Decoder → List ℕ → Asked → List Coded
 askedReads s d l (refused n x) = []
-askedReads s d l (passed x) = picturesRead s (begun d x l)
+askedReads s d l (passed x) = picturesRead s (x .sequence .sizes) (x .sequence .matrices) (begun d x l)
 
 -- the pictures that a hand-out reads: none where a question before them is answered "no"
 unfoldable pub handOutReads : Decoder → List ℕ → List ℕ → List Coded

@@ -10,14 +10,18 @@ use Rattle.laws.specs.Turns.{again, stop}
 use Rattle.bits.specs.Bits.{has}
 use Rattle.bits.specs.Programs.{run, eqZ, if_then_else_}
 use Rattle.picture.specs.Ways.{Way, on, out}
-use Rattle.picture.specs.Pictures.{Frame, picture}
+use Rattle.picture.specs.declared.state.Matrices.{Matrices}
+use Rattle.picture.specs.declared.state.Sizes.{Sizes}
+use Rattle.picture.specs.Pictures.{Frame}
 use Rattle.header.specs.Sequences.{size, rest}
 use Rattle.conversion.specs.Pictures.{fits}
+use Rattle.playback.specs.declared.state.State.{State}
+use Rattle.playback.specs.Turns.{TurnState, atPicture, pictureRun, pictureTurn}
+use Rattle.playback.specs.Cases.{isThere, isFlush}
 use Rattle.decoder.specs.declared.record.Decoder.{Decoder}
-use Rattle.decoder.specs.Record.{fresh, place, startCode, storeBytes, frameOf}
+use Rattle.decoder.specs.Record.{fresh, place, startCode, storeBytes}
 use Rattle.decoder.specs.Possible.{possible, possibleWith}
 use Rattle.decoder.specs.Headers.{findSequence, sized, accepted}
-use Rattle.decoder.specs.Turns.{Going, nextPicture, hasEnded, isFollowed, isReference, pictureTurn}
 use Rattle.decoder.specs.HandOut.{begun}
 
 -- a question: its number, and whether its answer is "yes"
@@ -70,40 +74,33 @@ hasStore x l = ask 6 (leb (storeBytes x) (length l))
 abbrev pub openingAsks : List ℕ → List ℕ → List Question
 openingAsks s l = isShort s ∷ hasCode s fresh ∷ hasBits s fresh ∷ hasSize s fresh ∷ hasStore (withHeader s fresh) l ∷ []
 
--- RULES 8.2, 8.3: a picture start code is there, and another one behind it
-abbrev pub isThere : List ℕ → Decoder → Bool
-isThere s d = not (eqZ (startCode d) (negsuc 0)) && isFollowed s (place d)
-
--- RULES 8.8: none is there, and the held picture is handed out
-abbrev pub isFlush : List ℕ → Decoder → Bool
-isFlush s d = eqZ (startCode d) (negsuc 0) && (d .«has_reference_frame» && hasEnded s (place d) && isReference d)
-
 -- RULES Q7: is there a picture to decode, or one to flush?
-abbrev pub hasPicture : List ℕ → Decoder → Question
-hasPicture s d = ask 7 (isThere s d || isFlush s d)
+abbrev pub hasPicture : List ℕ → State → Question
+hasPicture s x = ask 7 (isThere s x || isFlush s x)
 
 -- the number with which a picture leaves early, 0 where it does not
 abbrev pub leavesWith : Way Frame → ℕ
 leavesWith (on f) = 0
 leavesWith (out n l) = n
 
--- how the picture at the record's place ends, in the store l
-abbrev pub pictureEnd : List ℕ → Decoder → List ℕ → Way Frame
-pictureEnd s d l = run (picture (d .sequence .sizes) (d .sequence .matrices) (frameOf d l)) s (place d) .value
+-- how the picture at the state's place ends
+abbrev pub pictureEnd : List ℕ → Sizes → Matrices → TurnState → Way Frame
+pictureEnd s z m x = pictureRun s z m x .value
 
 -- RULES QB, Q8, Q9: the picture ends at the first value that is outside, and says which question that was
 abbrev pub isInside : ℕ → Way Frame → Question
 isInside n w = ask n (not (eqb (leavesWith w) n))
 
--- RULES 8.2 to 8.5: what a turn asks of the record behind its search
-unfoldable pub turnAsks : List ℕ → Decoder → List ℕ → List Question
-turnAsks s d l = hasPicture s d ∷ (if isThere s d then isInside 8 (pictureEnd s d l) ∷ isInside 9 (pictureEnd s d l) ∷ [] else [])
+-- RULES 8.2 to 8.5: what a turn asks, behind its search
+unfoldable pub turnAsks : List ℕ → Sizes → Matrices → TurnState → List Question
+turnAsks s z m x =
+    hasPicture s (x .state) ∷
+    (if isThere s (x .state) then isInside 8 (pictureEnd s z m x) ∷ isInside 9 (pictureEnd s z m x) ∷ [] else [])
 
 -- RULES 8.7: one turn, or two
-unfoldable pub picturesAsk : List ℕ → Going → List Question
-picturesAsk s x =
-    turnAsks s (nextPicture s (x .decoder)) (x .store) ++
-    (elim (pictureTurn s x) [ again y ↦ turnAsks s (nextPicture s (y .decoder)) (y .store) | stop e ↦ [] ])
+unfoldable pub picturesAsk : List ℕ → Sizes → Matrices → TurnState → List Question
+picturesAsk s z m x =
+    turnAsks s z m (atPicture s x) ++ (elim (pictureTurn s z m x) [ again y ↦ turnAsks s z m (atPicture s y) | stop e ↦ [] ])
 
 -- the record with which a hand-out comes to its pictures
 abbrev pub headed : List ℕ → Decoder → Decoder
@@ -114,7 +111,7 @@ unfoldable pub handOutAsks : Decoder → List ℕ → List ℕ → List Question
 handOutAsks d s l =
     isShort s ∷ ask 2 (possibleWith s d) ∷ ask (d .stop) (eqb (d .stop) 0) ∷
     ((if d .sequence .«has_sequence_header» then [] else hasCode s d ∷ hasBits s d ∷ hasSize s d ∷ []) ++
-    (hasStore (headed s d) l ∷ picturesAsk s (begun d (headed s d) l)))
+    (hasStore (headed s d) l ∷ picturesAsk s (headed s d .sequence .sizes) (headed s d .sequence .matrices) (begun d (headed s d) l)))
 
 -- RULES "Order": the conversion asks 2, 6, 10, 11
 abbrev pub conversionAsks : Decoder → List ℕ → ℕ → List ℕ → ℕ → ℕ → List Question

@@ -9,14 +9,14 @@ use lib.ListN.{length}
 use Rattle.bits.specs.Bits.{bitsAt}
 use Rattle.picture.specs.Ways.{out}
 use Rattle.decoder.specs.declared.record.Decoder.{Decoder}
-use Rattle.decoder.specs.Record.{place, searchedAs, stopAs}
+use Rattle.playback.specs.Turns.{TurnState, atPicture}
+use Rattle.playback.specs.Cases.{isThere, isFlush}
+use Rattle.decoder.specs.Record.{place, searchedAs, stopAs, resumed}
 use Rattle.decoder.specs.Record as R
-use Rattle.decoder.specs.Turns.{Going, nextPicture}
-use Rattle.decoder.specs.HandOut.{begun}
 use Rattle.demands.specs.Codes.{NoneFound}
 use Rattle.demands.specs.Causes.{Cause}
-use Rattle.demands.specs.Questions.{headed, isThere, isFlush, pictureEnd}
-use Rattle.demands.specs.After.{AtCode, sizeRead, InTurn}
+use Rattle.demands.specs.Questions.{headed}
+use Rattle.demands.specs.After.{AtCode, sizeRead, InCall, endIn}
 
 -- RULES Q3: the place where the search ended, start code -1
 pub record Row3 (s : List ℕ) (d x : Decoder) : Type 0 where
@@ -39,17 +39,17 @@ pub record Row5 (s : List ℕ) (d x : Decoder) : Type 0 where
 
 -- RULES Q7: no picture to decode or to flush; the record behind the search of that turn, the store as the turn was given it
 pub record Row7 (d : Decoder) (s l : List ℕ) (x : Decoder) (m : List ℕ) : Type 0 where
-  pub given : Going
-  pub turn : InTurn s (begun d (headed s d) l) given
-  pub none : isThere s (nextPicture s (given .decoder)) ≡ false
-  pub kept : isFlush s (nextPicture s (given .decoder)) ≡ false
-  pub decoder : x ≡ nextPicture s (given .decoder)
+  pub given : TurnState
+  pub turn : InCall d s l given
+  pub none : isThere s (atPicture s given .state) ≡ false
+  pub kept : isFlush s (atPicture s given .state) ≡ false
+  pub decoder : x ≡ resumed (headed s d) (atPicture s given)
   pub store : m ≡ given .store
 
 -- RULES Q8, Q9: the picture left early for its cause, with what it had written; the record as passed in with the stop mark n
 pub record Row89 (d : Decoder) (s l : List ℕ) (n : ℕ) (x : Decoder) (m : List ℕ) : Type 0 where
-  pub given : Going
-  pub turn : InTurn s (begun d (headed s d) l) given
-  pub left : pictureEnd s (nextPicture s (given .decoder)) (given .store) ≡ out n m
-  pub cause : Cause s (given .decoder .sequence .sizes) n
+  pub given : TurnState
+  pub turn : InCall d s l given
+  pub left : endIn d s given ≡ out n m
+  pub cause : Cause s (headed s d .sequence .sizes) n
   pub decoder : x ≡ stopAs n d

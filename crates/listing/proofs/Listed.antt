@@ -9,16 +9,15 @@ use lib.ListN.{length, getD, take, replicate}
 use Rattle.io.specs.Counts.{Counts}
 use Rattle.bits.specs.Programs.{many}
 use Rattle.decoder.specs.declared.record.Decoder.{Decoder}
-use Rattle.decoder.specs.declared.answers.Shown.{Shown}
+use Rattle.playback.specs.declared.outcome.Shown.{Shown}
 use Rattle.decoder.specs.declared.answers.Opening.{Opening}
 use Rattle.decoder.specs.declared.answers.Opening.the-variants as O
-use Rattle.decoder.specs.declared.answers.Outcome.{Outcome}
-use Rattle.decoder.specs.declared.answers.Outcome.the-variants as H
+use Rattle.playback.specs.declared.outcome.Outcome.{Outcome}
+use Rattle.playback.specs.declared.outcome.Outcome.the-variants as H
 use Rattle.decoder.specs.Record.{Left, left}
 use Rattle.decoder.specs.Opening.{opening}
-use Rattle.decoder.specs.Turns.{Going, going}
 use Rattle.decoder.specs.HandOut.{handOut}
-use Rattle.decoder.specs.Run.{begin, behind, pictureIn}
+use Rattle.decoder.specs.Run.{Going, going, begin, behind, pictureIn}
 use Rattle.decoder.specs.Listing.{Line, line, linesFrom, linesOf, listing}
 use Rattle.demands.proofs.RunCall.{Between, call-on, few}
 use Rattle.demands.proofs.Run.{opening-begins}
@@ -66,7 +65,7 @@ refused-listed s d l a h e = opened-lines s (left (O.Refused a) d l) h e
 -- the lines from a call on, which left x
 abbrev lines : ℕ → ℕ → List ℕ → Left Outcome → List Line
 lines k n s x = elim (x .answer) [
-  | H.Picture p ↦ line (n + 1) (p .store) (x .decoder .picture .«picture_type») 0 ∷ linesFrom k s (n + 1) (x .decoder) (x .store)
+  | H.Picture p ↦ line (n + 1) (p .store) (x .decoder .state .picture .«picture_type») 0 ∷ linesFrom k s (n + 1) (x .decoder) (x .store)
   | H.Refused answer ↦ line n 0 0 answer ∷ []
 ]
 
@@ -107,7 +106,7 @@ module _ {s page₀ : List ℕ} {at₀ : ℕ} {page : List ℕ} {at : ℕ} {l : 
       (wrote-on (h .wrote) w)
 
   pub listed-one : {after : List ℕ} {next : ℕ} (i : Shown) (e : Decoder) (m : List ℕ) → left (H.Picture i) e m ≡ handOut d s l
-      → Wrote page at (lineText (line (n + 1) (i .store) (e .picture .«picture_type») 0)) after next → next ≤ at + 84
+      → Wrote page at (lineText (line (n + 1) (i .store) (e .state .picture .«picture_type») 0)) after next → next ≤ at + 84
       → Listed s page₀ at₀ after next m e (n + 1)
   unfolding linesText
   listed-one {after} {next} i e m q w z =
@@ -119,7 +118,7 @@ module _ {s page₀ : List ℕ} {at₀ : ℕ} {page : List ℕ} {at : ℕ} {l : 
         run = subst (λ (r : Left Outcome). Between s (behind r) (n + pictureIn (r .answer))) (sym q) (call-on s (omega arith) (h .bytes) (h .run) .0);
         long = wrote-length w ∙ h .long;
         place = omega arith;
-        so-far = h .so-far ++ lineText (line (n + 1) (i .store) (e .picture .«picture_type») 0);
+        so-far = h .so-far ++ lineText (line (n + 1) (i .store) (e .state .picture .«picture_type») 0);
         wrote = wrote-on (h .wrote) w;
         whole = append-assoc (h .so-far) _ _ ∙ following (left (H.Picture i) e m) q;
       }

@@ -2,8 +2,8 @@
 use crate::text::write_bytes;
 use crate::text::write_line;
 use decoder::answers::Opening;
-use decoder::answers::Outcome;
 use decoder::record::Decoder;
+use playback::outcome::Outcome;
 ghost use mathlib.Core.Path.{_≡_};
 ghost use Prim.Native.Nat.{_≤_};
 ghost use lib.ListN.{length, replicate, take};
@@ -53,7 +53,7 @@ fn list_pictures(
             return write_line(page, at, handed, 0, 0, number(outcome));
         };
         handed += 1;
-        let kind = decoder.picture.picture_type as u64;
+        let kind = decoder.state.picture.picture_type as u64;
         at = write_line(page, at, handed, shown.store as u64, kind, 0);
     }
 }

@@ -7,6 +7,7 @@ use lib.Dec.{leb}
 use lib.Ieee.{Float}
 use lib.IntN.{ℤ}
 use lib.ListN.{length}
+use Rattle.playback.specs.State.{held, frames, nextTime, shownTime}
 use Rattle.decoder.specs.declared.record.Decoder.{Decoder}
 use Rattle.decoder.specs.Record.{place}
 
@@ -44,29 +45,29 @@ fields = record {
       ∷ size (λ d. d .sequence .sizes .«mb_width»)
       ∷ size (λ d. d .sequence .sizes .«mb_height»)
       ∷ size (λ d. d .sequence .sizes .«mb_size»)
-      ∷ short (λ d. d .picture .«picture_type»)
-      ∷ size (λ d. d .picture .stores .cur)
-      ∷ size (λ d. d .picture .stores .fwd)
-      ∷ size (λ d. d .picture .stores .bwd)
-      ∷ short (λ d. d .picture .slice .«quantizer_scale»)
-      ∷ flag (λ d. d .picture .slice .«motion_forward» .«full_px»)
-      ∷ flag (λ d. d .picture .slice .«motion_forward» .«is_set»)
-      ∷ short (λ d. d .picture .slice .«motion_forward» .«r_size»)
-      ∷ flag (λ d. d .picture .slice .«motion_backward» .«full_px»)
-      ∷ flag (λ d. d .picture .slice .«motion_backward» .«is_set»)
-      ∷ short (λ d. d .picture .slice .«motion_backward» .«r_size»)
-      ∷ flag (λ d. d .«has_reference_frame»)
-      ∷ short (λ d. d .«frames_decoded»)
+      ∷ short (λ d. d .state .picture .«picture_type»)
+      ∷ size (λ d. d .state .picture .stores .cur)
+      ∷ size (λ d. d .state .picture .stores .fwd)
+      ∷ size (λ d. d .state .picture .stores .bwd)
+      ∷ short (λ d. d .state .picture .slice .«quantizer_scale»)
+      ∷ flag (λ d. d .state .picture .slice .«motion_forward» .«full_px»)
+      ∷ flag (λ d. d .state .picture .slice .«motion_forward» .«is_set»)
+      ∷ short (λ d. d .state .picture .slice .«motion_forward» .«r_size»)
+      ∷ flag (λ d. d .state .picture .slice .«motion_backward» .«full_px»)
+      ∷ flag (λ d. d .state .picture .slice .«motion_backward» .«is_set»)
+      ∷ short (λ d. d .state .picture .slice .«motion_backward» .«r_size»)
+      ∷ flag (λ d. held (d .state))
+      ∷ short (λ d. frames (d .state))
       ∷ short (λ d. d .stop)
       ∷ [];
   integers =
-      one (λ d. d .picture .«start_code»)
-      ∷ one (λ d. d .picture .slice .«macroblock_address»)
-      ∷ one (λ d. d .picture .slice .«motion_forward» .h)
-      ∷ one (λ d. d .picture .slice .«motion_forward» .v)
-      ∷ one (λ d. d .picture .slice .«motion_backward» .h)
-      ∷ one (λ d. d .picture .slice .«motion_backward» .v)
-      ∷ many 3 (λ d. d .picture .slice .«dc_predictor»)
+      one (λ d. d .state .picture .«start_code»)
+      ∷ one (λ d. d .state .picture .slice .«macroblock_address»)
+      ∷ one (λ d. d .state .picture .slice .«motion_forward» .h)
+      ∷ one (λ d. d .state .picture .slice .«motion_forward» .v)
+      ∷ one (λ d. d .state .picture .slice .«motion_backward» .h)
+      ∷ one (λ d. d .state .picture .slice .«motion_backward» .v)
+      ∷ many 3 (λ d. d .state .picture .slice .«dc_predictor»)
       ∷ many 64 (λ d. d .«block_data»)
       ∷ [];
   matrices =
@@ -74,10 +75,10 @@ fields = record {
       ∷ many 64 (λ d. d .sequence .matrices .«non_intra_quant_matrix»)
       ∷ [];
   clock =
-      one (λ d. d .clock .framerate)
-      ∷ one (λ d. d .clock .«pixel_aspect_ratio»)
-      ∷ one (λ d. d .clock .time)
-      ∷ one (λ d. d .clock .«last_frame_time»)
+      one (λ d. d .state .display .clock .framerate)
+      ∷ one (λ d. d .state .display .clock .«pixel_aspect_ratio»)
+      ∷ one (λ d. nextTime (d .state))
+      ∷ one (λ d. shownTime (d .state))
       ∷ [];
 }
 

@@ -11,7 +11,7 @@ use borrow.Rule.Slice.PartMut.{midOf}
 use Rattle.picture.specs.declared.state.Motion.{Motion}
 use Rattle.picture.specs.declared.state.Picture.{Picture}
 use Rattle.header.specs.declared.state.Sequence.{Sequence}
-use Rattle.decoder.specs.declared.record.Clock.{Clock}
+use Rattle.playback.specs.declared.state.Clock.{Clock}
 use Rattle.decoder.specs.declared.record.Decoder.{Decoder}
 use Rattle.memory.specs.Fields.{Number, fields, fits, numbersOf, integersOf, matricesOf, clockOf, numberCount, integerCount, matrixCount, clockCount}
 
@@ -89,13 +89,13 @@ clockIn c = record {
 -- the record read of a memory
 unfoldable pub recordOf : Memory → Decoder
 recordOf x = let n = x .numbers in record {
-  reader = record { at = record { 0 = number n 0 } };
   sequence = sequenceIn n (x .matrices);
-  picture = pictureIn n (x .integers);
+  state = record {
+    position = record { 0 = number n 0 };
+    picture = pictureIn n (x .integers);
+    display = record { clock = clockIn (x .clock); «has_reference_frame» = flagOf (number n 18); «frames_decoded» = number n 19 };
+  };
   «block_data» = midOf 9 64 (x .integers);
-  clock = clockIn (x .clock);
-  «has_reference_frame» = flagOf (number n 18);
-  «frames_decoded» = number n 19;
   stop = number n 20;
 }
 

@@ -16,12 +16,12 @@ pub fn numbers_of(d: Decoder) -> [usize; NUMBERS]
     ensures { λ r. ⌜ (r ≡ numbersOf d) × TypedNumbers (fields .numbers) d ⌝ }
 {
     let q = d.sequence;
-    let p = d.picture;
+    let p = d.state.picture;
     let s = p.slice;
     let f = s.motion_forward;
     let b = s.motion_backward;
     [
-        d.reader.at.0,
+        d.state.position.0,
         flag(q.has_sequence_header),
         q.width,
         q.height,
@@ -39,8 +39,8 @@ pub fn numbers_of(d: Decoder) -> [usize; NUMBERS]
         flag(b.full_px),
         flag(b.is_set),
         b.r_size as usize,
-        flag(d.has_reference_frame),
-        d.frames_decoded as usize,
+        flag(d.state.display.has_reference_frame),
+        d.state.display.frames_decoded as usize,
         d.stop as usize,
     ]
 }
@@ -49,7 +49,7 @@ pub fn numbers_of(d: Decoder) -> [usize; NUMBERS]
 pub fn single_integers(d: Decoder) -> [i32; 6]
     ensures { λ r. ⌜ r ≡ take 6 (integersOf d) ⌝ }
 {
-    let p = d.picture;
+    let p = d.state.picture;
     let s = p.slice;
     let f = s.motion_forward;
     let b = s.motion_backward;
@@ -57,9 +57,9 @@ pub fn single_integers(d: Decoder) -> [i32; 6]
 }
 
 pub fn predictors_of(d: Decoder) -> [i32; 3]
-    ensures { λ r. ⌜ r ≡ d .picture .slice .«dc_predictor» ⌝ }
+    ensures { λ r. ⌜ r ≡ d .state .picture .slice .«dc_predictor» ⌝ }
 {
-    let p = d.picture;
+    let p = d.state.picture;
     let s = p.slice;
     s.dc_predictor
 }
@@ -87,6 +87,6 @@ pub fn non_intra_of(d: Decoder) -> [u8; 64]
 pub fn clock_of(d: Decoder) -> [f64; 4]
     ensures { λ r. ⌜ r ≡ clockOf d ⌝ }
 {
-    let c = d.clock;
+    let c = d.state.display.clock;
     [c.framerate, c.pixel_aspect_ratio, c.time, c.last_frame_time]
 }

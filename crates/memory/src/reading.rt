@@ -7,8 +7,6 @@ use crate::format::INTEGERS;
 use crate::format::MATRICES;
 use crate::format::NUMBERS;
 use bits::position::BitPosition;
-use bits::reader::Reader;
-use decoder::record::Clock;
 use decoder::record::Decoder;
 use header::state::Sequence;
 use picture::state::Matrices;
@@ -17,6 +15,9 @@ use picture::state::Picture;
 use picture::state::Sizes;
 use picture::state::Slice;
 use picture::state::Stores;
+use playback::state::Clock;
+use playback::state::Display;
+use playback::state::State;
 ghost use mathlib.Core.Path.{_≡_};
 ghost use Prim.Native.Nat.{_+_, _≤_};
 ghost use borrow.Rule.Slice.PartMut.{midOf};
@@ -153,23 +154,27 @@ pub fn record_of(numbers: &[usize], integers: &[i32], matrices: &[u8], clock: &[
     ensures { λ r. ⌜ r ≡ recordOf (memory (now (numbers .entry)) (now (integers .entry)) (now (matrices .entry)) (now (clock .entry))) ⌝ }
 {
     let at = numbers[0];
-    let reader = Reader {
-        at: BitPosition(at),
-    };
+    let position = BitPosition(at);
     let sequence = sequence_in(numbers, matrices);
     let picture = picture_in(numbers, integers);
     let block_data = block_in(integers);
     let has_reference_frame = numbers[18] == 1;
     let frames_decoded = numbers[19] as u32;
     let stop = numbers[20] as u32;
-    Decoder {
-        reader,
-        sequence,
-        picture,
-        block_data,
+    let display = Display {
         clock: clock_in(clock),
         has_reference_frame,
         frames_decoded,
+    };
+    let state = State {
+        position,
+        picture,
+        display,
+    };
+    Decoder {
+        sequence,
+        state,
+        block_data,
         stop,
     }
 }

@@ -9,8 +9,8 @@ use lib.Ieee.{Float}
 use lib.ListN.{length, set}
 use Rattle.decoder.specs.declared.record.Decoder.{Decoder}
 use Rattle.decoder.specs.declared.answers.Opening.{Opening}
-use Rattle.decoder.specs.declared.answers.Outcome.{Outcome}
-use Rattle.decoder.specs.declared.answers.Outcome.the-variants as H
+use Rattle.playback.specs.declared.outcome.Outcome.{Outcome}
+use Rattle.playback.specs.declared.outcome.Outcome.the-variants as H
 use Rattle.decoder.specs.declared.answers.Converted.{Converted}
 use Rattle.decoder.specs.Record.{left}
 use Rattle.decoder.specs.Opening.{opening}

@@ -10,9 +10,9 @@ use lib.ListN.{length, replicate}
 use Rattle.bits.specs.Bounds.{longestStream}
 use Rattle.bits.specs.Programs.{if_then_else_}
 use Rattle.header.specs.State.{noTime}
-use Rattle.decoder.specs.declared.answers.Outcome.{Outcome}
-use Rattle.decoder.specs.declared.answers.Outcome.the-variants as H
-use Rattle.decoder.specs.declared.answers.Shown.{Shown}
+use Rattle.playback.specs.declared.outcome.Outcome.{Outcome}
+use Rattle.playback.specs.declared.outcome.Outcome.the-variants as H
+use Rattle.playback.specs.declared.outcome.Shown.{Shown}
 use Rattle.decoder.specs.Record.{Left}
 use Rattle.decoder.specs.Answers.{openingNumber, conversionNumber}
 use Rattle.decoder.specs.Opening.{opening}

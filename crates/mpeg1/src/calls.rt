@@ -2,13 +2,13 @@
 use bits::position::LONGEST_STREAM;
 use decoder::answers::Converted;
 use decoder::answers::Opening;
-use decoder::answers::Outcome;
 use decoder::record::Decoder;
 use memory::format::CLOCK;
 use memory::reading::has_room;
 use memory::reading::is_record;
 use memory::reading::record_of;
 use memory::writing::save;
+use playback::outcome::Outcome;
 ghost use mathlib.Core.Path.{_≡_};
 ghost use mathlib.Core.Bool.{true};
 ghost use lib.Dec.{leb};

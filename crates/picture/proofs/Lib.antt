@@ -1,4 +1,6 @@
 pub mod Example
+pub mod Exits
+pub mod Walk
 pub mod Fuel
 pub mod Increments
 pub mod Kept

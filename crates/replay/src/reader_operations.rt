@@ -138,7 +138,7 @@ fn peeked(s: &[u8], reader: Reader, count: usize) -> Outcome
 // The place in bytes.
 fn told(place: Told) -> Outcome
     requires { ⌜ place .at .0 < 4294967296 ⌝ }
-    ensures { λ r. ⌜ r ≡ gives (place .at .0) (place .reader .at .0) ⌝ }
+    ensures { λ r. ⌜ r ≡ gives (place .at .0) (placeOf (place .reader)) ⌝ }
 {
     given(place.reader, place.at.0 as u32)
 }
@@ -146,7 +146,7 @@ fn told(place: Told) -> Outcome
 // How many bytes were passed.
 fn passed(bytes: SkippedBytes) -> Outcome
     requires { ⌜ bytes .count < 4294967296 ⌝ }
-    ensures { λ r. ⌜ r ≡ gives (bytes .count) (bytes .reader .at .0) ⌝ }
+    ensures { λ r. ⌜ r ≡ gives (bytes .count) (placeOf (bytes .reader)) ⌝ }
 {
     given(bytes.reader, bytes.count as u32)
 }

@@ -39,6 +39,8 @@ use Rattle.header.specs.Store.{cleared}
 use Rattle.header.specs.Sequences.{matrix, size, rest}
 use Rattle.decoder.specs.declared.answers.Opening.{Opening}
 use Rattle.decoder.specs.declared.answers.Opening.the-variants.{Ready}
+use Rattle.playback.specs.State.{freshState}
+use Rattle.playback.specs.Search.{nextCode}
 use Rattle.decoder.specs.Record.{Left, fresh, place}
 use Rattle.decoder.specs.Headers.{findSequence, accepted, askSize, askHeader, askStore}
 use Rattle.decoder.specs.Opening.{opened, openingFrom, opening}
@@ -115,5 +117,5 @@ unfolding clamp255 odd storeRow storeRows bitAt bitsAt got next codePrefix codeF
     Prediction.predictedPlane Prediction.predictedFrom Prediction.predicted Prediction.skippedFrom Prediction.skipped
     Block.reconstructed Block.dctDc Block.written Block.intraBlock Block.nonIntraBlock Block.blocks S.coded S.macroblock
     S.pastMacroblock S.sliceTurn S.slice S.direction S.header S.pastSlice S.slicesTurn S.slices S.picture
-    fresh cleared matrix size rest findSequence accepted askSize askHeader askStore opened openingFrom opening following pictures
+    fresh freshState cleared nextCode matrix size rest findSequence accepted askSize askHeader askStore opened openingFrom opening following pictures
 sequence = record { ready = refl; four = refl; handed = refl }

@@ -6,25 +6,32 @@ use Prim.Native.Nat.{ℕ, _*_, _≤_}
 use native.Mathlib.Omega.{arith}
 use borrow.Author.Tests.{eqb-true, lt-leb}
 use lib.Dec.{eqb}
-use lib.IntN.{ℤ, pos, negsuc}
+use lib.IntN.{ℤ, negsuc}
 use lib.ListN.{length}
 use Rattle.laws.specs.Turns.{Turn, again, stop}
 use Rattle.bits.specs.Bounds.{longestStream}
-use Rattle.bits.specs.Programs.{eqZ}
+use Rattle.bits.specs.Programs.{eqZ, many}
 use Rattle.bits.proofs.Programs.{run-on}
 use Rattle.picture.specs.declared.state.Stores.{Stores}
 use Rattle.picture.specs.declared.state.Sizes.{Sizes}
 use Rattle.picture.specs.declared.state.Matrices.{Matrices}
+use Rattle.picture.specs.Pictures.{Frame}
 use Rattle.standard.specs.Standard as S
 use Rattle.standard.proofs.Related.{Rule}
-use Rattle.decoder.specs.declared.record.Decoder.{Decoder}
-use Rattle.decoder.specs.declared.answers.Outcome.the-variants as H
-use Rattle.decoder.specs.Record.{place, heldAs, searchedAs}
-use Rattle.decoder.specs.Turns.{Going, going, Ended, gave, hasEnded, isFollowed, counted, told, handed, shown, pictureTurn}
+use Rattle.standard.proofs.Picture.{Result}
+use Rattle.playback.specs.declared.outcome.Outcome.the-variants as H
+use Rattle.playback.specs.declared.state.State.{State}
+use Rattle.playback.specs.State as State
+use Rattle.playback.specs.State.{pastFrame, heldAs}
+use Rattle.playback.specs.Search.{hasEnded, isFollowed}
+use Rattle.playback.specs.Display.{counted, told}
+use Rattle.playback.specs.Turns.{TurnState, inState, Ended, gave, pictureTurn}
+use Rattle.playback.specs.Cases.{isB, leftBy, countedPast}
+use Rattle.playback.proofs.Cases.{turn-b, turn-held, turn-holds}
 use Rattle.sequence.specs.Sequence.{Carried, carried}
 use Rattle.sequence.specs.Display as D
-use Rattle.sequence.proofs.Searches.{finds, following-finds}
-use Rattle.sequence.proofs.Turns.{Waiting, Behind, last, Turned, turned}
+use Rattle.sequence.proofs.Searches.{Next, finds, following-finds}
+use Rattle.sequence.proofs.Turns.{Waiting, found, next-is, last, Picture, read}
 use Rattle.sequence.proofs.Pictures.{coded, Begun, inverted, last-is}
 use Rattle.sequence.proofs.Stores.{Sound, Waits, store-next, still-holds, waits-on, waits-now}
 
@@ -46,148 +53,132 @@ module _ (rule : Rule) (s : List ℕ) (long : length s ≤ longestStream) (z : S
       let n = following-finds m s a (q .f) (q .following) (q .code) in
       rw (last-is s (q .f .at) c (q .before)) (lt-leb (length s * 8) (q .f .at) (omega (arith, n .at, n .there .five)))
 
-  pub last-turn : (x : Carried) (a : ℕ) (d : Decoder) (l : List ℕ) → Waiting z m x a d l → (c : S.Decoded) (q : Begun rule s z m x a c [])
-      → pictureTurn s (going d l) ≡ stop (gave (H.Refused 7) (searchedAs (pos 0) (q .f .at) d) l)
-  last-turn x a d l w c q =
-      last rule s long z m x a d l w (q .f) (following-finds m s a (q .f) (q .following) (q .code)) (not-followed x a c q)
+  pub last-turn : (x : Carried) (a : ℕ) (y : TurnState) (w : Waiting x a y) (c : S.Decoded) (q : Begun rule s z m x a c [])
+      → pictureTurn s z m y
+      ≡ stop (gave (H.Refused 7) (inState (found rule s long z m x a y w (q .f) (following-finds m s a (q .f) (q .following) (q .code))) y))
+  last-turn x a y w c q = last rule s long z m x a y w (q .f) (following-finds m s a (q .f) (q .following) (q .code)) (not-followed x a c q)
 
-  module _ (x : Carried) (a : ℕ) (d : Decoder) (l : List ℕ) (w : Waiting z m x a d l) (unmarked : d .stop ≡ 0) (c e′ : S.Decoded) (es : List S.Decoded)
+  module _ (x : Carried) (a : ℕ) (y : TurnState) (w : Waiting x a y) (c e′ : S.Decoded) (es : List S.Decoded)
       (q : Begun rule s z m x a c (e′ ∷ es)) (area : z .«mb_size» ≡ z .«mb_width» * z .«mb_height») (sound : Sound (z .«mb_size») x) where
     abbrev pub after : ℕ
     after = coded rule s z m x (q .f .at) .at
 
-    abbrev made : Turned rule s long z m x a d l w (q .f) (following-finds m s a (q .f) (q .following) (q .code)) c (q .value) unmarked
-        (followed x a c e′ es q)
-    made = turned rule s long z m x a d l w (q .f) (following-finds m s a (q .f) (q .following) (q .code)) c (q .value) unmarked (followed x a c e′ es q)
+    abbrev next : Next s many a (q .f)
+    next = following-finds m s a (q .f) (q .following) (q .code)
 
-    abbrev isB : Bool
-    isB = eqb (c .header .«picture_coding_type») 3
+    -- the state behind the search, and the picture as ours reads it
+    abbrev here : State
+    here = found rule s long z m x a y w (q .f) next
+
+    abbrev ours : Picture rule s long z m x a y w (q .f) next c (q .value)
+    ours = read rule s long z m x a y w (q .f) next c (q .value)
+
+    abbrev r : Result c (ours .frame)
+    r = ours .result
+
+    -- the state behind the picture
+    abbrev past : State
+    past = pastFrame (ours .frame) after here
+
+    abbrev isBThere : Bool
+    isBThere = eqb (c .header .«picture_coding_type») 3
+
+    is-b : {t : Bool} → isBThere ≡ t → isB (ours .frame) ≡ t
+    is-b e = ap (λ (k : ℕ). eqb k 3) (r .type) ∙ e
+
+    -- what a turn leaves that has read it
+    waiting-behind : (h : Bool) → carried x c .held ≡ h → (v : State) → State.place v ≡ after → v .picture ≡ ours .frame .picture → State.held v ≡ h
+        → Waiting (carried x c) after (leftBy (ours .frame) v)
+    waiting-behind h e v at p k = record {
+      place = at;
+      code = rw p (r .code);
+      stores = rw p (r .stores);
+      begun = rw p (r .begun);
+      left = r .left;
+      held = k ∙ sym e;
+      pels = r .pels;
+    }
 
     -- it hands out a picture: where `old` waits, a B picture itself, else `old`
     pub record Handing (old : S.Decoded) : Type 0 where
       pub picture : S.Decoded
       pub next : S.Decoded
-      pub decoder : Decoder
-      pub turn : pictureTurn s (going d l) ≡ stop (gave (H.Picture (told (D.storeOf picture) decoder)) decoder (c .pels))
+      pub left : TurnState
+      pub turn : pictureTurn s z m y ≡ stop (gave (H.Picture (told (D.storeOf picture) (left .state))) left)
+      pub pels : left .store ≡ c .pels
       pub holds : D.Holds (z .«mb_size») (c .pels) picture
       pub order : (ds : List S.Decoded) → D.displayed old (c ∷ ds) ≡ picture ∷ D.displayed next ds
       pub waits : Waits (z .«mb_size») next (carried x c)
-      pub waiting : Waiting z m (carried x c) after decoder (c .pels)
-      pub mark : decoder .stop ≡ 0
+      pub waiting : Waiting (carried x c) after left
       pub held : carried x c .held ≡ true
 
     pub handing : x .held ≡ true → (old : S.Decoded) → Waits (z .«mb_size») old x → Handing old
-    unfolding shown handed counted
-    handing h old k = go isB refl
+    unfolding counted
+    handing h old k = go isBThere refl
       where
-        d′ : Decoder
-        d′ = made .decoder
+        v : State
+        v = counted past
 
-        b : Behind z m x c after d′
-        b = made .behind
+        hand : ℕ → Turn TurnState Ended
+        hand k = stop (gave (H.Picture (told k v)) (leftBy (ours .frame) v))
 
-        hand : ℕ → Turn Going Ended
-        hand k = stop (handed k d′ (c .pels))
-
-        other : Bool → Turn Going Ended
-        other t = cond t (hand (d′ .picture .stores .fwd)) (again (going (heldAs true d′) (c .pels)))
-
-        turn : pictureTurn s (going d l) ≡ cond isB (hand (d′ .picture .stores .cur)) (other (d′ .«has_reference_frame»))
-        turn = made .turn ∙ ap (λ (k : ℕ). cond (eqb k 3) (hand (d′ .picture .stores .cur)) (other (d′ .«has_reference_frame»))) (b .type)
-
-        waiting : cond isB (x .held) true ≡ x .held → Waiting z m (carried x c) after (counted d′) (c .pels)
-        waiting i = record {
-          place = b .place;
-          code = b .code;
-          sizes = b .sizes;
-          matrices = b .matrices;
-          stores = b .stores;
-          begun = b .begun;
-          left = b .left;
-          held = b .held ∙ sym i;
-          pels = refl;
-        }
-
-        go : (t : Bool) → isB ≡ t → Handing old
+        go : (t : Bool) → isBThere ≡ t → Handing old
         go true e =
-            let kept : cond isB (x .held) true ≡ x .held = ap (λ (t : Bool). cond t (x .held) true) e in
-            let store : d′ .picture .stores .cur ≡ D.storeOf c = ap (λ (t : Stores). t .cur) (b .stores)
+            let kept : carried x c .held ≡ true = ap (λ (t : Bool). cond t (x .held) true) e ∙ h in
+            let store : ours .frame .picture .stores .cur ≡ D.storeOf c = ap (λ (t : Stores). t .cur) (r .stores)
             ∙ ap (λ (t : Bool). cond t (c .stores .cur) (c .stores .bwd)) (sym e) in
             record {
               picture = c;
               next = old;
-              decoder = counted d′;
-              turn = turn ∙ ap (λ (t : Bool). cond t (hand (d′ .picture .stores .cur)) (other (d′ .«has_reference_frame»))) e ∙ ap hand store;
+              left = leftBy (ours .frame) v;
+              turn = turn-b s z m y here (next-is rule s long z m x a y w (q .f) next) (followed x a c e′ es q) (ours .reads) (is-b e) ∙ ap hand store;
+              pels = r .pels;
               holds = λ i j. refl;
               order = λ ds. ap (λ (t : Bool). cond t (c ∷ D.displayed old ds) (old ∷ D.displayed c ds)) e;
               waits = waits-on rule s z m area x a c (e′ ∷ es) q sound old k e;
-              waiting = waiting kept;
-              mark = b .mark;
-              held = kept ∙ h;
+              waiting = waiting-behind true kept v refl refl (w .held ∙ h);
+              held = kept;
             }
         go false e =
-            let kept : cond isB (x .held) true ≡ true = ap (λ (t : Bool). cond t (x .held) true) e in
-            let store : d′ .picture .stores .fwd ≡ D.storeOf old = ap (λ (t : Stores). t .fwd) (b .stores)
+            let kept : carried x c .held ≡ true = ap (λ (t : Bool). cond t (x .held) true) e in
+            let store : ours .frame .picture .stores .fwd ≡ D.storeOf old = ap (λ (t : Stores). t .fwd) (r .stores)
             ∙ store-next rule s z m area x a c (e′ ∷ es) q sound old k e in
             record {
               picture = old;
               next = c;
-              decoder = counted d′;
-              turn = turn ∙ ap (λ (t : Bool). cond t (hand (d′ .picture .stores .cur)) (other (d′ .«has_reference_frame»))) e ∙ ap other (b .held ∙ h)
+              left = leftBy (ours .frame) v;
+              turn = turn-held s z m y here (next-is rule s long z m x a y w (q .f) next) (followed x a c e′ es q) (ours .reads) (is-b e) (w .held ∙ h)
                   ∙ ap hand store;
+              pels = r .pels;
               holds = still-holds rule s z m area x a c (e′ ∷ es) q sound old k;
               order = λ ds. ap (λ (t : Bool). cond t (c ∷ D.displayed old ds) (old ∷ D.displayed c ds)) e;
               waits = waits-now rule s z m area x a c (e′ ∷ es) q sound e;
-              waiting = waiting (kept ∙ sym h);
-              mark = b .mark;
+              waiting = waiting-behind true kept v refl refl (w .held ∙ h);
               held = kept;
             }
 
     -- the first one is held
     pub record Holding : Type 0 where
-      pub decoder : Decoder
-      pub turn : pictureTurn s (going d l) ≡ again (going decoder (c .pels))
+      pub left : TurnState
+      pub turn : pictureTurn s z m y ≡ again left
       pub waits : Waits (z .«mb_size») c (carried x c)
-      pub waiting : Waiting z m (carried x c) after decoder (c .pels)
-      pub mark : decoder .stop ≡ 0
+      pub waiting : Waiting (carried x c) after left
       pub held : carried x c .held ≡ true
 
     pub holding : x .held ≡ false → Holding
-    unfolding shown
     holding h = record {
-      decoder = heldAs true d′;
-      turn = made .turn ∙ ap (λ (t : Bool). cond t (stop (handed (d′ .picture .stores .cur) d′ (c .pels))) (other (d′ .«has_reference_frame»)))
-          (ap (λ (k : ℕ). eqb k 3) (b .type) ∙ no) ∙ ap other (b .held ∙ h);
+      left = leftBy (ours .frame) (heldAs true past);
+      turn = turn-holds s z m y here (next-is rule s long z m x a y w (q .f) next) (followed x a c e′ es q) (ours .reads) (is-b no) (w .held ∙ h);
       waits = waits-now rule s z m area x a c (e′ ∷ es) q sound no;
-      waiting = record {
-        place = b .place;
-        code = b .code;
-        sizes = b .sizes;
-        matrices = b .matrices;
-        stores = b .stores;
-        begun = b .begun;
-        left = b .left;
-        held = sym held;
-        pels = refl;
-      };
-      mark = b .mark;
+      waiting = waiting-behind true held (heldAs true past) refl refl refl;
       held = held;
     }
       where
-        d′ : Decoder
-        d′ = made .decoder
-
-        b : Behind z m x c after d′
-        b = made .behind
-
-        other : Bool → Turn Going Ended
-        other t = cond t (stop (handed (d′ .picture .stores .fwd) d′ (c .pels))) (again (going (heldAs true d′) (c .pels)))
-
         -- it is an I picture
-        no : isB ≡ false
+        no : isBThere ≡ false
         no =
             ap (λ (k : ℕ). eqb k 3)
             (eqb-true (c .header .«picture_coding_type») 1 (ap (λ (t : Bool). t || eqb (c .header .«picture_coding_type») 1) (sym h) ∙ q .may))
 
-        held : cond isB (x .held) true ≡ true
+        held : carried x c .held ≡ true
         held = ap (λ (t : Bool). cond t (x .held) true) no

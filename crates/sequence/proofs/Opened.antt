@@ -17,10 +17,12 @@ use Rattle.header.specs.Sequences.{size}
 use Rattle.decoder.specs.declared.record.Decoder.{Decoder}
 use Rattle.decoder.specs.declared.answers.Opening.{Opening}
 use Rattle.decoder.specs.declared.answers.Opening.the-variants as O
-use Rattle.decoder.specs.Record.{Left, fresh, place, searchedAs, storeBytes}
+use Rattle.playback.specs.State.{freshState}
+use Rattle.playback.specs.Search.{nextCode}
+use Rattle.decoder.specs.Record.{Left, fresh, given, place, searchedAs, storeBytes}
 use Rattle.decoder.specs.Headers.{Asked, refused, passed, findSequence, accepted, askSize, askHeader, askStore}
 use Rattle.decoder.specs.Opening.{opened, openingFrom, opening}
-use Rattle.decoder.proofs.Searches.{Sought, hit, miss, sought}
+use Rattle.playback.proofs.Searches.{Sought, hit, miss, sought}
 use Rattle.demands.proofs.Keeps.{Keeps}
 use Rattle.demands.proofs.RunCall.{accepted-keeps}
 use Rattle.demands.proofs.Waiting.{Accepts, fresh-waits, header-accepts}
@@ -30,7 +32,7 @@ use Rattle.sequence.proofs.Turns.{Waiting}
 -- with the store l
 abbrev pub Starting : Decoder → List ℕ → Type 0
 Starting d l =
-    Waiting (d .sequence .sizes) (d .sequence .matrices) (begins l) (place d) d l
+    Waiting (begins l) (place d) (given d l)
     × (d .sequence .sizes .«mb_size» ≡ d .sequence .sizes .«mb_width» * d .sequence .sizes .«mb_height»)
 
 abbrev Asks : Asked → Type 0
@@ -38,7 +40,7 @@ Asks (refused n x) = Unit {0}
 Asks (passed x) = (l : List ℕ) → Starting x l
 
 size-asks : (s : List ℕ) (e : ℕ) → Asks (askSize s (searchedAs (pos 0xb3) e fresh))
-unfolding askSize accepted fresh
+unfolding askSize accepted fresh freshState
 size-asks s e =
     let w = run size s e .value .width in
     let v = run size s e .value .height in
@@ -46,8 +48,6 @@ size-asks s e =
       record {
         place = refl;
         code = refl;
-        sizes = refl;
-        matrices = refl;
         stores = refl;
         begun = record { forSet = false; backSet = false; for = zero-vector; back = zero-vector; forward = refl; backward = refl };
         left = refl;
@@ -58,7 +58,7 @@ size-asks s e =
     ))
 
 header-asks : (s : List ℕ) → length s ≤ longestStream → Asks (askHeader s fresh)
-unfolding askHeader findSequence fresh
+unfolding askHeader findSequence nextCode fresh freshState
 header-asks s h = go (run (findStartCode (pos 0xb3)) s 0) (sought (pos 0xb3) s 0 h)
   where
     go : (o : Out ℤ) → Sought (pos 0xb3) s 0 o

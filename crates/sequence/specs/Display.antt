@@ -6,9 +6,9 @@ use lib.Dec.{eqb}
 use lib.ListN.{getD}
 use Rattle.bits.specs.Programs.{if_then_else_}
 use Rattle.standard.specs.Standard.{Decoded}
-use Rattle.decoder.specs.declared.answers.Outcome.the-variants.{Picture, Refused}
-use Rattle.decoder.specs.Turns.{Going, told}
-use Rattle.decoder.specs.Run.{call, behind}
+use Rattle.playback.specs.declared.outcome.Outcome.the-variants.{Picture, Refused}
+use Rattle.playback.specs.Display.{told}
+use Rattle.decoder.specs.Run.{Going, call, behind}
 
 -- 2.4.1: a B picture is shown at once; an I or P picture waits for the next one, so that the B pictures between them come first. w is the one that waits
 abbrev pub displayed : Decoded → List Decoded → List Decoded
@@ -38,4 +38,4 @@ Holds n l d = (i : ℕ) → i < 384 * n → getD l (storeOf d * (384 * n) + i) 0
 abbrev pub Hands : ℕ → List ℕ → Going → List Decoded → Type 0
 Hands n s y [] = call s y .answer ≡ Refused 7
 Hands n s y (d ∷ ds) =
-    (call s y .answer ≡ Picture (told (storeOf d) (call s y .decoder))) × Holds n (call s y .store) d × Hands n s (behind (call s y)) ds
+    (call s y .answer ≡ Picture (told (storeOf d) (call s y .decoder .state))) × Holds n (call s y .store) d × Hands n s (behind (call s y)) ds

@@ -1,18 +1,17 @@
 -- `hand_out::with_header` meets its contract, at each "no" and behind the questions.
 use denote.Ref.{now}
-use mathlib.Core.Path.{_≡_, refl, _∙_}
+use mathlib.Core.Path.{_≡_, _∙_}
 use native.Mathlib.Omega.{arith}
 use borrow.Author.Needs.{needs}
 use Rattle.decoder.specs.Headers.{askStore}
 use Rattle.decoder.specs.Asking.{asked}
 use Rattle.decoder.specs.HandOut.{askFirst}
 use Rattle.decoder.proofs.Asking.{room-told, room-yes, room-no}
-use Rattle.decoder.proofs.Fits.{fit-state}
 use Rattle.decoder.proofs.HandingOut.{begun-new, played, first-new, go-no, go-on}
 use Rattle.decoder.proofs.hand_out.with_header.Statement.{statement}
 use Rattle.decoder.proofs.hand_out.with_header.Tie as tie
 
--- the entry, and where the bytes of the stores are known, the store is 0, and the state is taken out of the record
+-- the entry, and where the bytes of the stores are known, the store is 0, and the parts of the record are lent
 abbrev entry : tie.After-ask-header → tie.Start
 entry f = f .before .before .before
 
@@ -22,9 +21,9 @@ question n = n .before .before .before
 abbrev sized : tie.After-clear → tie.After-store-bytes
 sized k = k .before .before .before
 
-abbrev clear : tie.After-state-of → tie.After-clear
+abbrev clear : tie.After-other2 → tie.After-clear
 clear x =
-    let lent = x .before .before .before .before in
+    let lent = x .before .before .before in
     let values = lent .before .before .before .before in
     values .before .before .before
 
@@ -59,11 +58,7 @@ pictures-requires c κs =
     let k = clear c in
     let n = sized k in
     let f = question n in
-    let d = f .ask-header .result .decoder in
-    let m = d .sequence .matrices in (
-      rw (c .state-of .ensures) (fit-state m (f .ask-header .ensures .1)),
-      (entry f .pre .1 .0, omega (arith, n .store-bytes .ensures, k .before .before .if2 .left, k .clear .kept .0)),
-    )
+    (f .ask-header .ensures .1 .state, (entry f .pre .1 .0, omega (arith, n .store-bytes .ensures, k .before .before .if2 .left, k .clear .kept .0)))
 
 same-length : tie.Need-same-length
 same-length c =
@@ -73,8 +68,7 @@ same-length c =
 returns-3 : tie.Need-returns-3
 returns-3 c =
     let p = c .before .before .before in
-    let x = p .before in
-    let k = clear x in
+    let k = clear (p .before) in
     let n = sized k in
     let f = question n in
     let a = entry f .args in
@@ -85,7 +79,7 @@ returns-3 c =
     go-on (now (a .s)) (a .before) l d (r .answer) z
     (room-yes (a .before) l d (r .answer) z (omega (arith, n .store-bytes .ensures, k .before .before .if2 .left)) ∙ asks f)
     (c .ended .ensures (p .pictures .last .1 .0)
-    ∙ played (now (a .s)) (a .before) d l (p .pictures .ensures .is (d .sequence) (d .stop) refl refl) (x .state-of .ensures)
+    ∙ played (now (a .s)) (a .before) d l (p .pictures .ensures)
     (begun-new (a .before) d l (entry f .pre .1 .1) (k .clear .ensures) (n .store-bytes .ensures)))
 
 pub with-header-spec : {M : Type 1} → statement M
@@ -98,7 +92,6 @@ with-header-spec =
     (λ c κs. search needs)
     (λ c κs. search needs)
     returns-2
-    (λ c κs. search needs)
     (λ c κs. search needs)
     pictures-requires
     (λ c κs. search needs)

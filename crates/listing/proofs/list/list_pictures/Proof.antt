@@ -5,8 +5,8 @@ use native.Mathlib.Omega.{arith}
 use borrow.Author.Needs.{needs}
 use denote.Ref.{now}
 use lib.ListN.{length}
-use Rattle.decoder.specs.declared.answers.Outcome.{Outcome}
-use Rattle.decoder.specs.declared.answers.Outcome.the-variants as H
+use Rattle.playback.specs.declared.outcome.Outcome.{Outcome}
+use Rattle.playback.specs.declared.outcome.Outcome.the-variants as H
 use Rattle.decoder.specs.Record.{left}
 use Rattle.decoder.specs.HandOut.{handOut}
 use Rattle.decoder.specs.Listing.{line}

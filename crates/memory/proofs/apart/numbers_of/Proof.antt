@@ -16,19 +16,19 @@ abbrev behind-backward : tie.After-struct-known4 → Decoder
 behind-backward c = behind-forward (c .before .before .before)
 
 -- of the types of the fields
-type : (c : tie.After-struct-known) → entry (c .before) .picture .«picture_type» ≤ 4294967295
+type : (c : tie.After-struct-known) → entry (c .before) .state .picture .«picture_type» ≤ 4294967295
 type c = search needs
 
-scale : (c : tie.After-struct-known2) → entry (c .before .before) .picture .slice .«quantizer_scale» ≤ 4294967295
+scale : (c : tie.After-struct-known2) → entry (c .before .before) .state .picture .slice .«quantizer_scale» ≤ 4294967295
 scale c = search needs
 
-forward : (c : tie.After-struct-known3) → behind-forward c .picture .slice .«motion_forward» .«r_size» ≤ 4294967295
+forward : (c : tie.After-struct-known3) → behind-forward c .state .picture .slice .«motion_forward» .«r_size» ≤ 4294967295
 forward c = search needs
 
-backward : (c : tie.After-struct-known4) → behind-backward c .picture .slice .«motion_backward» .«r_size» ≤ 4294967295
+backward : (c : tie.After-struct-known4) → behind-backward c .state .picture .slice .«motion_backward» .«r_size» ≤ 4294967295
 backward c = search needs
 
-handed : (s : tie.Start) → s .args .d .«frames_decoded» ≤ 4294967295
+handed : (s : tie.Start) → s .args .d .state .display .«frames_decoded» ≤ 4294967295
 handed s = search needs
 
 stop : (s : tie.Start) → s .args .d .stop ≤ 4294967295

@@ -5,7 +5,7 @@ use borrow.Author.Needs.{needs}
 use borrow.Author.Tests.{not-true, not-false, lt-leb}
 use denote.Ref.{now}
 use lib.ListN.{length}
-use Rattle.decoder.specs.declared.answers.Outcome.{Outcome}
+use Rattle.playback.specs.declared.outcome.Outcome.{Outcome}
 use Rattle.memory.specs.Memory.{Memory, memory, isRecord}
 use Rattle.mpeg1.specs.Calls.{pictureCount, decodesIn}
 use Rattle.mpeg1.proofs.Answers.{decodes-1, decodes-2, decodes-short, first-set, told, decodes}

@@ -7,7 +7,7 @@ use borrow.Author.Needs.{needs}
 use Rattle.decoder.specs.Fit.{Fit}
 use Rattle.decoder.specs.HandOut.{askFirst, goOn, handOut}
 use Rattle.decoder.proofs.Asking.{room-yes, room-no}
-use Rattle.decoder.proofs.Fits.{fit-of, fit-state}
+use Rattle.decoder.proofs.Fits.{fit-of}
 use Rattle.decoder.proofs.HandingOut.{begun-had, played, first-had, go-no, go-on, hand-1, hand-2, hand-mark, hand-on}
 use Rattle.decoder.proofs.record.Decoder.decode.Statement.{statement}
 use Rattle.decoder.proofs.record.Decoder.decode.Tie as tie
@@ -87,10 +87,10 @@ returns-5 c =
     (room-no (a .self) l (a .self) 0 refl (rw (n .store-bytes .ensures) at (j .if5 .taken)) ∙ first-had (now (a .stream)) (a .self) l h)
     ∙ rest i
 
--- where the state is taken out of the record
-abbrev roomy : tie.After-state-of → tie.Else5
+-- where the parts of the record are lent
+abbrev roomy : tie.After-other2 → tie.Else5
 roomy x =
-    let lent = x .before .before .before .before in
+    let lent = x .before .before .before in
     let values = lent .before .before .before .before in
     values .before
 
@@ -99,16 +99,12 @@ pictures-requires c κs =
     let j = roomy c in
     let n = j .before in
     let i = marked n in
-    let d = entry (second i) .args .self in (
-      rw (c .state-of .ensures) (fit-state (d .sequence .matrices) (fit i)),
-      (second i .before .if1 .left, omega (arith, n .store-bytes .ensures, j .if5 .left)),
-    )
+    (fit i .state, (second i .before .if1 .left, omega (arith, n .store-bytes .ensures, j .if5 .left)))
 
 returns-6 : tie.Need-returns-6
 returns-6 c =
     let p = c .before .before .before in
-    let x = p .before in
-    let j = roomy x in
+    let j = roomy (p .before) in
     let n = j .before in
     let i = marked n in
     let a = entry (second i) .args in
@@ -118,7 +114,7 @@ returns-6 c =
     go-on (now (a .stream)) d l d 0 refl
     (room-yes d l d 0 refl (omega (arith, n .store-bytes .ensures, j .if5 .left)) ∙ first-had (now (a .stream)) d l h)
     (c .ended .ensures (p .pictures .last .1 .0)
-    ∙ played (now (a .stream)) d d l (p .pictures .ensures .is (d .sequence) (d .stop) refl refl) (x .state-of .ensures) (begun-had d l h))
+    ∙ played (now (a .stream)) d d l (p .pictures .ensures) (begun-had d l h))
     ∙ rest i
 
 pub decode-spec : {M : Type 1} → statement M
@@ -138,7 +134,6 @@ decode-spec =
     store-bytes-requires
     (λ c κs. search needs)
     returns-5
-    (λ c κs. search needs)
     pictures-requires
     (λ c κs. search needs)
     (λ c. search needs)

@@ -1,0 +1,11 @@
+use Rattle.playback.specs.Display.{counted}
+use borrow.Author.Needs.{needs}
+use Rattle.playback.proofs.display.counted.Statement.{statement}
+use Rattle.playback.proofs.display.counted.Tie as tie
+
+returns : tie.Need-returns
+unfolding counted
+returns c = rw (c .time-of .ensures)
+
+pub counted-spec : {M : Type 1} → statement M
+counted-spec = tie.close (tie.spec (λ c. search needs) (λ c κs. search needs) returns)

@@ -1,0 +1,44 @@
+use mathlib.Core.Path.{ap}
+use borrow.Author.Needs.{needs}
+use Rattle.laws.specs.Turns.{Turn, stop}
+use Rattle.playback.specs.declared.state.State.{State}
+use Rattle.playback.specs.Display.{Result}
+use Rattle.playback.proofs.Showing.{steps-as, flush-yes, flush-no}
+use Rattle.playback.proofs.display.flushed.Statement.{statement}
+use Rattle.playback.proofs.display.flushed.Tie as tie
+
+-- the end of the turns
+abbrev ends : Result → Turn State Result
+ends g = stop g
+
+returns : tie.Need-returns
+returns c =
+    let t = c .before in
+    let x = t .before in
+    let i = x .before in
+    let h = i .before in
+    let p = h .before in
+    let d = p .before .before .args .d in
+    steps-as (rw (t .told .ensures, x .held-as .ensures) at (c .gave .ensures))
+    (ap ends (flush-yes _ d (rw (h .has-ended .ensures .0, p .from-position .ensures) at (i .if1 .taken))))
+
+returns-2 : tie.Need-returns-2
+returns-2 c =
+    let i = c .before in
+    let h = i .before in
+    let p = h .before in
+    let d = p .before .before .args .d in
+    steps-as (c .gave2 .ensures) (ap ends (flush-no _ d (rw (h .has-ended .ensures .0, p .from-position .ensures) at (i .if1 .left))))
+
+pub flushed-spec : {M : Type 1} → statement M
+flushed-spec =
+    tie.close
+    (tie.spec
+    (λ c κs. search needs)
+    (λ c κs. search needs)
+    (λ c κs. search needs)
+    (λ c κs. search needs)
+    (λ c κs. search needs)
+    returns
+    (λ c κs. search needs)
+    returns-2)

@@ -1,0 +1,72 @@
+-- What hand-outs change of the record, and the changes that the rules make in it.
+use mathlib.Core.Bool.{Bool, false}
+use Prim.Native.Nat.{ℕ}
+use lib.Ieee.{Float}
+use lib.IntN.{ℤ}
+use Rattle.picture.specs.State.{startCodeAs, freshPicture}
+use Rattle.picture.specs.Pictures.{Frame}
+use Rattle.header.specs.State.{noTime}
+use Rattle.playback.specs.declared.state.Clock.{Clock}
+use Rattle.playback.specs.declared.state.Display.{Display}
+use Rattle.playback.specs.declared.state.State.{State}
+
+-- RULES Q2: the most pictures that a record can have handed out
+abbrev pub mostPictures : ℕ
+mostPictures = 134217728
+
+-- the place in the stream, and the start code that was found last
+abbrev pub place : State → ℕ
+place x = x .position .0
+
+abbrev pub startCode : State → ℤ
+startCode x = x .picture .«start_code»
+
+-- RULES 8.5: a reference picture is held; RULES 8.10: how many pictures have been handed out
+abbrev pub held : State → Bool
+held x = x .display .«has_reference_frame»
+
+abbrev pub frames : State → ℕ
+frames x = x .display .«frames_decoded»
+
+-- RULES 8.12: the time of the next picture, and the time shown
+abbrev pub nextTime : State → Float
+nextTime x = x .display .clock .time
+
+abbrev pub shownTime : State → Float
+shownTime x = x .display .clock .«last_frame_time»
+
+-- RULES O.1: of the fresh record
+unfoldable pub freshState : State
+freshState = record {
+  position = record { 0 = 0 };
+  picture = freshPicture;
+  display = record {
+    clock = record { framerate = noTime; «pixel_aspect_ratio» = noTime; time = noTime; «last_frame_time» = noTime };
+    «has_reference_frame» = false;
+    «frames_decoded» = 0;
+  };
+}
+
+-- a search that ended at the place a with the start code c
+abbrev pub searchedAs : ℤ → ℕ → State → State
+searchedAs c a x = record { position = record { 0 = a }; picture = startCodeAs c (x .picture); display = x .display }
+
+-- behind a picture that was read up to the place a
+abbrev pub pastFrame : Frame → ℕ → State → State
+pastFrame f a x = record { position = record { 0 = a }; picture = f .picture; display = x .display }
+
+-- the clock and the count of pictures handed out
+abbrev pub clockAs : Clock → ℕ → State → State
+clockAs c n x = record {
+  position = x .position;
+  picture = x .picture;
+  display = record { clock = c; «has_reference_frame» = held x; «frames_decoded» = n };
+}
+
+-- RULES 8.5, 8.8: held or not
+abbrev pub heldAs : Bool → State → State
+heldAs b x = record {
+  position = x .position;
+  picture = x .picture;
+  display = record { clock = x .display .clock; «has_reference_frame» = b; «frames_decoded» = frames x };
+}

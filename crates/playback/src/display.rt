@@ -1,0 +1,121 @@
+// RULES 8.5, 8.8 to 8.11: what is handed out, and its time.
+use crate::outcome::Outcome;
+use crate::outcome::Shown;
+use crate::outcome::Turned;
+use crate::state::Clock;
+use crate::state::Display;
+use crate::state::State;
+use bits::reader::Reader;
+ghost use mathlib.Core.Path.{_≡_};
+ghost use Prim.Native.Nat.{_≤_};
+ghost use lib.ListN.{length};
+ghost use Rattle.laws.specs.Turns.{stop};
+ghost use Rattle.bits.specs.Bounds.{longestStream};
+ghost use Rattle.playback.specs.State.{frames, mostPictures, heldAs};
+ghost use Rattle.playback.specs.Display as Rules;
+ghost use Rattle.playback.specs.Turned.{Steps};
+
+// RULES 8.9: the time of n pictures at a rate, rounded once.
+fn time_of(n: u32, rate: f64) -> f64
+    ensures { λ r. ⌜ r ≡ Rules.timeOf n rate ⌝ }
+{
+    n as f64 / rate
+}
+
+// RULES 8.10.
+fn counted(mut d: State) -> State
+    requires { ⌜ frames d ≤ mostPictures ⌝ }
+    ensures { λ r. ⌜ r ≡ Rules.counted d ⌝ }
+{
+    let n = d.display.frames_decoded + 1;
+    let c = d.display.clock;
+    let rate = c.framerate;
+    let time = time_of(n, rate);
+    let clock = Clock {
+        framerate: c.framerate,
+        pixel_aspect_ratio: c.pixel_aspect_ratio,
+        time,
+        last_frame_time: c.time,
+    };
+    let display = Display {
+        clock,
+        has_reference_frame: d.display.has_reference_frame,
+        frames_decoded: n,
+    };
+    d.display = display;
+    d
+}
+
+// What is told of the picture in the store number k, with the state as the call leaves it.
+fn told(d: State, k: usize) -> Shown
+    ensures { λ r. ⌜ r ≡ Rules.told k d ⌝ }
+{
+    let time = d.display.clock.last_frame_time;
+    Shown { store: k, time }
+}
+
+// RULES 8.5, 8.8: a reference picture waits, or none does.
+fn held_as(mut d: State, has_reference_frame: bool) -> State
+    ensures { λ r. ⌜ r ≡ heldAs «has_reference_frame» d ⌝ }
+{
+    let mut display = d.display;
+    display.has_reference_frame = has_reference_frame;
+    d.display = display;
+    d
+}
+
+pub fn gave(state: State, outcome: Outcome) -> Turned
+    ensures { λ r. ⌜ Steps r (stop (Rules.result outcome state)) ⌝ }
+{
+    Turned {
+        state,
+        outcome,
+        again: false,
+        stop: 0,
+    }
+}
+
+// The store number k is handed out with the time that is then shown.
+fn handed(d: State, k: usize) -> Turned
+    requires { ⌜ frames d ≤ mostPictures ⌝ }
+    ensures { λ r. ⌜ Steps r (stop (Rules.handed k d)) ⌝ }
+{
+    let x = counted(d);
+    gave(x, Outcome::Picture(told(x, k)))
+}
+
+// RULES 8.5: after a picture, decoded or not.
+pub fn shown(d: State) -> Turned
+    requires { ⌜ frames d ≤ mostPictures ⌝ }
+    ensures { λ r. ⌜ Steps r (Rules.shown d) ⌝ }
+{
+    let picture_type = d.picture.picture_type;
+    let held = d.display.has_reference_frame;
+    if picture_type == 3 {
+        return handed(d, d.picture.stores.cur);
+    }
+    if held {
+        return handed(d, d.picture.stores.fwd);
+    }
+    Turned {
+        state: held_as(d, true),
+        outcome: Outcome::Refused(7),
+        again: true,
+        stop: 0,
+    }
+}
+
+// RULES 8.8, 8.11: no picture is found: the held one is flushed, with the time shown before, or the answer is 7.
+pub fn flushed(s: &[u8], d: State) -> Turned
+    requires { ⌜ length (now s) ≤ longestStream ⌝ }
+    ensures { λ r. ⌜ Steps r (stop (Rules.flushed (now (s .entry)) d)) ⌝ }
+{
+    let held = d.display.has_reference_frame;
+    let picture_type = d.picture.picture_type;
+    let ended = Reader::from_position(d.position).has_ended(s).value;
+    if held & ended & ((picture_type == 1) | (picture_type == 2)) {
+        let x = held_as(d, false);
+        return gave(x, Outcome::Picture(told(x, x.picture.stores.bwd)));
+    }
+    gave(d, Outcome::Refused(7))
+}

@@ -1,0 +1,21 @@
+// What a turn and a hand-out give: a picture, or a refusal with its number (RULES Q).
+use crate::state::State;
+
+// What is told of a picture that is handed out: the number of its store, and the time shown with it.
+pub struct Shown {
+    pub store: usize,
+    pub time: f64,
+}
+
+pub enum Outcome {
+    Picture(Shown),
+    Refused(u32),
+}
+
+// `again`: nothing was handed out, and another turn follows. `stop`: 8 or 9, else 0; with a stop the state is of no use (RULES 8.14).
+pub struct Turned {
+    pub state: State,
+    pub outcome: Outcome,
+    pub again: bool,
+    pub stop: u32,
+}
