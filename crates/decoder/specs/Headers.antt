@@ -49,8 +49,8 @@ accepted o d = record {
     picture = storesAs firstStores (d .state .picture);
     display = record {
       clock = record {
-        framerate = rateOf (o .value .rate);
-        «pixel_aspect_ratio» = aspectOf (o .value .aspect);
+        framerate = rateOf (o .value .«picture_rate»);
+        «pixel_aspect_ratio» = aspectOf (o .value .«pel_aspect_ratio»);
         time = nextTime (d .state);
         «last_frame_time» = shownTime (d .state);
       };

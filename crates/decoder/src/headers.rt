@@ -21,6 +21,7 @@ ghost use Rattle.decoder.specs.Fit.{Fit};
 ghost use Rattle.decoder.specs.Asking.{asked, Roomed};
 ghost use Rattle.bits.specs.Bounds.{longestStream};
 ghost use Rattle.bits.specs.Runs.{placeOf};
+ghost use Rattle.header.specs.Sequences.{restOf};
 
 // `answer`: 0 where the call goes on, else the number of the first "no".
 pub struct Asked {
@@ -42,11 +43,8 @@ fn find_sequence(s: &[u8], mut d: Decoder) -> Decoder
 // RULES O.3, O.4: what accepting a header sets.
 fn accepted(rest: RestRead, mut d: Decoder) -> Decoder
     requires { ⌜ Fit d ⌝ }
-    requires { ⌜ rest .rate < 16 ⌝ }
-    ensures { λ r. ⌜ r ≡ Headers.accepted (record {
-      value = record { aspect = rest .aspect; rate = rest .rate; matrices = rest .matrices };
-      at = placeOf (rest .reader);
-    }) d ⌝ }
+    requires { ⌜ rest .«picture_rate» < 16 ⌝ }
+    ensures { λ r. ⌜ r ≡ Headers.accepted (record { value = restOf rest; at = placeOf (rest .reader) }) d ⌝ }
 {
     let old = d.sequence;
     let width = old.width;
@@ -64,8 +62,8 @@ fn accepted(rest: RestRead, mut d: Decoder) -> Decoder
     let mut display = x.display;
     let c = display.clock;
     let clock = Clock {
-        framerate: rate_of(rest.rate),
-        pixel_aspect_ratio: aspect_of(rest.aspect),
+        framerate: rate_of(rest.picture_rate),
+        pixel_aspect_ratio: aspect_of(rest.pel_aspect_ratio),
         time: c.time,
         last_frame_time: c.last_frame_time,
     };

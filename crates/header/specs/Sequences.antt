@@ -4,10 +4,11 @@ use Prim.Native.Nat.{ℕ, zero, suc, min, _-_}
 use lib.Dec.{eqb}
 use lib.Ieee.{Float}
 use lib.ListN.{getD, set, replicate}
-use Rattle.bits.specs.Programs.{Prog, done, bind, bits, skips, _>>=_, _>>_, if_then_else_}
+use Rattle.bits.specs.Programs.{Prog, done, bind, bits, _>>=_, _>>_, if_then_else_}
 use Rattle.codes.specs.Matrices.{zigZag, intraQuantMatrix, nonIntraQuantMatrix}
 use Rattle.codes.specs.Rates.{pixelAspectRatio, pictureRate}
 use Rattle.picture.specs.declared.state.Matrices.{Matrices}
+use Rattle.header.specs.declared.sequences.RestRead.{RestRead}
 use Rattle.header.specs.State.{noTime}
 
 -- the last n of 64 bytes in zig-zag order, into the matrix m
@@ -34,21 +35,48 @@ size = do
   height ← bits 12
   done (record { width = width; height = height })
 
--- what follows the size; `aspect` and `rate` are codes
+-- 11172-2, 2.4.2.3: what follows the size, in the standard's names and order, with the two matrices in one field
 pub record Rest : Type 0 where
-  pub aspect : ℕ
-  pub rate : ℕ
+  pub «pel_aspect_ratio» : ℕ
+  pub «picture_rate» : ℕ
+  pub «bit_rate» : ℕ
+  pub «marker_bit» : ℕ
+  pub «vbv_buffer_size» : ℕ
+  pub «constrained_parameters_flag» : ℕ
   pub matrices : Matrices
 
--- 30 bits are passed over: 18 bit rate, 1 marker, 10 buffer size, 1 constrained
+-- RULES O.3, Q4: a call reads this with 1,088 bits left before the size, so that no read of it is refused
 unfoldable pub rest : Prog Rest
 rest = do
   aspect ← bits 4
   rate ← bits 4
-  skips 30
+  bitRate ← bits 18
+  marker ← bits 1
+  buffer ← bits 10
+  constrained ← bits 1
   intra ← matrix intraQuantMatrix
   other ← matrix nonIntraQuantMatrix
-  done (record { aspect = aspect; rate = rate; matrices = record { «intra_quant_matrix» = intra; «non_intra_quant_matrix» = other } })
+  done (record {
+    «pel_aspect_ratio» = aspect;
+    «picture_rate» = rate;
+    «bit_rate» = bitRate;
+    «marker_bit» = marker;
+    «vbv_buffer_size» = buffer;
+    «constrained_parameters_flag» = constrained;
+    matrices = record { «intra_quant_matrix» = intra; «non_intra_quant_matrix» = other };
+  })
+
+-- RULES O.3: the fields of a header as the code has read them, without the reader behind them
+abbrev pub restOf : RestRead → Rest
+restOf r = record {
+  «pel_aspect_ratio» = r .«pel_aspect_ratio»;
+  «picture_rate» = r .«picture_rate»;
+  «bit_rate» = r .«bit_rate»;
+  «marker_bit» = r .«marker_bit»;
+  «vbv_buffer_size» = r .«vbv_buffer_size»;
+  «constrained_parameters_flag» = r .«constrained_parameters_flag»;
+  matrices = r .matrices;
+}
 
 -- RULES 2.8: code 0 gives what 1 gives, and 15 what 14 gives
 abbrev pub aspectOf : ℕ → Float

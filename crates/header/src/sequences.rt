@@ -23,11 +23,15 @@ pub struct SizeRead {
     pub height: usize,
 }
 
-// `aspect` and `rate` are codes.
+// The fields behind the size; the decoder uses the two codes of aspect and rate, and the matrices.
 pub struct RestRead {
     pub reader: Reader,
-    pub aspect: usize,
-    pub rate: usize,
+    pub pel_aspect_ratio: usize,
+    pub picture_rate: usize,
+    pub bit_rate: u32,
+    pub marker_bit: u32,
+    pub vbv_buffer_size: u32,
+    pub constrained_parameters_flag: u32,
     pub matrices: Matrices,
 }
 
@@ -83,16 +87,18 @@ pub fn read_size(s: &[u8], reader: Reader) -> SizeRead
     }
 }
 
-// 30 bits, which the decoder does not use, are passed over.
 pub fn read_rest(s: &[u8], reader: Reader) -> RestRead
     requires { ⌜ Inside (now s) reader ⌝ }
-    ensures { λ r. ⌜ Reading Header.rest (now (s .entry)) reader
-        (record { aspect = r .aspect; rate = r .rate; matrices = r .matrices }) (r .reader) ⌝ }
-    ensures { λ r. ⌜ r .rate < 16 ⌝ }
+    ensures { λ r. ⌜ Reading Header.rest (now (s .entry)) reader (Header.restOf r) (r .reader) ⌝ }
+    ensures { λ r. ⌜ r .«picture_rate» < 16 ⌝ }
 {
     let first = reader.read(s, 4);
     let second = first.reader.read(s, 4);
-    let intra = read_matrix(s, second.reader.skip(s, 30), intra_quant_matrix());
+    let bit_rate = second.reader.read(s, 18);
+    let marker = bit_rate.reader.read_bit(s);
+    let buffer = marker.reader.read(s, 10);
+    let constrained = buffer.reader.read_bit(s);
+    let intra = read_matrix(s, constrained.reader, intra_quant_matrix());
     let other = read_matrix(s, intra.reader, non_intra_quant_matrix());
     let after = other.reader;
     let intra_matrix = intra.matrix;
@@ -101,12 +107,16 @@ pub fn read_rest(s: &[u8], reader: Reader) -> RestRead
         intra_quant_matrix: intra_matrix,
         non_intra_quant_matrix: other_matrix,
     };
-    let aspect = first.value as usize;
-    let rate = second.value as usize;
+    let pel_aspect_ratio = first.value as usize;
+    let picture_rate = second.value as usize;
     RestRead {
         reader: after,
-        aspect,
-        rate,
+        pel_aspect_ratio,
+        picture_rate,
+        bit_rate: bit_rate.value,
+        marker_bit: marker.value,
+        vbv_buffer_size: buffer.value,
+        constrained_parameters_flag: constrained.value,
         matrices,
     }
 }

@@ -11,24 +11,31 @@ unfolding rest
 returns c =
     let o = c .before .before .before .before .before in
     let i = o .before .before in
-    let k = i .before .before in
-    let b = k .before in
-    let a = b .before in
+    let constrained = i .before .before in
+    let buffer = constrained .before in
+    let marker = buffer .before in
+    let bit-rate = marker .before in
+    let rate = bit-rate .before in
     let intra = rw (i .before .intra-quant-matrix .ensures) at (i .read-matrix .ensures .runs) in
     let other = rw (o .before .non-intra-quant-matrix .ensures) at (o .read-matrix2 .ensures .runs) in (
       record {
         runs =
-            r-call _ (r-reads 4 (omega arith) (a .read .ensures .runs)) (r-call _ (r-reads 4 (omega arith) (b .read2 .ensures .runs))
-            (r-call _ (k .skip .ensures .runs) (r-call _ intra (r-call _ other r-done))));
+            r-call _ (r-reads 4 (omega arith) (rate .before .read .ensures .runs)) (r-call _ (r-reads 4 (omega arith) (rate .read2 .ensures .runs))
+            (r-call _ (r-reads 18 (omega arith) (bit-rate .read3 .ensures .runs)) (r-call _ (marker .read-bit .ensures .runs)
+            (r-call _ (r-reads 10 (omega arith) (buffer .read4 .ensures .runs)) (r-call _ (constrained .read-bit2 .ensures .runs)
+            (r-call _ intra (r-call _ other r-done)))))));
         inside = o .read-matrix2 .ensures .inside;
       },
-      omega (arith, given-by (g-reads 4) (b .read2 .ensures .runs)),
+      omega (arith, given-by (g-reads 4) (rate .read2 .ensures .runs)),
     )
 
 pub read-rest-spec : {M : Type 1} → statement M
 read-rest-spec =
     tie.close
     (tie.spec
+    (λ c κs. search needs)
+    (λ c κs. search needs)
+    (λ c κs. search needs)
     (λ c κs. search needs)
     (λ c κs. search needs)
     (λ c κs. search needs)
