@@ -175,8 +175,8 @@ unfolding clamp255 half0 odd storeRow storeRows turns allBelow ofInt div
     butterfly columns rows idct dcOnly sample fetch predicted setConst overwrite
     also leave onward plain incrementTurn increment follow following predictedPlanes unlessRefused predictFrom predictBoth predictSkipped predict
     macroblockType scale vector forward backward vectors head pattern blockPlace results written blockEnd oneBlock lastBlocks blocks skipReset
-    advance predictUnlessIntra body firstOf laterOf macroblock extraTurn extra pastMacroblock sliceTurn slice P.direction P.backwardHeader
-    P.forwardHeader P.pictureHeader P.pastSlice P.slicesTurn P.slices P.coded P.picture
+    advance predictUnlessIntra body firstOf laterOf macroblock extraTurn extra pastMacroblock sliceTurn slice P.direction
+    P.pictureHeader P.pastSlice P.slicesTurn P.slices P.coded P.picture
     fresh freshState cleared possible matrix size rest findSequence accepted askSize askHeader askStore opened openingFrom opening nextCode isFollowed timeOf
     counted handed shown flushed pastPicture decoded searched pictureTurn pictures ended askFirst begun goOn handOut
 shown-pictures = record {

@@ -61,7 +61,7 @@ pub record Listed : Type 0 where
 
 pub listed : Listed
 unfolding turns allBelow ofInt bitAt bitsAt got next codePrefix codeFrom found run bind loop findTurn findStartCode
-    intraQuantMatrix nonIntraQuantMatrix premultiplierMatrix bounded leave onward P.pictureHeader P.coded P.slicesTurn P.slices P.picture
+    intraQuantMatrix nonIntraQuantMatrix premultiplierMatrix bounded leave onward P.direction P.pictureHeader P.coded P.slicesTurn P.slices P.picture
     fresh freshState cleared possible matrix size rest findSequence accepted askSize askHeader askStore opened openingFrom opening
     nextCode isFollowed timeOf counted handed shown pastPicture decoded searched pictureTurn pictures ended askFirst begun goOn handOut linesFrom
     linesOf listing

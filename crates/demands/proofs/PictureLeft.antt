@@ -1,13 +1,13 @@
 -- RULES 7.2, D2.3, Q8, Q9: what a picture's run leaves: the other stores as they were, the roles of the stores turned, and with a number its cause.
 use mathlib.Core.Path.{_≡_, refl, sym, ap, _∙_}
-use mathlib.Core.Bool.{Bool, true, false, cond, _&&_, _||_, true≢false}
+use mathlib.Core.Bool.{Bool, true, false, cond, true≢false}
 use mathlib.Core.List.{List}
 use Prim.Native.Nat.{ℕ, _*_, _≤_}
-use lib.Dec.{eqb, ltb}
+use lib.Dec.{eqb}
 use lib.ListN.{length}
-use Rattle.bits.specs.Programs.{Prog, bits, skips, run}
+use Rattle.bits.specs.Programs.{Prog, run}
 use Rattle.bits.proofs.Programs.{run-bind}
-use Rattle.bits.proofs.Gives.{Gives, g-done, g-any, g-as, g-bind, g-if}
+use Rattle.bits.proofs.Gives.{Gives, g-done, g-as, g-if}
 use Rattle.laws.proofs.Tests.{by-case}
 use Rattle.picture.specs.declared.state.Stores.{Stores}
 use Rattle.picture.specs.declared.state.Sizes.{Sizes}
@@ -29,21 +29,6 @@ turned type t = cond (eqb type 3) t (P.after t)
 
 pub same-but : {n k : ℕ} {l : List ℕ} → SameBut n k l l
 same-but = record { long = refl; same = λ i w. refl }
-
--- a header leaves the stores alone
-module _ {s : List ℕ} where
-  forward-stores : (p : Picture) → Gives s (λ (h : P.Headed). h .picture .stores ≡ p .stores) (P.forwardHeader p)
-  unfolding P.forwardHeader P.backwardHeader
-  forward-stores p =
-      g-bind _ (g-any (P.direction (p .slice .«motion_forward»))) (λ f u.
-      g-if (f .decoded && eqb (p .«picture_type») 3)
-      (λ e. g-bind _ (g-any (P.direction (p .slice .«motion_backward»))) (λ b u. g-done refl)) (λ e. g-done refl))
-
-  header-stores : (p : Picture) → Gives s (λ (h : P.Headed). h .picture .stores ≡ p .stores) (P.pictureHeader p)
-  unfolding P.pictureHeader
-  header-stores p =
-      g-bind _ (g-any (skips 10)) (λ u i. g-bind _ (g-any (bits 3)) (λ t i. g-bind _ (g-any (skips 16)) (λ u i.
-      g-if (eqb t 0 || ltb 3 t) (λ e. g-done refl) (λ e. g-if (eqb t 1) (λ e. g-done refl) (λ e. forward-stores _)))))
 
 -- what a picture leaves, from the state and the store f₀ on
 pub record Left (z : Sizes) (f₀ : P.Frame) (decoded : Bool) (f : P.Frame) : Type 0 where
@@ -95,13 +80,13 @@ module _ (s : List ℕ) (z : Sizes) (m : Matrices) (area : z .«mb_size» ≡ z 
 
   -- RULES 7.1 to 7.4, 8.4
   pub picture-left : (f : P.Frame) → f .picture .stores .cur ≤ 2 → storesBytes (z .«mb_size») ≤ length (f .store) → (a : ℕ)
-      → Ways (Left z f (run (P.pictureHeader (f .picture)) s a .value .decoded)) (Stopped f) (run (P.picture z m f) s a .value)
+      → Ways (Left z f (P.isDecoded (run P.pictureHeader s a .value))) (Stopped f) (run (P.picture z m f) s a .value)
   unfolding P.picture run
   picture-left f cur long a =
-      let h = run (P.pictureHeader (f .picture)) s a in
-      let e = header-stores {s = s} (f .picture) .value a in
-      rw (run-bind (P.pictureHeader (f .picture)) _ s a)
-      (by-case (λ (q : Prog (Way P.Frame)). Ways (Left z f (h .value .decoded)) (Stopped f) (run q s (h .at) .value)) (h .value .decoded)
-      (λ d. as-before f (h .value .picture) e d (run (P.coded z m (P.inPicture (h .value .picture) f)) s (h .at) .value)
-      (coded-left (P.inPicture (h .value .picture) f) (rw e cur) long .value (h .at)))
-      (λ d. record { store = same-but; stores = λ k. absurd (true≢false (sym k ∙ d)); others = λ k. e }))
+      let h = run P.pictureHeader s a in
+      let x = P.headed (h .value) (f .picture) in
+      let b = P.isDecoded (h .value) in
+      rw (run-bind P.pictureHeader _ s a)
+      (by-case (λ (q : Prog (Way P.Frame)). Ways (Left z f b) (Stopped f) (run q s (h .at) .value)) b
+      (λ d. as-before f x refl d (run (P.coded z m (P.inPicture x f)) s (h .at) .value) (coded-left (P.inPicture x f) cur long .value (h .at)))
+      (λ d. record { store = same-but; stores = λ k. absurd (true≢false (sym k ∙ d)); others = λ k. refl }))

@@ -60,7 +60,7 @@ next-room s {z} x k = rw (next-stores s (x .state)) k
 
 -- whether the picture at the state's place is decoded
 abbrev pub isDecoded : List ℕ → TurnState → Bool
-isDecoded s x = run (P.pictureHeader (x .state .picture)) s (place (x .state)) .value .decoded
+isDecoded s x = P.isDecoded (run P.pictureHeader s (place (x .state)) .value)
 
 -- a picture that is read to its end, or leaves early
 module _ (s : List ℕ) (z : Sizes) (m : Matrices) (x : TurnState) (k : RoomFor z x) where

@@ -12,7 +12,7 @@ use Rattle.bits.specs.Programs.{run, if_then_else_}
 use Rattle.picture.specs.declared.state.Matrices.{Matrices}
 use Rattle.picture.specs.declared.state.Sizes.{Sizes}
 use Rattle.picture.specs.Ways.{Way, on, out}
-use Rattle.picture.specs.Pictures.{Frame, pictureHeader}
+use Rattle.picture.specs.Pictures.{Frame, pictureHeader, isDecoded}
 use Rattle.playback.specs.State.{place}
 use Rattle.playback.specs.Turns.{TurnState, atPicture, pictureRun, pictureTurn}
 use Rattle.playback.specs.Cases.{isThere, isB}
@@ -62,7 +62,7 @@ samplesOf n k l = midOf (k * (384 * n)) (384 * n) l
 abbrev pub codedBy : List ℕ → Sizes → TurnState → Way Frame → List Coded
 codedBy s z x (on f) = record {
   isB = isB f;
-  decoded = run (pictureHeader (x .state .picture)) s (place (x .state)) .value .decoded;
+  decoded = isDecoded (run pictureHeader s (place (x .state)) .value);
   samples = samplesOf (z .«mb_size») (x .state .picture .stores .cur) (f .store);
 } ∷ []
 codedBy s z x (out n m) = []

@@ -91,7 +91,7 @@ unfolding clamp255 odd storeRow storeRows bitAt bitsAt got next codePrefix codeF
     Coefficients.runLevel Coefficients.coefficient dequantised Syntax.pairTurn Syntax.pairs Syntax.intraCoded Syntax.codedBlock Block.allPlaced
     Block.reconstructed Block.block Block.leftOver butterfly columns rows idct dcOnly setConst overwrite leave onward plain incrementTurn increment
     macroblockType scale head pattern blockPlace results written blockEnd oneBlock lastBlocks blocks advance predictUnlessIntra body firstOf laterOf
-    macroblock extraTurn extra pastMacroblock sliceTurn slice P.pictureHeader P.pastSlice P.slicesTurn P.slices P.coded P.picture
+    macroblock extraTurn extra pastMacroblock sliceTurn slice P.direction P.pictureHeader P.pastSlice P.slicesTurn P.slices P.coded P.picture
 row = refl
 
 abbrev one : Sizes
@@ -107,7 +107,7 @@ unfolding bitAt bitsAt got next codePrefix codeFrom found run bind loop macroblo
     macroblockTypeIntraIndex macroblockTypeIntraValue dctSizeLuminanceIndex dctSizeLuminanceValue walkTurn walk vlc Codes.macroblockAddressIncrement
     Codes.macroblockTypeIntra Codes.dctSizeLuminance Dcs.dcSize Dcs.added Dcs.dcDifference Syntax.intraCoded Syntax.codedBlock Block.reconstructed
     Block.block leave onward plain incrementTurn increment macroblockType scale head pattern blockEnd oneBlock lastBlocks blocks predictUnlessIntra body
-    firstOf macroblock extraTurn extra pastMacroblock sliceTurn slice P.pictureHeader P.pastSlice P.slicesTurn P.slices P.coded P.picture
+    firstOf macroblock extraTurn extra pastMacroblock sliceTurn slice P.direction P.pictureHeader P.pastSlice P.slicesTurn P.slices P.coded P.picture
 eight = refl
 
 -- a P picture with f code 1 whose macroblock has the type 001, a forward vector, and the motion codes 010 and 1: (1, 0) in half samples
@@ -120,5 +120,5 @@ unfolding odd bitAt bitsAt got next codePrefix codeFrom found run bind loop macr
     macroblockTypePredictiveIndex macroblockTypePredictiveValue motionIndex motionValue walkTurn walk vlc Codes.macroblockAddressIncrement
     Codes.macroblockTypePredictive Codes.motion displacement motionVector corrected fetch follow following predictedPlanes leave onward plain incrementTurn
     increment unlessRefused predictFrom predict macroblockType scale vector forward backward vectors head predictUnlessIntra body firstOf macroblock
-    extraTurn extra pastMacroblock sliceTurn slice P.direction P.forwardHeader P.pictureHeader P.pastSlice P.slicesTurn P.slices P.coded P.picture
+    extraTurn extra pastMacroblock sliceTurn slice P.direction P.pictureHeader P.pastSlice P.slicesTurn P.slices P.coded P.picture
 nine = refl

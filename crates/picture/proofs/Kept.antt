@@ -42,7 +42,7 @@ use Rattle.picture.specs.Pictures as P
 use Rattle.picture.proofs.Increments.{increment-most}
 use Rattle.picture.proofs.Lengths.{planes-length, written-length}
 use Rattle.picture.proofs.Possible.{between-of, between-by, picture-of, picture-by}
-use Rattle.picture.proofs.Syntax.{motions-kept, predictors-kept, still-kept, reset-kept, predictors-reset, head-gives, header-gives}
+use Rattle.picture.proofs.Syntax.{motions-kept, predictors-kept, still-kept, reset-kept, predictors-reset, head-gives, header-fits, headed-possible}
 use Rattle.picture.proofs.Exits.{Ways, ways-as, onward-ways}
 use Rattle.picture.proofs.Walk.{Invariant, Keeps, Framed, slices-ways}
 
@@ -215,9 +215,10 @@ module _ (H : Type 0) {s : List ℕ} (z : Sizes) (c : Domain H s z) (m : Matrice
   picture-ends : (f : P.Frame) → PictureKept H n f → Gives s (Ends n (PictureKept H n)) (P.picture z m f)
   unfolding P.picture
   picture-ends f k =
-      g-bind _ (g-when H (λ η. header-gives (k .picture η))) (λ h i.
-      let kept : PictureKept H n (P.inPicture (h .picture) f) = record { picture = i; block = k .block; store = k .store } in
-      g-if (h .decoded) (λ d. coded-ends (P.inPicture (h .picture) f) kept) (λ d. g-done kept))
+      g-bind _ header-fits (λ h i.
+      let x = P.inPicture (P.headed h (f .picture)) f in
+      let kept : PictureKept H n x = record { picture = λ η. headed-possible (k .picture η) i; block = k .block; store = k .store } in
+      g-if (P.isDecoded h) (λ d. coded-ends x kept) (λ d. g-done kept))
 
 -- RULES Q8, Q9: whatever the state, store and stream, a picture leaves early with 8 or 9 only, and the store stays as long as it was
 abbrev pub SameLength : List ℕ → P.Frame → Type 0

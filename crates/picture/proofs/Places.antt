@@ -1,20 +1,19 @@
 -- For RULES R.1, R.2: where a picture's run ends. It takes 29 bits at least, and where the start code behind it is that of a picture, bits are left.
 use mathlib.Core.Path.{_≡_, refl, ap, sym, _∙_}
-use mathlib.Core.Bool.{Bool, true, false, cond, not, _&&_, _||_, true≢false, false≢true}
+use mathlib.Core.Bool.{Bool, true, false, cond, not, _&&_, true≢false, false≢true}
 use mathlib.Core.List.{List}
 use Prim.Native.Nat.{ℕ, zero, suc, _+_, _-_, _*_, _≤_, _<_}
 use native.Mathlib.Omega.{arith}
-use lib.Dec.{eqb, ltb}
+use lib.Dec.{eqb}
 use lib.IntN.{ℤ, pos, negsuc, natAbs}
 use lib.ListN.{length}
 use Rattle.laws.specs.Turns.{Turn, again, stop}
 use Rattle.bits.specs.Bounds.{longestStream}
 use Rattle.bits.specs.Bits.{Found, boundary, has, got, next, found}
-use Rattle.bits.specs.Programs.{Prog, done, bind, bits, skips, loop, many, run, turn}
+use Rattle.bits.specs.Programs.{Prog, done, bind, bits, loop, many, run, turn}
 use Rattle.bits.proofs.Start.{isCode, Searched, first, none, found-is-first}
 use Rattle.bits.proofs.Programs.{run-bind, run-on, served-next}
 use Rattle.laws.proofs.Tests.{by-case}
-use Rattle.picture.specs.declared.state.Motion.{Motion}
 use Rattle.picture.specs.declared.state.Stores.{Stores}
 use Rattle.picture.specs.declared.state.Sizes.{Sizes}
 use Rattle.picture.specs.declared.state.Matrices.{Matrices}
@@ -46,10 +45,6 @@ takes-bits : {n : ℕ} → Takes n (bits n)
 unfolding run
 takes-bits {n} = record { most = λ s a. next-near s a n }
 
-takes-skips : {n : ℕ} → Takes n (skips n)
-unfolding run
-takes-skips {n} = record { most = λ s a. next-near s a n }
-
 takes-bind : {A B : Type 0} {n m k : ℕ} (p : Prog A) (f : A → Prog B) → Takes n p → ((x : A) → Takes m (f x)) → n + m ≤ k → Takes k (bind p f)
 takes-bind {n = n} {m} {k} p f h g le = record {
   most = λ s a. rw (run-bind p f s a) (omega (arith, h .most s a, g (run p s a .value) .most s (run p s a .at)));
@@ -59,29 +54,21 @@ takes-if : {A : Type 0} {n : ℕ} {p q : Prog A} (b : Bool) → Takes n p → Ta
 takes-if true h g = h
 takes-if false h g = g
 
-direction-takes : (m : Motion) → Takes 4 (P.direction m)
+direction-takes : (here : Bool) → Takes 4 (P.direction here)
 unfolding P.direction
-direction-takes m =
-    takes-bind {n = 1} {m = 3} (bits 1) _ takes-bits
-    (λ full. takes-bind {n = 3} {m = 0} (bits 3) _ takes-bits (λ f. takes-if (eqb f 0) takes-done takes-done) (omega arith)) (omega arith)
+direction-takes here =
+    takes-if here (takes-bind {n = 1} {m = 3} (bits 1) _ takes-bits
+    (λ full. takes-bind {n = 3} {m = 0} (bits 3) _ takes-bits (λ f. takes-done) (omega arith)) (omega arith)) takes-done
 
-backward-takes : (p : Picture) → Takes 4 (P.backwardHeader p)
-unfolding P.backwardHeader
-backward-takes p = takes-bind {n = 4} {m = 0} (P.direction _) _ (direction-takes _) (λ b. takes-done) (omega arith)
-
-forward-takes : (p : Picture) → Takes 8 (P.forwardHeader p)
-unfolding P.forwardHeader
-forward-takes p =
-    takes-bind {n = 4} {m = 4} (P.direction _) _ (direction-takes _)
-    (λ f. takes-if (f .decoded && eqb (p .«picture_type») 3) (backward-takes _) takes-done) (omega arith)
-
-header-takes : (p : Picture) → Takes 37 (P.pictureHeader p)
+header-takes : Takes 37 P.pictureHeader
 unfolding P.pictureHeader
-header-takes p =
-    takes-bind {n = 10} {m = 27} (skips 10) _ takes-skips (λ u.
+header-takes =
+    takes-bind {n = 10} {m = 27} (bits 10) _ takes-bits (λ temporal.
     takes-bind {n = 3} {m = 24} (bits 3) _ takes-bits (λ type.
-    takes-bind {n = 16} {m = 8} (skips 16) _ takes-skips (λ v.
-    takes-if (eqb type 0 || ltb 3 type) takes-done (takes-if (eqb type 1) takes-done (forward-takes _))) (omega arith)) (omega arith)) (omega arith)
+    takes-bind {n = 16} {m = 8} (bits 16) _ takes-bits (λ delay.
+    takes-bind {n = 4} {m = 4} (P.direction _) _ (direction-takes _) (λ f.
+    takes-bind {n = 4} {m = 0} (P.direction _) _ (direction-takes _) (λ b. takes-done)
+    (omega arith)) (omega arith)) (omega arith)) (omega arith)) (omega arith)
 
 -- ---- programs that from the place a come to the place b
 
@@ -94,25 +81,21 @@ comes-here {s = s} {a} {p} = record { least = run-on p s a }
 comes-first : {A B : Type 0} {s : List ℕ} {a b : ℕ} (p : Prog A) (f : A → Prog B) → Comes s a b p → Comes s a b (bind p f)
 comes-first {s = s} {a} p f c = record { least = rw (run-bind p f s a) (omega (arith, c .least, run-on (f (run p s a .value)) s (run p s a .at))) }
 
-comes-skips : {A : Type 0} {s : List ℕ} {a b : ℕ} (n : ℕ) (f : Unit {0} → Prog A) → a + n ≤ length s * 8 → Comes s (a + n) b (f tt)
-    → Comes s a b (bind (skips n) f)
-unfolding run bind
-comes-skips {s = s} {a} {b} n f h c = record { least = rw (served-next s a n h) (c .least) }
-
 comes-bits : {A : Type 0} {s : List ℕ} {a b : ℕ} (n : ℕ) (f : ℕ → Prog A) → a + n ≤ length s * 8 → ((x : ℕ) → Comes s (a + n) b (f x))
     → Comes s a b (bind (bits n) f)
 unfolding run bind
 comes-bits {s = s} {a} {b} n f h c = record { least = rw (served-next s a n h) (c (got s a n) .least) }
 
-header-comes : (p : Picture) (s : List ℕ) (a : ℕ) → a + 29 ≤ length s * 8 → Comes s a (a + 10 + 3 + 16) (P.pictureHeader p)
+header-comes : (s : List ℕ) (a : ℕ) → a + 29 ≤ length s * 8 → Comes s a (a + 10 + 3 + 16) P.pictureHeader
 unfolding P.pictureHeader
-header-comes p s a h = comes-skips 10 _ (omega arith) (comes-bits 3 _ (omega arith) (λ type. comes-skips 16 _ (omega arith) comes-here))
+header-comes s a h =
+    comes-bits 10 _ (omega arith) (λ temporal. comes-bits 3 _ (omega arith) (λ type. comes-bits 16 _ (omega arith) (λ delay. comes-here)))
 
 pub picture-past : (z : Sizes) (m : Matrices) (f : P.Frame) (s : List ℕ) (a : ℕ) → a + 29 ≤ length s * 8
     → a + 29 ≤ run (P.picture z m f) s a .at
 unfolding P.picture
 picture-past z m f s a h =
-    let c : Comes s a (a + 10 + 3 + 16) (P.picture z m f) = comes-first (P.pictureHeader (f .picture)) _ (header-comes (f .picture) s a h) in
+    let c : Comes s a (a + 10 + 3 + 16) (P.picture z m f) = comes-first P.pictureHeader _ (header-comes s a h) in
     omega arith
 
 -- ---- bits are left before a picture start code
@@ -224,8 +207,7 @@ pub picture-ahead : (z : Sizes) (m : Matrices) (f : P.Frame) (s : List ℕ) (a :
     → Ahead s (run (P.picture z m f) s a .at) (run (P.picture z m f) s a .value)
 unfolding P.picture
 picture-ahead z m f s a h k =
-    let p = f .picture in
-    let o = run (P.pictureHeader p) s a in
-    rw (run-bind (P.pictureHeader p) _ s a)
-    (by-case (Left s (o .at)) (o .value .decoded) (λ e. coded-ahead z m (P.inPicture (o .value .picture) f) s (o .at) h)
-    (λ e. given-ahead s (o .at) _ (omega (arith, header-takes p .most s a))))
+    let o = run P.pictureHeader s a in
+    rw (run-bind P.pictureHeader _ s a)
+    (by-case (Left s (o .at)) (P.isDecoded (o .value)) (λ e. coded-ahead z m (P.inPicture (P.headed (o .value) (f .picture)) f) s (o .at) h)
+    (λ e. given-ahead s (o .at) _ (omega (arith, header-takes .most s a))))

@@ -1,21 +1,22 @@
 -- What is read keeps a possible state possible: scale, vectors, a picture's header. Assumes nothing.
 use mathlib.Core.Path.{_≡_, ap}
-use mathlib.Core.Bool.{Bool, true, _&&_, _||_}
+use mathlib.Core.Bool.{Bool, true}
 use mathlib.Core.List.{List}
 use Prim.Native.Nat.{ℕ, _≤_, _<_}
 use native.Mathlib.Omega.{arith}
-use lib.Dec.{eqb, ltb}
+use lib.Dec.{eqb}
 use lib.IntN.{ℤ, pos}
 use lib.ListN.{getD, replicate, getD-replicate}
 use Rattle.bits.proofs.Gives.{Gives, g-done, g-any, g-bind, g-if, g-bits}
+use Rattle.laws.proofs.Tests.{by-case}
 use Rattle.motion.proofs.OneStep.{component-in}
 use Rattle.coefficients.specs.Dcs.{dcInside}
 use Rattle.picture.specs.declared.state.Motion.{Motion}
 use Rattle.picture.specs.declared.state.Slice.{Slice}
 use Rattle.picture.specs.declared.state.Picture.{Picture}
-use Rattle.picture.specs.State.{zeroed, isSetAs, scaleAs, motionsAs, dcReset, predictorsAs, typeAs, sliceAs}
+use Rattle.picture.specs.State.{zeroed, isSetAs, scaleAs, motionsAs, dcReset, predictorsAs}
 use Rattle.picture.specs.Heads.{flag, isIntra, scale, vector, forward, backward, vectors, flagged, still, head}
-use Rattle.picture.specs.Pictures.{Direction, direction, Headed, backwardHeader, forwardHeader, pictureHeader}
+use Rattle.picture.specs.Pictures.{Direction, absent, present, PictureHeader, direction, pictureHeader, motionBy, headed}
 use Rattle.picture.specs.Possible.{PossibleMotion, PossibleSlice, PossiblePicture}
 
 -- ---- changes of a state
@@ -87,41 +88,37 @@ module _ {s : List ℕ} where
 
 -- ---- a picture's header
 
-slice-kept : {p : Picture} {x : Slice} → PossiblePicture p → PossibleSlice x → PossiblePicture (sliceAs x p)
-slice-kept k s = record { type = k .type; code = k .code; stores = k .stores; slice = s }
+-- the f code of a direction has three bits
+abbrev DirectionFits : Direction → Type 0
+DirectionFits absent = Unit {0}
+DirectionFits (present full f) = f < 8
 
-type-kept : {p : Picture} {t : ℕ} → PossiblePicture p → t ≤ 7 → PossiblePicture (typeAs t p)
-type-kept k h = record { type = h; code = k .code; stores = k .stores; slice = k .slice }
-
-abbrev Directed : Direction → Type 0
-Directed d = PossibleMotion (d .motion)
-
-abbrev pub HeadedPossible : Headed → Type 0
-HeadedPossible h = PossiblePicture (h .picture)
+-- and so has the type
+pub record HeaderFits (h : PictureHeader) : Type 0 where
+  type : h .«picture_coding_type» ≤ 7
+  forward : DirectionFits (h .forward)
+  backward : DirectionFits (h .backward)
 
 module _ {s : List ℕ} where
-  direction-gives : (m : Motion) → PossibleMotion m → Gives s Directed (direction m)
+  direction-fits : (here : Bool) → Gives s DirectionFits (direction here)
   unfolding direction
-  direction-gives m k =
-      g-bind _ (g-bits 1) (λ full i. g-bind _ (g-bits 3) (λ f j. g-if (eqb f 0)
-      (λ e. g-done (record { size = k .size; h = k .h; v = k .v }))
-      (λ e. g-done (record { size = omega arith; h = k .h; v = k .v }))))
+  direction-fits here = g-if here (λ e. g-bind _ (g-bits 1) (λ full i. g-bind _ (g-bits 3) (λ f j. g-done j))) (λ e. g-done tt)
 
-  backward-header : {p : Picture} → PossiblePicture p → Gives s HeadedPossible (backwardHeader p)
-  unfolding backwardHeader
-  backward-header {p} k = g-bind _ (direction-gives (p .slice .«motion_backward») (k .slice .backward))
-      (λ b i. g-done (slice-kept k (motions-kept (k .slice) (k .slice .forward) i)))
-
-  forward-header : {p : Picture} → PossiblePicture p → Gives s HeadedPossible (forwardHeader p)
-  unfolding forwardHeader
-  forward-header {p} k =
-      g-bind _ (direction-gives (p .slice .«motion_forward») (k .slice .forward)) (λ f i.
-      let x = slice-kept k (motions-kept (k .slice) i (k .slice .backward)) in
-      g-if (f .decoded && eqb (p .«picture_type») 3) (λ e. backward-header x) (λ e. g-done x))
-
-  pub header-gives : {p : Picture} → PossiblePicture p → Gives s HeadedPossible (pictureHeader p)
+  pub header-fits : Gives s HeaderFits pictureHeader
   unfolding pictureHeader
-  header-gives k =
-      g-bind _ (g-any _) (λ u i. g-bind _ (g-bits 3) (λ type j. g-bind _ (g-any _) (λ u i.
-      let x = type-kept k (omega arith) in
-      g-if (eqb type 0 || ltb 3 type) (λ e. g-done x) (λ e. g-if (eqb type 1) (λ e. g-done x) (λ e. forward-header x)))))
+  header-fits =
+      g-bind _ (g-any _) (λ temporal u. g-bind _ (g-bits 3) (λ type i. g-bind _ (g-any _) (λ delay u.
+      g-bind _ (direction-fits _) (λ f j. g-bind _ (direction-fits _) (λ b k. g-done (record { type = omega arith; forward = j; backward = k }))))))
+
+motion-by : {m : Motion} (d : Direction) → DirectionFits d → PossibleMotion m → PossibleMotion (motionBy d m)
+motion-by absent h k = k
+motion-by (present full f) h k =
+    by-case PossibleMotion (eqb f 0) (λ e. record { size = k .size; h = k .h; v = k .v }) (λ e. record { size = omega arith; h = k .h; v = k .v })
+
+pub headed-possible : {p : Picture} {h : PictureHeader} → PossiblePicture p → HeaderFits h → PossiblePicture (headed h p)
+headed-possible {h = h} k i = record {
+  type = i .type;
+  code = k .code;
+  stores = k .stores;
+  slice = motions-kept (k .slice) (motion-by (h .forward) (i .forward) (k .slice .forward)) (motion-by (h .backward) (i .backward) (k .slice .backward));
+}

@@ -2,11 +2,11 @@
 use mathlib.Core.Bool.{Bool, true, false, not, _&&_, _||_}
 use mathlib.Core.List.{List}
 use Prim.Native.Nat.{ℕ, _-_}
-use lib.Dec.{eqb, ltb}
+use lib.Dec.{eqb, leb}
 use lib.IntN.{ℤ, pos, natAbs}
 use lib.Signed.{leZ}
 use Rattle.laws.specs.Turns.{Turn, again, stop}
-use Rattle.bits.specs.Programs.{Prog, done, bind, bits, skips, nextStartCode, eqZ, loop, many, _>>=_, _>>_, if_then_else_}
+use Rattle.bits.specs.Programs.{Prog, done, bind, bits, nextStartCode, eqZ, loop, many, _>>=_, _>>_, if_then_else_}
 use Rattle.picture.specs.declared.state.Context.{Context}
 use Rattle.picture.specs.declared.state.Motion.{Motion}
 use Rattle.picture.specs.declared.state.Stores.{Stores}
@@ -30,55 +30,57 @@ frame p c l = record { picture = p; «block_data» = c; store = l }
 abbrev pub inPicture : Picture → Frame → Frame
 inPicture p f = frame p (f .«block_data») (f .store)
 
--- what a header leaves, and whether the picture is decoded
-pub record Headed : Type 0 where
-  pub picture : Picture
-  pub decoded : Bool
+-- 11172-2, 2.4.2.5: full_pel_.._vector and .._f_code of one direction, where the header has them
+pub data Direction : Type 0 where
+  absent : Direction
+  present : Bool → ℕ → Direction
 
-abbrev pub headed : Picture → Bool → Headed
-headed p decoded = record { picture = p; decoded = decoded }
+-- 11172-2, 2.4.2.5: the fields of a picture header
+pub record PictureHeader : Type 0 where
+  pub «temporal_reference» : ℕ
+  pub «picture_coding_type» : ℕ
+  pub «vbv_delay» : ℕ
+  pub forward : Direction
+  pub backward : Direction
 
--- RULES 7.1, 5.1, 8.4: full-pel flag and f code of one direction; an f code of 0 leaves r as it was, and the picture is not decoded
-pub record Direction : Type 0 where
-  pub motion : Motion
-  pub decoded : Bool
+-- RULES 8.4: does the header have an f code of 0 for this direction?
+abbrev pub isZero : Direction → Bool
+isZero absent = false
+isZero (present full f) = eqb f 0
 
-unfoldable pub direction : Motion → Prog Direction
-direction m = do
+-- RULES 7.1: one bit and three, if the header has them
+unfoldable pub direction : Bool → Prog Direction
+direction here = if here then (do
   full ← bits 1
   f ← bits 3
-  let x = fullPxAs (not (eqb full 0)) m
-  if eqb f 0 then done (record { motion = x; decoded = false }) else done (record { motion = rSizeAs (f - 1) x; decoded = true })
+  done (present (not (eqb full 0)) f)) else done absent
 
--- a picture with another forward motion, and with another backward motion
-abbrev pub forwardAs : Motion → Picture → Picture
-forwardAs m p = sliceAs (motionsAs m (p .slice .«motion_backward») (p .slice)) p
-
-abbrev pub backwardAs : Motion → Picture → Picture
-backwardAs m p = sliceAs (motionsAs (p .slice .«motion_forward») m (p .slice)) p
-
--- RULES 7.1: a B header goes on with the backward direction
-unfoldable pub backwardHeader : Picture → Prog Headed
-backwardHeader p = do
-  b ← direction (p .slice .«motion_backward»)
-  done (headed (backwardAs (b .motion) p) (b .decoded))
-
--- RULES 7.1: a P or B header goes on with the forward direction
-unfoldable pub forwardHeader : Picture → Prog Headed
-forwardHeader p = do
-  f ← direction (p .slice .«motion_forward»)
-  let x = forwardAs (f .motion) p
-  if f .decoded && eqb (p .«picture_type») 3 then backwardHeader x else done (headed x (f .decoded))
-
--- RULES 7.1, 8.4
-unfoldable pub pictureHeader : Picture → Prog Headed
-pictureHeader p = do
-  skips 10
+-- RULES 7.1, 8.4: a P or B header has the forward direction, and a B header then the backward one, unless the forward f code is 0. The Rust passes the first
+-- and the last of the three numbers over: a read in the place of a skip ends at the same place on a cut stream, too, as both are refused together and stay
+unfoldable pub pictureHeader : Prog PictureHeader
+pictureHeader = do
+  temporal ← bits 10
   type ← bits 3
-  skips 16
-  let x = typeAs type p
-  if eqb type 0 || ltb 3 type then done (headed x false)
-      else (if eqb type 1 then done (headed x true) else forwardHeader x)
+  delay ← bits 16
+  forward ← direction (eqb type 2 || eqb type 3)
+  backward ← direction (eqb type 3 && not (isZero forward))
+  done (record { «temporal_reference» = temporal; «picture_coding_type» = type; «vbv_delay» = delay; forward = forward; backward = backward })
+
+-- RULES 8.4: a picture is decoded if its type is 1 to 3 and its header has no f code of 0
+abbrev pub isDecoded : PictureHeader → Bool
+isDecoded h = leb 1 (h .«picture_coding_type») && leb (h .«picture_coding_type») 3 && not (isZero (h .forward)) && not (isZero (h .backward))
+
+-- RULES 7.1, 5.1, 8.4: flag and r of a motion; a direction that the header does not have leaves both as they were, and an f code of 0 leaves r
+abbrev pub motionBy : Direction → Motion → Motion
+motionBy absent m = m
+motionBy (present full f) m = if eqb f 0 then fullPxAs full m else rSizeAs (f - 1) (fullPxAs full m)
+
+-- RULES 7.1: what a header sets in the picture p
+abbrev pub headed : PictureHeader → Picture → Picture
+headed h p =
+    let forward = motionBy (h .forward) (p .slice .«motion_forward») in
+    let backward = motionBy (h .backward) (p .slice .«motion_backward») in
+    typeAs (h .«picture_coding_type») (sliceAs (motionsAs forward backward (p .slice)) p)
 
 -- what the slices of the picture p are given
 abbrev pub contextOf : Sizes → Picture → Context
@@ -141,5 +143,6 @@ coded z m f =
 -- a picture; one that is not decoded ends behind its header (RULES 8.4)
 unfoldable pub picture : Sizes → Matrices → Frame → Prog (Way Frame)
 picture z m f = do
-  h ← pictureHeader (f .picture)
-  if h .decoded then coded z m (inPicture (h .picture) f) else give (inPicture (h .picture) f)
+  h ← pictureHeader
+  let x = inPicture (headed h (f .picture)) f
+  if isDecoded h then coded z m x else give x

@@ -3,23 +3,29 @@ use mathlib.Core.Bool.{true, not, _&&_}
 use lib.Dec.{eqb}
 use lib.IntN.{ℤ, pos, _+ℤ_}
 use lib.Signed.{leZ}
-use Rattle.picture.specs.declared.state.Picture.{Picture}
+use Rattle.bits.specs.Programs.{if_then_else_}
 use Rattle.picture.specs.declared.state.Context.{Context}
 use Rattle.picture.specs.declared.state.Stores.{Stores}
 use Rattle.picture.specs.declared.state.Progress.{Progress}
 use Rattle.picture.specs.declared.state.SlicesProgress.{SlicesProgress}
 use Rattle.picture.specs.declared.state.PictureProgress.{PictureProgress}
-use Rattle.picture.specs.Pictures.{Headed, headed}
-use Rattle.picture.specs.State.{motionsAs, typeAs, sliceAs}
+use Rattle.picture.specs.Pictures as P
+use Rattle.slices.specs.declared.headers.Direction.{Direction}
 use Rattle.slices.specs.declared.headers.HeaderRead.{HeaderRead}
 
--- RULES 7.1: the picture p with what its header sets
-abbrev pub headerAs : HeaderRead → Picture → Picture
-headerAs h p = typeAs (h .«picture_type») (sliceAs (motionsAs (h .«motion_forward») (h .«motion_backward») (p .slice)) p)
+-- RULES 7.1: a direction as the code has it
+abbrev pub directionOf : Direction → P.Direction
+directionOf d = if d .present then P.present (d .«full_pel_vector») (d .«f_code») else P.absent
 
--- what a header's program gives, as the code has it
-abbrev pub headedBy : HeaderRead → Picture → Headed
-headedBy h p = headed (headerAs h p) (h .decoded)
+-- RULES 7.1: the fields of a header as the code has read them, without the reader behind them
+abbrev pub headerOf : HeaderRead → P.PictureHeader
+headerOf h = record {
+  «temporal_reference» = h .«temporal_reference»;
+  «picture_coding_type» = h .«picture_coding_type»;
+  «vbv_delay» = h .«vbv_delay»;
+  forward = directionOf (h .forward);
+  backward = directionOf (h .backward);
+}
 
 -- RULES 7.4: behind a slice with this start code another one follows unless it stopped, or the address has reached the last macroblock
 abbrev pub pastOf : Context → ℤ → Progress → SlicesProgress

@@ -1,113 +1,86 @@
-// RULES 7.1, 5.1, 8.4: the header of a picture, from behind its start code on.
+// RULES 7.1, 8.4 (11172-2, 2.4.2.5): the header of a picture, from behind its start code on.
 use bits::reader::Reader;
-use picture::state::Motion;
-use picture::state::Picture;
+ghost use mathlib.Core.Path.{_≡_};
 ghost use Rattle.bits.specs.Runs.{Inside, Reading};
-ghost use Rattle.picture.specs.State.{typeAs};
-ghost use Rattle.picture.specs.Pictures.{direction, forwardHeader, pictureHeader};
-ghost use Rattle.slices.specs.Behind.{headedBy};
+ghost use Rattle.picture.specs.Pictures.{direction, isZero, pictureHeader};
+ghost use Rattle.slices.specs.Behind.{directionOf, headerOf};
 
-// A motion with the flag and the size of its header; with `decoded` false the picture is not decoded.
+// Full-pel flag and f code of one direction, where the header has them.
+pub struct Direction {
+    pub present: bool,
+    pub full_pel_vector: bool,
+    pub f_code: u32,
+}
+
 struct DirectionRead {
     pub reader: Reader,
-    pub motion: Motion,
-    pub decoded: bool,
+    pub direction: Direction,
 }
 
-// What a header sets, and whether the picture is decoded.
 pub struct HeaderRead {
     pub reader: Reader,
-    pub picture_type: u32,
-    pub motion_forward: Motion,
-    pub motion_backward: Motion,
-    pub decoded: bool,
+    pub temporal_reference: u32,
+    pub picture_coding_type: u32,
+    pub vbv_delay: u32,
+    pub forward: Direction,
+    pub backward: Direction,
 }
 
-// Full-pel flag and f code of one direction; an f code of 0 leaves r as it was, and the picture is not decoded.
-fn read_direction(s: &[u8], reader: Reader, m: Motion) -> DirectionRead
-    requires { ⌜ Inside (now s) reader ⌝ }
-    ensures { λ r. ⌜ Reading (direction m) (now (s .entry)) reader (record { motion = r .motion; decoded = r .decoded }) (r .reader) ⌝ }
+// Does the header have an f code of 0 for this direction?
+pub fn is_zero(d: Direction) -> bool
+    ensures { λ r. ⌜ r ≡ isZero (directionOf d) ⌝ }
 {
-    let full = reader.read_bit(s);
-    let f = full.reader.read(s, 3);
-    let after = f.reader;
-    let code = f.value;
-    let mut motion = m;
-    motion.full_px = full.value != 0;
-    if code == 0 {
+    d.present & (d.f_code == 0)
+}
+
+// One bit and three, if the header has them.
+fn read_direction(s: &[u8], reader: Reader, present: bool) -> DirectionRead
+    requires { ⌜ Inside (now s) reader ⌝ }
+    ensures { λ r. ⌜ Reading (direction present) (now (s .entry)) reader (directionOf (r .direction)) (r .reader) ⌝ }
+{
+    if present {
+        let full = reader.read_bit(s);
+        let f = full.reader.read(s, 3);
+        let after = f.reader;
+        let direction = Direction {
+            present: true,
+            full_pel_vector: full.value != 0,
+            f_code: f.value,
+        };
         return DirectionRead {
             reader: after,
-            motion,
-            decoded: false,
+            direction,
         };
     }
-    motion.r_size = code - 1;
-    DirectionRead {
-        reader: after,
-        motion,
-        decoded: true,
-    }
+    let direction = Direction {
+        present: false,
+        full_pel_vector: false,
+        f_code: 0,
+    };
+    DirectionRead { reader, direction }
 }
 
-// A P or B header goes on with the forward direction, a B header then with the backward direction.
-fn read_directions(s: &[u8], reader: Reader, picture_type: u32, p: Picture) -> HeaderRead
+// A P or B header has the forward direction, and a B header then the backward one, unless the forward f code is 0.
+pub fn read_picture_header(s: &[u8], reader: Reader) -> HeaderRead
     requires { ⌜ Inside (now s) reader ⌝ }
-    ensures { λ r. ⌜ Reading (forwardHeader (typeAs «picture_type» p)) (now (s .entry)) reader (headedBy r p) (r .reader) ⌝ }
+    ensures { λ r. ⌜ Reading pictureHeader (now (s .entry)) reader (headerOf r) (r .reader) ⌝ }
 {
-    let slice = p.slice;
-    let f = read_direction(s, reader, slice.motion_forward);
-    let after = f.reader;
-    let motion_forward = f.motion;
-    if f.decoded && picture_type == 3 {
-        let b = read_direction(s, after, slice.motion_backward);
-        let end = b.reader;
-        let motion_backward = b.motion;
-        return HeaderRead {
-            reader: end,
-            picture_type,
-            motion_forward,
-            motion_backward,
-            decoded: b.decoded,
-        };
-    }
-    let motion_backward = slice.motion_backward;
+    let temporal = reader.read(s, 10);
+    let t = temporal.reader.read(s, 3);
+    let delay = t.reader.read(s, 16);
+    let picture_coding_type = t.value;
+    let is_b = picture_coding_type == 3;
+    let f = read_direction(s, delay.reader, (picture_coding_type == 2) | is_b);
+    let forward = f.direction;
+    let b = read_direction(s, f.reader, is_b & !is_zero(forward));
+    let backward = b.direction;
+    let after = b.reader;
     HeaderRead {
         reader: after,
-        picture_type,
-        motion_forward,
-        motion_backward,
-        decoded: f.decoded,
+        temporal_reference: temporal.value,
+        picture_coding_type,
+        vbv_delay: delay.value,
+        forward,
+        backward,
     }
-}
-
-// Ten bits of temporal reference and sixteen of delay are passed over.
-pub fn read_picture_header(s: &[u8], reader: Reader, p: Picture) -> HeaderRead
-    requires { ⌜ Inside (now s) reader ⌝ }
-    ensures { λ r. ⌜ Reading (pictureHeader p) (now (s .entry)) reader (headedBy r p) (r .reader) ⌝ }
-{
-    let slice = p.slice;
-    let forward = slice.motion_forward;
-    let backward = slice.motion_backward;
-    let t = reader.skip(s, 10).read(s, 3);
-    let after = t.reader.skip(s, 16);
-    let picture_type = t.value;
-    if picture_type == 0 || 3 < picture_type {
-        return HeaderRead {
-            reader: after,
-            picture_type,
-            motion_forward: forward,
-            motion_backward: backward,
-            decoded: false,
-        };
-    }
-    if picture_type == 1 {
-        return HeaderRead {
-            reader: after,
-            picture_type,
-            motion_forward: forward,
-            motion_backward: backward,
-            decoded: true,
-        };
-    }
-    read_directions(s, after, picture_type, p)
 }

@@ -1,8 +1,11 @@
 // RULES 7.1 to 7.4, 8.4: a whole picture, from behind its start code on.
+use crate::headers::Direction;
 use crate::headers::HeaderRead;
+use crate::headers::is_zero;
 use crate::headers::read_picture_header;
 use crate::turns::read_coded;
 use bits::reader::Reader;
+use picture::state::Motion;
 use picture::state::Picture;
 use picture::state::PictureProgress;
 use picture::state::Sizes;
@@ -10,23 +13,47 @@ ghost use mathlib.Core.Path.{_≡_};
 ghost use Rattle.bits.specs.Runs.{Inside};
 ghost use Rattle.codes.specs.Matrices.{Bounded};
 ghost use Rattle.picture.specs.Possible.{PossiblePicture};
-ghost use Rattle.picture.specs.Pictures.{frame, contextOf, picture};
+ghost use Rattle.picture.specs.Pictures.{frame, contextOf, isDecoded, motionBy, headed, picture};
 ghost use Rattle.picture.specs.Views.{matrices, Held, Coded};
-ghost use Rattle.slices.specs.Behind.{headerAs};
+ghost use Rattle.slices.specs.Behind.{directionOf, headerOf};
+
+// Flag and r of a motion, from its direction in the header; an f code of 0 leaves r as it was.
+fn with_direction(m: Motion, d: Direction) -> Motion
+    ensures { λ r. ⌜ r ≡ motionBy (directionOf d) m ⌝ }
+{
+    if d.present {
+        let mut motion = m;
+        motion.full_px = d.full_pel_vector;
+        if d.f_code == 0 {
+            return motion;
+        }
+        motion.r_size = d.f_code - 1;
+        return motion;
+    }
+    m
+}
 
 // The picture p with what its header sets.
 fn with_header(p: Picture, h: HeaderRead) -> Picture
-    ensures { λ r. ⌜ r ≡ headerAs h p ⌝ }
+    ensures { λ r. ⌜ r ≡ headed (headerOf h) p ⌝ }
 {
-    let forward = h.motion_forward;
-    let backward = h.motion_backward;
     let mut slice = p.slice;
-    slice.motion_forward = forward;
-    slice.motion_backward = backward;
+    let motion_forward = with_direction(slice.motion_forward, h.forward);
+    let motion_backward = with_direction(slice.motion_backward, h.backward);
+    slice.motion_forward = motion_forward;
+    slice.motion_backward = motion_backward;
     let mut picture = p;
-    picture.picture_type = h.picture_type;
+    picture.picture_type = h.picture_coding_type;
     picture.slice = slice;
     picture
+}
+
+// Whether a picture with this header is decoded.
+fn is_decoded(h: HeaderRead) -> bool
+    ensures { λ r. ⌜ r ≡ isDecoded (headerOf h) ⌝ }
+{
+    let t = h.picture_coding_type;
+    (1 <= t) & (t <= 3) & !is_zero(h.forward) & !is_zero(h.backward)
 }
 
 // One that is not decoded ends behind its header.
@@ -49,10 +76,10 @@ pub fn read_picture(
         (now (s .entry)) reader r (now (values .exit)) (now (store .exit))
         ⌝ }
 {
-    let h = read_picture_header(s, reader, p);
+    let h = read_picture_header(s, reader);
     let from = h.reader;
     let headed = with_header(p, h);
-    if h.decoded {
+    if is_decoded(h) {
         return read_coded(s, from, store, values, sizes, intra, other, headed);
     }
     PictureProgress {

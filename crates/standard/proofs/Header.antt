@@ -1,15 +1,14 @@
 -- 2.4.2.5: the header of a picture. Assumes nothing.
 use mathlib.Core.Path.{_≡_, refl, sym, ap, _∙_, subst}
-use mathlib.Core.Bool.{Bool, true, false, cond, not, _&&_, _||_, false≢true}
+use mathlib.Core.Bool.{Bool, true, false, cond, not, _&&_, _||_, false≢true, Bool·not-not}
 use mathlib.Core.List.{List}
 use Prim.Native.Nat.{ℕ, _-_}
-use lib.Dec.{eqb, ltb}
+use lib.Dec.{eqb}
 use borrow.Author.Tests.{eqb-true}
 use Rattle.bits.specs.Bits.{has, got, next, found}
-use Rattle.bits.specs.Programs.{Prog, done, skip, run, bind, bits, skips}
+use Rattle.bits.specs.Programs.{Prog, done, skip, run, bind, bits}
 use Rattle.picture.specs.declared.state.Motion.{Motion}
 use Rattle.picture.specs.declared.state.Picture.{Picture}
-use Rattle.picture.specs.State.{typeAs, fullPxAs, rSizeAs}
 use Rattle.picture.specs.Ways.{Way, on, leave, onward, plain, give}
 use Rattle.picture.specs.Pictures as P
 use Rattle.standard.specs.Standard as S
@@ -27,15 +26,6 @@ module _ (s : List ℕ) where
       go true = (refl, refl)
       go false = tt
 
-  field-skips : (n a : ℕ) → Agree (λ v u. Unit {0}) s a (S.field n) (plain (skips n))
-  unfolding S.field plain bind run
-  field-skips n a = record { is = go (has s a n) }
-    where
-      go : (h : Bool) → Meets (λ (v : ℕ) (u : Unit {0}). Unit {0}) (run (cond h (skip n (give (got s a n))) (done S.forbidden)) s a .value)
-          (run (cond h (skip n (give (got s a n))) (done S.forbidden)) s a .at) (on tt) (next s a n)
-      go true = (refl, tt)
-      go false = tt
-
   -- a look ahead of the standard's
   nextbits-their : {C D : Type 0} {Q : C → D → Type 0} (n a : ℕ) (f : ℕ → Prog (Way C)) {q : Prog (Way D)} → ((x : ℕ) → Agree Q s a (f x) q)
       → Agree Q s a (onward (S.nextbits n) f) q
@@ -49,49 +39,43 @@ module _ (s : List ℕ) where
       go true = k (got s a n) .is
       go false = tt
 
-  -- one direction: decoded, and our motion with its flag and vector
-  record Directed (m : Motion) (d : S.Direction) (x : P.Direction) : Type 0 where
-    decoded : x .decoded ≡ true
-    motion : x .motion ≡ motionOf d (m .«is_set») (record { right = m .h; down = m .v })
+  -- one direction: its f code is not 0, and our motion has its flag and vector
+  record Directed (d : S.Direction) (x : P.Direction) : Type 0 where
+    code : P.isZero x ≡ false
+    motion : (m : Motion) → P.motionBy x m ≡ motionOf d (m .«is_set») (record { right = m .h; down = m .v })
 
-  direction-agrees : (m : Motion) (a : ℕ) → Agree (Directed m) s a S.direction (plain (P.direction m))
+  direction-agrees : (a : ℕ) → Agree Directed s a S.direction (plain (P.direction true))
   unfolding S.direction P.direction plain bind
-  direction-agrees m a =
+  direction-agrees a =
       a-same (sym (plain-bind (bits 1) (λ x. bind (bits 3) (last x)) s a)) (a-onward _ _ (field-bits 1 a) (λ x x′ e i.
-      subst (λ (x′ : ℕ). Agree (Directed m) s e (theirs x) (ours x′)) i (
+      subst (λ (x′ : ℕ). Agree Directed s e (theirs x) (ours x′)) i (
       a-same (sym (plain-bind (bits 3) (last x) s e)) (a-onward _ _ (field-bits 3 e) (λ f f′ e j.
-      subst (λ (f′ : ℕ). Agree (Directed m) s e (theirs′ x f) (ours′ x f′)) j (
-      a-shall _ _ (λ h. go x f e (eqb f 0) h)))))))
+      subst (λ (f′ : ℕ). Agree Directed s e (theirs′ x f) (plain (last x f′))) j (
+      a-shall (not (eqb f 0)) (λ z. give (told x f)) (λ h. a-give (directed x f (sym (Bool·not-not (eqb f 0)) ∙ ap not h)))))))))
     where
+      told : ℕ → ℕ → S.Direction
+      told x f = record { «full_pel_vector» = not (eqb x 0); «r_size» = f - 1 }
+
       theirs′ : ℕ → ℕ → Prog (Way S.Direction)
-      theirs′ x f = onward (S.shall (not (eqb f 0))) (λ z. give (record { «full_pel_vector» = not (eqb x 0); «r_size» = f - 1 }))
+      theirs′ x f = onward (S.shall (not (eqb f 0))) (λ z. give (told x f))
 
       theirs : ℕ → Prog (Way S.Direction)
       theirs x = onward (S.field 3) (theirs′ x)
 
-      moved : ℕ → Motion
-      moved x = fullPxAs (not (eqb x 0)) m
-
       last : ℕ → ℕ → Prog P.Direction
-      last x f = cond (eqb f 0) (done (record { motion = moved x; decoded = false })) (done (record { motion = rSizeAs (f - 1) (moved x); decoded = true }))
-
-      ours′ : ℕ → ℕ → Prog (Way P.Direction)
-      ours′ x f = plain (last x f)
+      last x f = done (P.present (not (eqb x 0)) f)
 
       ours : ℕ → Prog (Way P.Direction)
       ours x = plain (bind (bits 3) (last x))
 
-      go : (x f e : ℕ) (t : Bool) → not t ≡ true → Agree (Directed m) s e (give (record { «full_pel_vector» = not (eqb x 0); «r_size» = f - 1 }))
-          (plain (cond t (done (record { motion = moved x; decoded = false })) (done (record { motion = rSizeAs (f - 1) (moved x); decoded = true }))))
-      go x f e true h = absurd (false≢true h)
-      go x f e false h = a-give (record { decoded = refl; motion = refl })
+      directed : (x f : ℕ) → eqb f 0 ≡ false → Directed (told x f) (P.present (not (eqb x 0)) f)
+      directed x f h = record { code = h; motion = λ m. rw h refl }
 
   -- what a header that the standard admits leaves of the picture p
-  pub record Headed (p : Picture) (h : S.Header) (x : P.Headed) : Type 0 where
-    pub decoded : x .decoded ≡ true
-    pub type : x .picture .«picture_type» ≡ h .«picture_coding_type»
-    pub stores : x .picture .stores ≡ p .stores
-    pub begun : Begun (h .forward) (h .backward) (x .picture .slice)
+  pub record Headed (p : Picture) (h : S.Header) (x : P.PictureHeader) : Type 0 where
+    pub decoded : P.isDecoded x ≡ true
+    pub type : x .«picture_coding_type» ≡ h .«picture_coding_type»
+    pub begun : Begun (h .forward) (h .backward) (P.headed x p .slice)
 
   module _ (p : Picture) (df db : S.Direction) (b : Begun df db (p .slice)) where
     abbrev found-header : ℕ → S.Direction → S.Direction → S.Header
@@ -101,20 +85,13 @@ module _ (s : List ℕ) where
     abbrev ends : ℕ → S.Direction → S.Direction → Prog (Way S.Header)
     ends type f b = onward (S.nextbits 1) (λ x. onward (S.shall (eqb x 0)) (λ z. give (found-header type f b)))
 
-    ends-agree : (type : ℕ) (f b : S.Direction) (x : P.Headed) (e : ℕ) → Headed p (found-header type f b) x → Agree (Headed p) s e (ends type f b) (give x)
-    ends-agree type f b x e r = nextbits-their 1 e (λ y. onward (S.shall (eqb y 0)) (λ z. give (found-header type f b)))
+    ends-agree : {type : ℕ} {f b : S.Direction} {x : P.PictureHeader} {e : ℕ} → Headed p (found-header type f b) x
+        → Agree (Headed p) s e (ends type f b) (give x)
+    ends-agree {type} {f} {b} {x} {e} r = nextbits-their 1 e (λ y. onward (S.shall (eqb y 0)) (λ z. give (found-header type f b)))
         (λ y. a-shall (eqb y 0) (λ z. give (found-header type f b)) (λ z. a-give r))
 
     abbrev directions : ℕ → Prog (Way S.Header)
     directions type = onward (cond (eqb type 1) (give df) S.direction) (λ f. onward (cond (eqb type 3) S.direction (give db)) (ends type f))
-
-    abbrev ours : ℕ → Prog P.Headed
-    ours type = cond (eqb type 0 || ltb 3 type) (done (P.headed (typeAs type p) false))
-        (cond (eqb type 1) (done (P.headed (typeAs type p) true)) (P.forwardHeader (typeAs type p)))
-
-    i-header : (e : ℕ) → Agree (Headed p) s e (directions 1) (plain (ours 1))
-    unfolding onward leave bind plain
-    i-header e = ends-agree 1 df db (P.headed (typeAs 1 p) true) e (record { decoded = refl; type = refl; stores = refl; begun = b })
 
     abbrev m : Motion
     m = p .slice .«motion_forward»
@@ -122,71 +99,94 @@ module _ (s : List ℕ) where
     abbrev n : Motion
     n = p .slice .«motion_backward»
 
-    -- behind the forward direction
-    abbrev ahead : ℕ → P.Direction → P.Headed
-    ahead type y = P.headed (P.forwardAs (y .motion) (typeAs type p)) (y .decoded)
+    -- the vectors as they are before the picture
+    abbrev vectorOf : Motion → S.Vector
+    vectorOf q = record { right = q .h; down = q .v }
 
-    forward-header : (type : ℕ) (F : S.Direction → Prog (Way S.Header)) (e : ℕ)
-        → ((f : S.Direction) (y : P.Direction) (e : ℕ) → Directed m f y
-        → Agree (Headed p) s e (F f) (plain (cond (eqb type 3) (P.backwardHeader (ahead type y .picture)) (done (ahead type y)))))
-        → Agree (Headed p) s e (onward S.direction F) (plain (P.forwardHeader (typeAs type p)))
-    unfolding P.forwardHeader
-    forward-header type F e k =
-        let K : Bool → P.Direction → Prog P.Headed = λ t y. cond (t && eqb type 3) (P.backwardHeader (ahead type y .picture)) (done (ahead type y)) in
-        a-same (sym (plain-bind (P.direction m) (λ y. K (y .decoded) y) s e)) (a-onward _ _ (direction-agrees m e) (λ f y e d.
-        a-same (ap (λ (t : Bool). run (plain (K t y)) s e) (sym (d .decoded))) (k f y e d)))
+    -- a header of the numbers t and d that no field of the standard's header keeps
+    module _ (t d : ℕ) where
+      abbrev made : ℕ → P.Direction → P.Direction → P.PictureHeader
+      made type f b = record { «temporal_reference» = t; «picture_coding_type» = type; «vbv_delay» = d; forward = f; backward = b }
 
-    -- a header with the forward direction f, of which the backward motion of x is k's
-    headed-by : (type : ℕ) (f k : S.Direction) (y : P.Direction) (x : P.Headed) → Directed m f y → x .decoded ≡ true → (set : Bool) (back : S.Vector)
-        → x .picture ≡ P.backwardAs (motionOf k set back) (ahead type y .picture) → Headed p (found-header type f k) x
-    headed-by type f k y x d t set back e =
-        record {
-          decoded = t;
-          type = ap (λ (q : Picture). q .«picture_type») e;
-          stores = ap (λ (q : Picture). q .stores) e;
-          begun = record {
-            forSet = m .«is_set»;
-            backSet = set;
-            for = record { right = m .h; down = m .v };
-            back = back;
-            forward = ap (λ (q : Picture). q .slice .«motion_forward») e ∙ d .motion;
-            backward = ap (λ (q : Picture). q .slice .«motion_backward») e;
-          };
-        }
+      abbrev behind : ℕ → P.Direction → Prog P.PictureHeader
+      behind type f = bind (P.direction (eqb type 3 && not (P.isZero f))) (λ b. done (made type f b))
 
-    p-header : (e : ℕ) → Agree (Headed p) s e (directions 2) (plain (ours 2))
-    unfolding onward leave bind plain
-    p-header e =
-        forward-header 2 (λ f. ends 2 f db) e (λ f y e d.
-        ends-agree 2 f db (ahead 2 y) e
-        (headed-by 2 f db y (ahead 2 y) d (d .decoded) (b .backSet) (b .back) (ap (λ (q : Motion). P.backwardAs q (ahead 2 y .picture)) (b .backward))))
+      abbrev ours : ℕ → Prog P.PictureHeader
+      ours type = bind (P.direction (eqb type 2 || eqb type 3)) (behind type)
 
-    b-header : (e : ℕ) → Agree (Headed p) s e (directions 3) (plain (ours 3))
-    unfolding P.backwardHeader plain bind
-    b-header e =
-        forward-header 3 (λ f. onward S.direction (ends 3 f)) e (λ f y e d.
-        let x : P.Direction → P.Headed = λ z. P.headed (P.backwardAs (z .motion) (ahead 3 y .picture)) (z .decoded) in
-        a-same (sym (plain-bind (P.direction n) (λ z. done (x z)) s e)) (a-onward _ _ (direction-agrees n e) (λ k z e c.
-        ends-agree 3 f k (x z) e (headed-by 3 f k y (x z) d (c .decoded) (n .«is_set») (record { right = n .h; down = n .v })
-        (ap (λ (q : Motion). P.backwardAs q (ahead 3 y .picture)) (c .motion))))))
+      i-header : (e : ℕ) → Agree (Headed p) s e (directions 1) (plain (ours 1))
+      unfolding onward leave bind plain P.direction
+      i-header e =
+          ends-agree (record {
+            decoded = refl;
+            type = refl;
+            begun = record { forSet = b .forSet; backSet = b .backSet; for = b .for; back = b .back; forward = b .forward; backward = b .backward };
+          })
 
-    pub header-agrees : (a : ℕ) → Agree (Headed p) s a (S.header df db) (plain (P.pictureHeader p))
+      p-ends : (f : S.Direction) (y : P.Direction) (e : ℕ) → Directed f y → Agree (Headed p) s e (onward (give db) (ends 2 f)) (plain (behind 2 y))
+      unfolding onward leave bind plain P.direction
+      p-ends f y e k =
+          ends-agree (record {
+            decoded = rw (k .code) refl;
+            type = refl;
+            begun = record {
+              forSet = m .«is_set»;
+              backSet = b .backSet;
+              for = vectorOf m;
+              back = b .back;
+              forward = k .motion m;
+              backward = b .backward;
+            };
+          })
+
+      p-header : (e : ℕ) → Agree (Headed p) s e (directions 2) (plain (ours 2))
+      p-header e = a-same (sym (plain-bind (P.direction true) (behind 2) s e)) (a-onward _ _ (direction-agrees e) (λ f y e k. p-ends f y e k))
+
+      b-ends : (f g : S.Direction) (y z : P.Direction) (e : ℕ) → Directed f y → Directed g z → Agree (Headed p) s e (ends 3 f g) (plain (done (made 3 y z)))
+      unfolding bind plain
+      b-ends f g y z e k l =
+          ends-agree (record {
+            decoded = rw (k .code, l .code) refl;
+            type = refl;
+            begun = record {
+              forSet = m .«is_set»;
+              backSet = n .«is_set»;
+              for = vectorOf m;
+              back = vectorOf n;
+              forward = k .motion m;
+              backward = l .motion n;
+            };
+          })
+
+      b-header : (e : ℕ) → Agree (Headed p) s e (directions 3) (plain (ours 3))
+      b-header e =
+          a-same (sym (plain-bind (P.direction true) (behind 3) s e)) (a-onward _ _ (direction-agrees e) (λ f y e k.
+          let K : Bool → Prog P.PictureHeader = λ t. bind (P.direction (not t)) (λ b. done (made 3 y b)) in
+          a-same (ap (λ (t : Bool). run (plain (K t)) s e) (sym (k .code))) (
+          a-same (sym (plain-bind (P.direction true) (λ b. done (made 3 y b)) s e)) (
+          a-onward _ _ (direction-agrees e) (λ g z e l. b-ends f g y z e k l)))))
+
+    pub header-agrees : (a : ℕ) → Agree (Headed p) s a (S.header df db) (plain P.pictureHeader)
     unfolding S.header P.pictureHeader
     header-agrees a =
-        a-same (sym (plain-bind (skips 10) (λ z. bind (bits 3) (λ type. bind (skips 16) (λ z. ours type))) s a)) (a-onward _ _ (field-skips 10 a) (λ x z e i.
-        a-same (sym (plain-bind (bits 3) (λ type. bind (skips 16) (λ z. ours type)) s e)) (a-onward _ _ (field-bits 3 e) (λ type type′ e i.
-        subst (λ (u : ℕ). Agree (Headed p) s e (delayed type) (plain (bind (skips 16) (λ z. ours u)))) i (
-        a-same (sym (plain-bind (skips 16) (λ z. ours type) s e)) (a-onward _ _ (field-skips 16 e) (λ x z e i.
-        a-shall _ _ (λ h. by-type type e (eqb type 1) refl (eqb type 2) refl (eqb type 3) refl h))))))))
+        a-same (sym (plain-bind (bits 10) (λ t. bind (bits 3) (typed t)) s a)) (a-onward _ _ (field-bits 10 a) (λ x t e i.
+        a-same (sym (plain-bind (bits 3) (typed t) s e)) (a-onward _ _ (field-bits 3 e) (λ type type′ e i.
+        subst (λ (u : ℕ). Agree (Headed p) s e (delayed type) (plain (typed t u))) i (
+        a-same (sym (plain-bind (bits 16) (λ d. ours t d type) s e)) (a-onward _ _ (field-bits 16 e) (λ x d e i.
+        a-shall _ _ (λ h. by-type t d type e (eqb type 1) refl (eqb type 2) refl (eqb type 3) refl h))))))))
       where
         delayed : ℕ → Prog (Way S.Header)
         delayed type = onward (S.field 16) (λ delay. onward (S.shall (eqb type 1 || eqb type 2 || eqb type 3)) (λ z. directions type))
 
-        Fits : ℕ → ℕ → Type 0
-        Fits e type = Agree (Headed p) s e (directions type) (plain (ours type))
+        typed : ℕ → ℕ → Prog P.PictureHeader
+        typed t type = bind (bits 16) (λ d. ours t d type)
 
-        by-type : (type e : ℕ) (x : Bool) → eqb type 1 ≡ x → (y : Bool) → eqb type 2 ≡ y → (z : Bool) → eqb type 3 ≡ z → (x || y || z) ≡ true → Fits e type
-        by-type type e true p1 y p2 z p3 h = subst (Fits e) (sym (eqb-true type 1 p1)) (i-header e)
-        by-type type e false p1 true p2 z p3 h = subst (Fits e) (sym (eqb-true type 2 p2)) (p-header e)
-        by-type type e false p1 false p2 true p3 h = subst (Fits e) (sym (eqb-true type 3 p3)) (b-header e)
-        by-type type e false p1 false p2 false p3 h = absurd (false≢true h)
+        Fits : ℕ → ℕ → ℕ → ℕ → Type 0
+        Fits t d e type = Agree (Headed p) s e (directions type) (plain (ours t d type))
+
+        by-type : (t d type e : ℕ) (x : Bool) → eqb type 1 ≡ x → (y : Bool) → eqb type 2 ≡ y → (z : Bool) → eqb type 3 ≡ z → (x || y || z) ≡ true
+            → Fits t d e type
+        by-type t d type e true p1 y p2 z p3 h = subst (Fits t d e) (sym (eqb-true type 1 p1)) (i-header t d e)
+        by-type t d type e false p1 true p2 z p3 h = subst (Fits t d e) (sym (eqb-true type 2 p2)) (p-header t d e)
+        by-type t d type e false p1 false p2 true p3 h = subst (Fits t d e) (sym (eqb-true type 3 p3)) (b-header t d e)
+        by-type t d type e false p1 false p2 false p3 h = absurd (false≢true h)

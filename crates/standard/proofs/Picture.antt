@@ -86,17 +86,16 @@ module _ (rule : Rule) (s : List ℕ) (long : length s ≤ longestStream) (z : S
   unfolding S.picture P.picture
   picture-agrees y df db a b none =
       let p = y .picture in
-      let K : Bool → P.Headed → Prog (Way P.Frame) = λ t h. cond t (P.coded z m (P.inPicture (h .picture) y)) (give (P.inPicture (h .picture) y)) in
-      let K′ : P.Headed → Prog (Way P.Frame) = λ h. K (h .decoded) h in
-      a-same (run-plain (P.pictureHeader p) K′ s a ∙ sym (run-bind (P.pictureHeader p) K′ s a)) (
-      a-onward _ _ (header-agrees s p df db b a) (λ h x e r.
-      let q = x .picture in
-      let their : ℕ → Stores → Prog (Way S.Decoded) = λ type t.
-      theirs (h .forward) (h .backward) type (S.references type t) (S.turned type t) (y .store) in
-      a-same (ap (λ (t : Bool). run (K t x) s e) (sym (r .decoded))) (
-      subst (λ (type : ℕ). Agree Result s e (their type (p .stores)) (P.coded z m (P.inPicture q y))) (r .type) (
-      subst (λ (t : Stores). Agree Result s e (their (q .«picture_type») t) (P.coded z m (P.inPicture q y))) (r .stores) (
-      coded-agrees (h .forward) (h .backward) (P.inPicture q y) e (r .begun) none)))))
+      let x : P.PictureHeader → P.Frame = λ h. P.inPicture (P.headed h p) y in
+      let K : Bool → P.PictureHeader → Prog (Way P.Frame) = λ t h. cond t (P.coded z m (x h)) (give (x h)) in
+      let K′ : P.PictureHeader → Prog (Way P.Frame) = λ h. K (P.isDecoded h) h in
+      a-same (run-plain P.pictureHeader K′ s a ∙ sym (run-bind P.pictureHeader K′ s a)) (
+      a-onward _ _ (header-agrees s p df db b a) (λ h k e r.
+      let their : ℕ → Prog (Way S.Decoded) = λ type.
+      theirs (h .forward) (h .backward) type (S.references type (p .stores)) (S.turned type (p .stores)) (y .store) in
+      a-same (ap (λ (t : Bool). run (K t k) s e) (sym (r .decoded))) (
+      subst (λ (type : ℕ). Agree Result s e (their type) (P.coded z m (x k))) (r .type) (
+      coded-agrees (h .forward) (h .backward) (x k) e (r .begun) none))))
 
   -- so a picture that conforms never ends with 8 or 9 (RULES Q8, Q9)
   pub never-leaves : (y : P.Frame) (df db : S.Direction) (a : ℕ) → Begun df db (y .picture .slice) → y .«block_data» ≡ freshBlock

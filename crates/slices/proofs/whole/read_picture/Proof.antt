@@ -1,3 +1,4 @@
+use mathlib.Core.Path.{sym, _∙_}
 use mathlib.Core.List.{List}
 use Prim.Native.Nat.{ℕ}
 use denote.Ref.{now}
@@ -8,7 +9,7 @@ use Rattle.picture.specs.declared.state.Sizes.{Sizes}
 use Rattle.picture.specs.Possible.{PossiblePicture}
 use Rattle.picture.specs.Pictures.{contextOf, picture}
 use Rattle.picture.specs.Views.{Held}
-use Rattle.picture.proofs.Syntax.{header-gives}
+use Rattle.picture.proofs.Syntax.{header-fits, headed-possible}
 use borrow.Author.Needs.{needs}
 use Rattle.slices.proofs.whole.read_picture.Statement.{statement}
 use Rattle.slices.proofs.whole.read_picture.Tie as tie
@@ -39,12 +40,12 @@ start h = h .before .before .before
 
 read-coded-requires : tie.Need-read-coded-requires
 read-coded-requires c κs =
-    let w = c .before .before .before in
+    let w = c .before .before .before .before in
     let h = header w in
     let s = start h in
     let a = s .args in
     let r = h .read-picture-header .ensures in
-    let k = given-by (header-gives (s .pre .1 .0)) (r .runs) in
+    let k = headed-possible (s .pre .1 .0) (given-by header-fits (r .runs)) in
     rw (w .with-header .ensures) (r .inside, (k, (s .pre .1 .1 .0, held-as (a .p) (a .sizes) (s .pre .1 .1 .1) k)))
 
 returns : tie.Need-returns
@@ -52,28 +53,28 @@ unfolding picture
 returns c =
     let d = c .before .before in
     let t = d .before .before .before in
-    let w = t .before in
+    let w = t .before .before in
     let h = header w in
     let r = d .read-coded .ensures in
     record {
       runs =
           r-call _ (h .read-picture-header .ensures .runs)
-          (r-yes _ (t .if1 .taken) (rw (w .with-header .ensures) at (r .runs)));
+          (r-yes _ (sym (t .before .is-decoded .ensures) ∙ t .if1 .taken) (rw (w .with-header .ensures) at (r .runs)));
       inside = r .inside;
     }
 
 returns-2 : tie.Need-returns-2
 unfolding picture
 returns-2 c =
-    let w = c .before in
+    let w = c .before .before in
     let h = header w in
     let r = h .read-picture-header .ensures in
     record {
-      runs = rw (w .with-header .ensures) (r-call _ (r .runs) (r-no _ (c .if1 .left) r-done));
+      runs = rw (w .with-header .ensures) (r-call _ (r .runs) (r-no _ (sym (c .before .is-decoded .ensures) ∙ c .if1 .left) r-done));
       inside = r .inside;
     }
 
 pub read-picture-spec : {M : Type 1} → statement M
 read-picture-spec =
     tie.close
-    (tie.spec (λ c κs. search needs) (λ c κs. search needs) read-coded-requires (λ c. search needs) returns returns-2)
+    (tie.spec (λ c κs. search needs) (λ c κs. search needs) (λ c κs. search needs) read-coded-requires (λ c. search needs) returns returns-2)
