@@ -142,7 +142,7 @@ fn main() {
         measure(name, &read(name), rounds);
     }
     for (w, h) in [(720, 480), (1440, 960), (97, 61)] {
-        for name in &words[1..3] {
+        for name in &words[1..4] {
             convert(name, &read(name), 4 * rounds, w, h);
         }
     }
