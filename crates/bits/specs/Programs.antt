@@ -53,7 +53,7 @@ infixl 1 _>>_
 abbrev pub _>>_ : {A B : Type 0} → Prog A → Prog B → Prog B
 p >> q = bind p (λ x. q)
 
-infix 2 if_then_else_
+infixr 2 if_then_else_
 abbrev pub if_then_else_ : {A : Type 0} → Bool → A → A → A
 if t then x else y = cond t x y
 

@@ -24,9 +24,9 @@ byTopBit s d = cond (eqb (d / 2 ^ (s - 1) % 2) 1) (pos d) (pos (d + 1) -ℤ pos 
 unfoldable pub dcDifference : Bool → Prog ℤ
 dcDifference luminance = do
   s ← dcSize luminance
-  if eqb s 0 then done (pos 0) else (do
+  if eqb s 0 then done (pos 0) else do
     d ← bits s
-    done (added s d))
+    done (added s d)
 
 -- RULES Q8
 abbrev pub dcInside : ℤ → Bool

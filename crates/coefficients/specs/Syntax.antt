@@ -63,9 +63,7 @@ coded difference p = record { difference = difference; pairs = p .pairs; end = p
 unfoldable pub intraCoded : Bool → ℤ → Prog Coded
 intraCoded luminance predictor = do
   difference ← dcDifference luminance
-  if dcInside (predictor +ℤ difference) then (do
-    p ← pairs 1
-    done (coded difference p))
+  if dcInside (predictor +ℤ difference) then (do p ← pairs 1; done (coded difference p))
       else done (coded difference (ended [] Outside))
 
 -- RULES 3.4

@@ -25,7 +25,7 @@ area x a = record { answer = x; area = a }
 unfoldable pub converted : Decoder → List ℕ → ℕ → List ℕ → ℕ → ℕ → Area
 converted d l k a w h =
     if not (possible d) then area (Refused 2) a
-    else (if not (leb (storeBytes d) (length l)) then area (Refused 6) a
-    else (if not (d .sequence .«has_sequence_header» && leb k 2) then area (Refused 10) a
-    else (if not (fits w h a) then area (Refused 11) a
-    else area Written (Argb.scaled (pictureIn (d .sequence) l k) w h a))))
+    else if not (leb (storeBytes d) (length l)) then area (Refused 6) a
+    else if not (d .sequence .«has_sequence_header» && leb k 2) then area (Refused 10) a
+    else if not (fits w h a) then area (Refused 11) a
+    else area Written (Argb.scaled (pictureIn (d .sequence) l k) w h a)

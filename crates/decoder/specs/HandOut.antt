@@ -37,6 +37,6 @@ goOn s d l (passed x) = ended d x (pictures s (x .sequence .sizes) (x .sequence 
 unfoldable pub handOut : Decoder → List ℕ → List ℕ → Left Outcome
 handOut d s l =
     if not (leb (length s) longestStream) then left (Refused 1) d l
-    else (if not (possibleWith s d) then left (Refused 2) d l
-    else (if not (eqb (d .stop) 0) then left (Refused (d .stop)) d l
-    else goOn s d l (askFirst s d l)))
+    else if not (possibleWith s d) then left (Refused 2) d l
+    else if not (eqb (d .stop) 0) then left (Refused (d .stop)) d l
+    else goOn s d l (askFirst s d l)

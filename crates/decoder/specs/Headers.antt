@@ -74,8 +74,8 @@ unfoldable pub askHeader : List ℕ → Decoder → Asked
 askHeader s d =
     let x = findSequence s d in
     if eqZ (startCode x) (negsuc 0) then refused 3 x
-    else (if not (has s (place x) 1088) then refused 4 x
-    else askSize s x)
+    else if not (has s (place x) 1088) then refused 4 x
+    else askSize s x
 
 -- RULES Q6: of the record passed in, d, nothing is changed
 unfoldable pub askStore : Decoder → List ℕ → Asked → Asked

@@ -21,8 +21,8 @@ pub record Right : Type 0 where
 unfoldable pub right : ℕ → ℤ → ℤ → Right
 right f little complement =
     if eqZ little (pos 0) then record { little = little; big = pos 0 }
-    else (if ltZ (pos 0) little then record { little = little -ℤ complement; big = little -ℤ complement -ℤ pos (32 * f) }
-    else record { little = little +ℤ complement; big = little +ℤ complement +ℤ pos (32 * f) })
+    else if ltZ (pos 0) little then record { little = little -ℤ complement; big = little -ℤ complement -ℤ pos (32 * f) }
+    else record { little = little +ℤ complement; big = little +ℤ complement +ℤ pos (32 * f) }
 
 -- recon_right_for
 unfoldable pub recon : ℕ → ℤ → Right → ℤ

@@ -11,9 +11,9 @@ use Rattle.motion.specs.Displacement.{displace, corrected}
 unfoldable pub displacement : ℕ → Prog ℤ
 displacement r = do
   m ← motion
-  if eqZ m (pos 0) || eqb r 0 then done m else (do
+  if eqZ m (pos 0) || eqb r 0 then done m else do
     R ← bits r
-    done (displace (2 ^ r) m R))
+    done (displace (2 ^ r) m R)
 
 -- a vector step
 unfoldable pub motionVector : ℕ → ℤ → Prog ℤ

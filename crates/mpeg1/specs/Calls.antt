@@ -73,8 +73,8 @@ handedOut y x k t = elim (y .answer) [
 unfoldable pub decodesIn : List ℕ → List ℕ → Memory → List ℕ → Float → Shows
 decodesIn s l x k t =
     if not (leb (length s) longestStream) then shows (kept 1 l x) k t
-    else (if not (isRecord x && leb pictureCount (length k)) then shows (kept 2 l x) k t
-    else handedOut (handOut (recordOf x) s l) x k t)
+    else if not (isRecord x && leb pictureCount (length k)) then shows (kept 2 l x) k t
+    else handedOut (handOut (recordOf x) s l) x k t
 
 -- a conversion reads no clock, so a host lends none: the record has one of 0.0
 abbrev pub still : List Float
@@ -95,4 +95,4 @@ converts answer area = record { answer = answer; area = area }
 unfoldable pub convertsIn : List ℕ → Memory → ℕ → List ℕ → ℕ → ℕ → Converts
 convertsIn l x k a w h =
     if not (isRecord x) then converts 2 a
-    else (let y = Conversion.converted (recordOf x) l k a w h in converts (conversionNumber (y .answer)) (y .area))
+    else let y = Conversion.converted (recordOf x) l k a w h in converts (conversionNumber (y .answer)) (y .area)

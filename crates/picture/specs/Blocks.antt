@@ -32,7 +32,7 @@ unfoldable pub results : Quantiser → Filled → ℕ → ℕ → List ℕ → L
 results q f di dw d =
     let first = dcOnly (getD (f .coefficients) 0 (pos 0)) in
     if firstOnly q f then (if q .intra then setConst d di dw (clamp255 first) else addConst d di dw first)
-    else (if q .intra then overwrite d di dw (idct (f .coefficients)) else addBlock d di dw (idct (f .coefficients)))
+    else if q .intra then overwrite d di dw (idct (f .coefficients)) else addBlock d di dw (idct (f .coefficients))
 
 -- RULES 6.12, 6.13: the store with the results of a block that was read whole
 unfoldable pub written : Context → Quantiser → ℕ → ℕ → Filled → List ℕ → List ℕ

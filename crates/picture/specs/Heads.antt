@@ -19,15 +19,11 @@ isIntra t = flag t 1
 
 -- RULES 7.13: the macroblock type, by the table of the picture's type
 unfoldable pub macroblockType : ℕ → Prog ℕ
-macroblockType type = if eqb type 1 then macroblockTypeIntra else (if eqb type 2 then macroblockTypePredictive else macroblockTypeB)
+macroblockType type = if eqb type 1 then macroblockTypeIntra else if eqb type 2 then macroblockTypePredictive else macroblockTypeB
 
 -- RULES 7.13: 5 bits of scale with flag 16
 unfoldable pub scale : ℕ → Slice → Prog Slice
-scale t s =
-    if flag t 16 then (do
-      q ← bits 5
-      done (scaleAs q s))
-    else done s
+scale t s = if flag t 16 then (do q ← bits 5; done (scaleAs q s)) else done s
 
 -- RULES 5.7: a vector, the horizontal component first
 unfoldable pub vector : Motion → Prog Motion
@@ -38,7 +34,7 @@ vector m = do
 
 -- RULES 7.15: read with its flag set; without it the forward vector of a P picture goes back to 0
 unfoldable pub forward : ℕ → Motion → Prog Motion
-forward type m = if m .«is_set» then vector m else (if eqb type 2 then done (zeroed m) else done m)
+forward type m = if m .«is_set» then vector m else if eqb type 2 then done (zeroed m) else done m
 
 -- RULES 7.15
 unfoldable pub backward : Motion → Prog Motion
@@ -67,5 +63,4 @@ head type t s = do
 
 -- RULES 7.16: read with flag 2; else 63 for an intra macroblock, and 0 for any other
 unfoldable pub pattern : ℕ → Prog ℕ
-pattern t =
-    if flag t 2 then codeBlockPattern else (if isIntra t then done 63 else done 0)
+pattern t = if flag t 2 then codeBlockPattern else if isIntra t then done 63 else done 0

@@ -10,7 +10,7 @@ use Rattle.codes.specs.Codes.{macroblockAddressIncrement}
 unfoldable pub incrementTurn : ℕ → Prog (Turn ℕ ℕ)
 incrementTurn sum = do
   c ← macroblockAddressIncrement
-  if eqb c 34 && eqb sum 0 then done (again 0) else (if eqb c 35 then done (again (sum + 33)) else done (stop (sum + c)))
+  if eqb c 34 && eqb sum 0 then done (again 0) else if eqb c 35 then done (again (sum + 33)) else done (stop (sum + c))
 
 -- RULES 7.7: the sum of the codes
 unfoldable pub increment : Prog ℕ

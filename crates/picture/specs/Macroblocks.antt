@@ -35,8 +35,8 @@ unfoldable pub advance : Context → ℕ → World → Way World
 advance g n w =
     let s = skipReset g (w .slice) in
     if ltb n 2 then on (further 1 w)
-    else (also (predictSkipped g s (natAbs (w .slice .«macroblock_address» +ℤ pos 1)) (n - 1) (w .store)) λ l.
-    on (further n (world s (w .«block_data») l)))
+    else also (predictSkipped g s (natAbs (w .slice .«macroblock_address» +ℤ pos 1)) (n - 1) (w .store)) λ l.
+    on (further n (world s (w .«block_data») l))
 
 -- RULES 7.14: prediction, unless intra
 unfoldable pub predictUnlessIntra : Context → ℕ → Slice → List ℕ → Way (List ℕ)
@@ -59,9 +59,9 @@ firstOf g m n w = if nowhere g (further n w) then give (further n w) else body g
 unfoldable pub laterOf : Context → Matrices → ℕ → World → Prog (Way World)
 laterOf g m n w =
     if leZ (pos (g .sizes .«mb_size»)) (w .slice .«macroblock_address» +ℤ pos n) then give w
-    else (do
+    else do
       x ← step (advance g n w)
-      body g m x)
+      body g m x
 
 -- RULES 7.7 to 7.11: the increment, and the macroblock to which it leads; `first` says that it is the first of its slice
 unfoldable pub macroblock : Context → Matrices → Bool → World → Prog (Way World)

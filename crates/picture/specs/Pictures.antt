@@ -50,10 +50,7 @@ isZero (present full f) = eqb f 0
 
 -- RULES 7.1: one bit and three, if the header has them
 unfoldable pub direction : Bool → Prog Direction
-direction here = if here then (do
-  full ← bits 1
-  f ← bits 3
-  done (present (not (eqb full 0)) f)) else done absent
+direction here = if here then (do full ← bits 1; f ← bits 3; done (present (not (eqb full 0)) f)) else done absent
 
 -- RULES 7.1, 8.4: a P or B header has the forward direction, and a B header then the backward one, unless the forward f code is 0. The Rust passes the first
 -- and the last of the three numbers over: a read in the place of a skip ends at the same place on a cut stream, too, as both are refused together and stay
@@ -115,10 +112,8 @@ slicesTurn g m x = do
   c ← nextStartCode
   let p = startCodeAs c (x .frame .picture)
   let f = inPicture p (x .frame)
-  if isSlice c then (do
-    w ← slice g m (natAbs c) (world (p .slice) (f .«block_data») (f .store))
-    pastSlice g p w)
-      else (if isExtra c && not (x .begun) then done (again (slicesOf false f)) else done (stop (on f)))
+  if isSlice c then bind (slice g m (natAbs c) (world (p .slice) (f .«block_data») (f .store))) (pastSlice g p)
+      else if isExtra c && not (x .begun) then done (again (slicesOf false f)) else done (stop (on f))
 
 -- RULES 7.3, 7.4: the slices of a picture, none of them read so far
 unfoldable pub slices : Context → Matrices → Frame → Prog (Way Frame)
@@ -136,9 +131,8 @@ unfoldable pub coded : Sizes → Matrices → Frame → Prog (Way Frame)
 coded z m f =
     let p = f .picture in
     if eqb (p .«picture_type») 3 then slices (contextOf z p) m f
-    else (
-    let q = storesAs (before (p .stores)) p in
-    onward (slices (contextOf z q) m (inPicture q f)) λ f₁. give (inPicture (storesAs (after (p .stores)) (f₁ .picture)) f₁))
+    else let q = storesAs (before (p .stores)) p in
+    onward (slices (contextOf z q) m (inPicture q f)) λ f₁. give (inPicture (storesAs (after (p .stores)) (f₁ .picture)) f₁)
 
 -- a picture; one that is not decoded ends behind its header (RULES 8.4)
 unfoldable pub picture : Sizes → Matrices → Frame → Prog (Way Frame)

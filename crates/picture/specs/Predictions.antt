@@ -33,8 +33,8 @@ predictBoth g address s l =
 unfoldable pub predict : Context → ℕ → Slice → List ℕ → Way (List ℕ)
 predict g address s l =
     if eqb (g .«picture_type») 3 && s .«motion_forward» .«is_set» then predictBoth g address s l
-    else (if eqb (g .«picture_type») 3 then predictFrom g address (g .stores .bwd) (s .«motion_backward») false l
-    else predictFrom g address (g .stores .fwd) (s .«motion_forward») false l)
+    else if eqb (g .«picture_type») 3 then predictFrom g address (g .stores .bwd) (s .«motion_backward») false l
+    else predictFrom g address (g .stores .fwd) (s .«motion_forward») false l
 
 -- RULES 7.11: n skipped macroblocks, the first at this address
 unfoldable pub predictSkipped : Context → Slice → ℕ → ℕ → List ℕ → Way (List ℕ)

@@ -18,9 +18,9 @@ use Rattle.picture.specs.Macroblocks.{macroblock}
 unfoldable pub extraTurn : Unit {0} → Prog (Turn (Unit {0}) (Unit {0}))
 extraTurn x = do
   b ← bits 1
-  if eqb b 0 then done (stop tt) else (do
+  if eqb b 0 then done (stop tt) else do
     skips 8
-    done (again tt))
+    done (again tt)
 
 -- RULES 7.5 (11172-2, 2.4.2.6, extra_information_slice): until the bit is 0
 unfoldable pub extra : Prog (Unit {0})
@@ -42,9 +42,10 @@ slicing first w = record { first = first; world = w }
 unfoldable pub pastMacroblock : Context → Way World → Prog (Turn Slicing (Way World))
 pastMacroblock g (out n l) = done (stop (out n l))
 pastMacroblock g (on w) =
-    if isLast g w then done (stop (on w)) else (do
+    if isLast g w then done (stop (on w))
+    else do
       more ← nonZero 23
-      if more then done (again (slicing false w)) else done (stop (on w)))
+      if more then done (again (slicing false w)) else done (stop (on w))
 
 -- RULES 7.6: one macroblock, and whether another follows
 unfoldable pub sliceTurn : Context → Matrices → Slicing → Prog (Turn Slicing (Way World))

@@ -49,8 +49,8 @@ handed k x = result (Picture (told k (counted x))) (counted x)
 unfoldable pub shown : State → Turn State Result
 shown x =
     if eqb (x .picture .«picture_type») 3 then stop (handed (x .picture .stores .cur) x)
-    else (if held x then stop (handed (x .picture .stores .fwd) x)
-    else again (heldAs true x))
+    else if held x then stop (handed (x .picture .stores .fwd) x)
+    else again (heldAs true x)
 
 -- RULES 8.8: the last type is I or P
 abbrev pub isReference : State → Bool

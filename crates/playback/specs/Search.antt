@@ -13,7 +13,7 @@ use Rattle.playback.specs.State.{place, startCode, searchedAs}
 unfoldable pub nextCode : ℤ → List ℕ → State → State
 nextCode c s x =
     if eqZ (startCode x) c then x
-    else (let o = run (findStartCode c) s (place x) in searchedAs (o .value) (o .at) x)
+    else let o = run (findStartCode c) s (place x) in searchedAs (o .value) (o .at) x
 
 -- RULES 8.2: the next picture
 abbrev pub nextPicture : List ℕ → State → State

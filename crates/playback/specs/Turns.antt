@@ -61,7 +61,7 @@ decoded s z m x = pastPicture (x .state) (pictureRun s z m x)
 unfoldable pub searched : List ℕ → Sizes → Matrices → TurnState → Turn TurnState Ended
 searched s z m x =
     if eqZ (startCode (x .state)) (negsuc 0) then among (x .«block_data») (x .store) (stop (flushed s (x .state)))
-    else (if isFollowed s (place (x .state)) then decoded s z m x else stop (gave (Refused 7) x))
+    else if isFollowed s (place (x .state)) then decoded s z m x else stop (gave (Refused 7) x)
 
 -- the search, of a turn
 abbrev pub atPicture : List ℕ → TurnState → TurnState

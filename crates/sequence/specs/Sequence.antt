@@ -46,7 +46,7 @@ isPassed m s f =
 abbrev pub followTurn : Matrices → List ℕ → ℕ → Turn ℕ (Way Found)
 followTurn m s a =
     let f = found s a in
-    if eqZ (f .code) (pos 0) || eqZ (f .code) (pos 0xb7) then stop (on f) else (if isPassed m s f then again (f .at) else stop forbidden)
+    if eqZ (f .code) (pos 0) || eqZ (f .code) (pos 0xb7) then stop (on f) else if isPassed m s f then again (f .at) else stop forbidden
 
 -- on to the next picture_start_code or sequence_end_code
 unfoldable pub following : Matrices → List ℕ → ℕ → Way Found
@@ -96,6 +96,5 @@ pictures r z m s zero x a = forbidden
 pictures r z m s (suc n) x a =
     also (following m s a) λ f.
     if eqZ (f .code) (pos 0xb7) then (if x .held then on [] else forbidden)
-    else (
-    let o = run (picture r z m (x .stores) (x .forward) (x .backward) (x .pels)) s (f .at) in
-    also (o .value) λ d. also (next x d) λ y. also (pictures r z m s n y (o .at)) (before s (f .at) d))
+    else let o = run (picture r z m (x .stores) (x .forward) (x .backward) (x .pels)) s (f .at) in
+    also (o .value) λ d. also (next x d) λ y. also (pictures r z m s n y (o .at)) (before s (f .at) d)

@@ -65,10 +65,10 @@ isMore g v = ltZ (v .«previous_macroblock_address» +ℤ pos 1) (pos (g .contex
 -- 2.4.2.6: do macroblock() while (nextbits() != '000 0000 0000 0000 0000 0000')
 unfoldable pub pastMacroblock : Coding → Way Variables → Prog (Turn Slicing (Way Variables))
 pastMacroblock g (out n l) = done (stop (out n l))
-pastMacroblock g (on v) = look 23 (λ h x.
+pastMacroblock g (on v) = look 23 λ h x.
     if not h then done (stop forbidden)
-    else (if eqb x 0 then done (stop (on v))
-    else (if isMore g v then done (again (record { first = false; variables = v })) else done (stop forbidden))))
+    else if eqb x 0 then done (stop (on v))
+    else if isMore g v then done (again (record { first = false; variables = v })) else done (stop forbidden)
 
 unfoldable pub sliceTurn : Coding → Slicing → Prog (Turn Slicing (Way Variables))
 sliceTurn g x = bind (macroblock g (x .first) (x .variables)) (pastMacroblock g)
@@ -132,9 +132,9 @@ pastSlice g (on v) = if isMore g v then done (again (record { begun = true; pels
 
 -- 2.4.2.5: next_start_code(), then a slice (01 to AF); before the first one extension data (B5) and user data (B2), which end at the next start code
 unfoldable pub slicesTurn : Coding → Slices → Prog (Turn Slices (Way (List ℕ)))
-slicesTurn g x = bind nextStartCode (λ c.
+slicesTurn g x = bind nextStartCode λ c.
     if leZ (pos 1) c && leZ c (pos 0xaf) then bind (slice g (natAbs c) (x .pels)) (pastSlice g)
-    else (if (eqZ c (pos 0xb2) || eqZ c (pos 0xb5)) && not (x .begun) then done (again (record { begun = false; pels = x .pels })) else done (stop forbidden)))
+    else if (eqZ c (pos 0xb2) || eqZ c (pos 0xb5)) && not (x .begun) then done (again (record { begun = false; pels = x .pels })) else done (stop forbidden)
 
 unfoldable pub slices : Coding → List ℕ → Prog (Way (List ℕ))
 slices g l = loop many (slicesTurn g) forbidden (record { begun = false; pels = l })

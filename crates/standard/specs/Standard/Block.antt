@@ -32,13 +32,13 @@ coefficients g intra scale f p = elim (p .end) [ Whole ↦ reconstructed g intra
 unfoldable pub dctDc : ℕ → Prog (Way ℤ)
 dctDc i = do
   size ← plain (dcSize (ltb i 4))
-  if eqb size 0 then give (pos 0) else (do
+  if eqb size 0 then give (pos 0) else do
     differential ← plain (bits size)
-    give (dctZZ0 size differential))
+    give (dctZZ0 size differential)
 
 -- the past of block i becomes x: that of Y for 0 to 3, of Cb for 4, of Cr for 5
 abbrev pub pastAs : ℕ → ℤ → Pasts → Pasts
-pastAs i x p = if ltb i 4 then pasts x (p .cb) (p .cr) else (if eqb i 4 then pasts (p .y) x (p .cr) else pasts (p .y) (p .cb) x)
+pastAs i x p = if ltb i 4 then pasts x (p .cb) (p .cr) else if eqb i 4 then pasts (p .y) x (p .cr) else pasts (p .y) (p .cb) x
 
 -- 2.4.4.1: macroblock_address - past_intra_address > 1
 abbrev pub far : ℤ → Variables → Bool
@@ -46,7 +46,7 @@ far address v = ltZ (pos 1) (address -ℤ v .«past_intra_address»)
 
 -- 2.4.4.1: what is added to dct_zz[0] * 8: the past of block i, but 128 * 8 for block 0, for Cb and for Cr where the last intra macroblock is far
 abbrev pub dcPredictor : Bool → ℕ → Pasts → ℤ
-dcPredictor isFar i p = if (eqb i 0 || ltb 3 i) && isFar then pos 1024 else (if ltb i 4 then p .y else (if eqb i 4 then p .cb else p .cr))
+dcPredictor isFar i p = if (eqb i 0 || ltb 3 i) && isFar then pos 1024 else if ltb i 4 then p .y else if eqb i 4 then p .cb else p .cr
 
 -- pasts and pels behind some blocks
 pub record Blocks : Type 0 where

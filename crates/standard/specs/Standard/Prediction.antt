@@ -31,7 +31,7 @@ vector d prev = do
 -- 2.4.4.2: without data the vector is 0 in a P picture. 2.4.4.3: in a B picture it is the one before
 unfoldable pub forVector : Coding → ℕ → Vector → Prog (Way Vector)
 forVector g t prev =
-    if «macroblock_motion_forward» t then vector (g .forward) prev else (if eqb (g .context .«picture_type») 2 then give zero-vector else give prev)
+    if «macroblock_motion_forward» t then vector (g .forward) prev else if eqb (g .context .«picture_type») 2 then give zero-vector else give prev
 
 unfoldable pub backVector : Coding → ℕ → Vector → Prog (Way Vector)
 backVector g t prev = if «macroblock_motion_backward» t then vector (g .backward) prev else give prev
@@ -77,9 +77,9 @@ predicted g t address for back l =
     let forward = predictedFrom g address (g .context .stores .fwd) (g .forward) for false l in
     let backward = predictedFrom g address (g .context .stores .bwd) (g .backward) back in
     if not (eqb (g .context .«picture_type») 3) then forward
-    else (if «macroblock_motion_forward» t && «macroblock_motion_backward» t then also forward (backward true)
-    else (if «macroblock_motion_forward» t then forward
-    else (if «macroblock_motion_backward» t then backward false l else forbidden)))
+    else if «macroblock_motion_forward» t && «macroblock_motion_backward» t then also forward (backward true)
+    else if «macroblock_motion_forward» t then forward
+    else if «macroblock_motion_backward» t then backward false l else forbidden
 
 -- 2.4.4.4: n macroblocks from this address on, all of the type t and with these vectors
 unfoldable pub skippedFrom : Coding → ℕ → Vector → Vector → ℕ → ℕ → List ℕ → Way (List ℕ)
@@ -93,9 +93,9 @@ skipped g first n v =
     let from = natAbs (v .«previous_macroblock_address» +ℤ pos 1) in
     let t = v .«macroblock_type» in
     if first || ltb n 2 then on (v .pels)
-    else (if eqb (g .context .«picture_type») 2 then skippedFrom g 0 zero-vector zero-vector from (n - 1) (v .pels)
-    else (if eqb (g .context .«picture_type») 3 && not («macroblock_intra» t) then skippedFrom g t (v .forPrev) (v .backPrev) from (n - 1) (v .pels)
-    else forbidden))
+    else if eqb (g .context .«picture_type») 2 then skippedFrom g 0 zero-vector zero-vector from (n - 1) (v .pels)
+    else if eqb (g .context .«picture_type») 3 && not («macroblock_intra» t) then skippedFrom g t (v .forPrev) (v .backPrev) from (n - 1) (v .pels)
+    else forbidden
 
 -- 2.4.4.4: macroblock_type of the last macroblock decoded: in a P picture a skipped one has no flag
 abbrev pub lastType : Coding → Bool → ℕ → Variables → ℕ

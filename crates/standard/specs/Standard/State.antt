@@ -74,5 +74,5 @@ rowOf (c ∷ cs) t = eqb (c .value) t || rowOf cs t
 unfoldable pub inTable : ℕ → ℕ → Bool
 inTable type t =
     if eqb type 1 then rowOf macroblockTypeIntraCodes t
-    else (if eqb type 2 then rowOf macroblockTypePredictiveCodes t
-    else (if eqb type 3 then rowOf macroblockTypeBCodes t else false))
+    else if eqb type 2 then rowOf macroblockTypePredictiveCodes t
+    else if eqb type 3 then rowOf macroblockTypeBCodes t else false
