@@ -13,7 +13,7 @@ use borrow.Author.Tests.{le-leb}
 use Rattle.laws.specs.Turns.{Turn, again, stop}
 use Rattle.laws.proofs.Tests.{by-case}
 use Rattle.bits.specs.Bits.{Found, has, got, found, boundary}
-use Rattle.bits.specs.Programs.{Prog, Out, done, run, bind, bits, reads, nextStartCode, turn, loop}
+use Rattle.bits.specs.Programs.{Prog, Out, done, run, bind, bits, reads, nextStartCode, forBelow, turn, loop}
 use Rattle.bits.specs.Runs.{Runs, placeOf}
 use Rattle.bits.specs.declared.reader.Reader.{Reader}
 use Rattle.bits.proofs.Bits.{bits-lt}
@@ -79,6 +79,12 @@ module _ {s : List ℕ} where
   pub g-if : {A : Type 0} {P : A → Type 0} (b : Bool) {p q : Prog A} → (b ≡ true → Gives s P p) → (b ≡ false → Gives s P q)
       → Gives s P (cond b p q)
   g-if {P = P} b g h = by-case (Gives s P) b g h
+
+  pub g-for : {A : Type 0} {P : A → Type 0} (n : ℕ) (f : ℕ → A → Prog A) → ((i : ℕ) → i < n → (x : A) → P x → Gives s P (f i x)) → {x : A} → P x
+      → Gives s P (forBelow n f x)
+  unfolding forBelow
+  g-for zero f keeps h = g-done h
+  g-for (suc n) f keeps h = g-bind (f n) (g-for n f (λ i k. keeps i (omega arith)) h) (keeps n (omega arith))
 
   pub g-loop : {S A : Type 0} {P : A → Type 0} (I : S → Type 0) (n : ℕ) (f : S → Prog (Turn S A)) (d : A)
       → ((x : S) → I x → Gives s (Turned I P) (f x)) → P d → (x : S) → I x → Gives s P (loop n f d x)

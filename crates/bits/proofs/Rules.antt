@@ -13,7 +13,7 @@ use lib.Dec.{leb, eqb}
 use Rattle.laws.specs.Turns.{Turn, again, stop}
 use Rattle.bits.specs.Bounds.{longestStream}
 use Rattle.bits.specs.Bits.{Found, bitsAt, has, got, next, found, boundary}
-use Rattle.bits.specs.Programs.{Prog, done, look, Out, run, bind, bits, skips, reads, nonZero, nextStartCode, turn, loop}
+use Rattle.bits.specs.Programs.{Prog, done, look, Out, run, bind, bits, skips, reads, nonZero, nextStartCode, forBelow, turn, loop}
 use Rattle.bits.specs.Programs.{eqZ, findTurn, findStartCode}
 use Rattle.bits.specs.Runs.{RunsAt, Runs, Inside, Reading, placeOf, readerAt, onBy, bitsLeft}
 use Rattle.bits.specs.declared.reader.Reader.{Reader}
@@ -77,6 +77,16 @@ r-yes q h r = rw h r
 pub r-no : {A : Type 0} {s : List ℕ} {from : Reader} {t : Bool} (p : Prog A) {q : Prog A} {v : A} {to : Reader} → t ≡ false → Runs q s from v to
     → Runs (cond t p q) s from v to
 r-no p h r = rw h r
+
+-- a loop that counts up: before its first step, and behind one more
+pub r-for : {A : Type 0} {s : List ℕ} {from : Reader} (f : ℕ → A → Prog A) {x : A} → Runs (forBelow 0 f x) s from x from
+unfolding forBelow
+r-for f = r-done
+
+pub r-for-on : {A : Type 0} {s : List ℕ} {from : Reader} (n : ℕ) (f : ℕ → A → Prog A) (x : A) {y z : A} {mid to : Reader}
+    → Runs (forBelow n f x) s from y mid → Runs (f n y) s mid z to → Runs (forBelow (n + 1) f x) s from z to
+unfolding forBelow
+r-for-on n f x q r = let e : n + 1 ≡ suc n = omega arith in rw e (r-call (f n) q r)
 
 -- the value of a run
 pub r-value : {A : Type 0} {p : Prog A} {s : List ℕ} {from to : Reader} {v : A} → Runs p s from v to → run p s (placeOf from) .value ≡ v

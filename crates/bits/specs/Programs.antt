@@ -77,6 +77,11 @@ nonZero n = if leb n 32 then look n (λ h v. done (h && not (eqb v 0))) else don
 abbrev pub nextStartCode : Prog ℤ
 nextStartCode = start done
 
+-- for (i = 0; i < n; i++): f 0, f 1 .. f (n - 1) in turn, each with what the one before it gives
+unfoldable pub forBelow : {A : Type 0} → ℕ → (ℕ → A → Prog A) → A → Prog A
+forBelow zero f x = done x
+forBelow (suc n) f x = bind (forBelow n f x) (f n)
+
 -- a turn goes on by k, or gives what it stopped with
 abbrev pub turn : {S A : Type 0} → (S → Prog A) → Turn S A → Prog A
 turn k (again x) = k x

@@ -2,33 +2,30 @@
 use mathlib.Core.Path.{_≡_, refl, _∙_}
 use mathlib.Core.Bool.{true, false}
 use mathlib.Core.List.{List}
-use Prim.Native.Nat.{ℕ, suc, _+_, _-_, _^_, _≤_, _<_}
+use Prim.Native.Nat.{ℕ, _+_, _-_, _^_, _≤_, _<_}
 use native.Mathlib.Omega.{arith}
 use lib.IntN.{ℤ}
 use lib.ListN.{length}
 use Rattle.bits.specs.declared.reader.Reader.{Reader}
 use Rattle.bits.specs.Runs.{Runs}
 use Rattle.bits.specs.Programs.{Prog}
-use Rattle.bits.proofs.Rules.{Follows, r-yes, r-no, r-done, f-start, f-end}
+use Rattle.bits.proofs.Rules.{r-yes, r-no, r-done, r-for}
 use Rattle.picture.specs.State.{World, world}
-use Rattle.picture.specs.Ways.{Way, on, onward}
+use Rattle.picture.specs.Ways.{Way, on, leave, forBelow}
 use Rattle.picture.specs.Heads.{flag}
-use Rattle.picture.specs.Blocks.{oneBlock, lastBlocks, blocks}
+use Rattle.picture.specs.Blocks.{oneBlock, patternBlock, blocks}
 use Rattle.picture.specs.declared.state.Slice.{Slice}
 use Rattle.picture.specs.declared.state.Progress.{Progress}
-use Rattle.picture.specs.Views.{matricesIn, patternBlock, Ready, Went}
-use Rattle.picture.proofs.Ways.{f-onward, f-leave, way-out}
+use Rattle.picture.specs.Views.{matricesIn, Ready, Went}
+use Rattle.picture.proofs.Ways.{r-for-onward, r-for-leave, way-out}
 use Rattle.blocks.specs.declared.blocks.CodedBlocks.{CodedBlocks}
 
--- a macroblock's blocks, the last n of them, and the one with this number
+-- a macroblock's blocks, and the one with this number
 abbrev all : CodedBlocks → List ℕ → World → Prog (Way World)
 all c t w = blocks (c .context) (matricesIn t) (c .intra) (c .pattern) w
 
-abbrev last : CodedBlocks → List ℕ → ℕ → World → Prog (Way World)
-last c t n w = lastBlocks (c .context) (matricesIn t) (c .intra) (c .pattern) n w
-
 abbrev numbered : CodedBlocks → List ℕ → ℕ → World → Prog (Way World)
-numbered c t number w = patternBlock (c .context) (matricesIn t) (c .intra) (c .pattern) (2 ^ (5 - number)) number w
+numbered c t number w = patternBlock (c .context) (matricesIn t) (c .intra) (c .pattern) number w
 
 -- a block whose bit is not in the pattern, and one whose bit is
 module _ (c : CodedBlocks) (t : List ℕ) (number : ℕ) (x : Slice) (left : List ℤ) (store : List ℕ) {s : List ℕ} {from : Reader} where
@@ -47,39 +44,30 @@ pub record AtBlock (c : CodedBlocks) (t : List ℕ) (s : List ℕ) (from₀ : Re
   pub few : number ≤ 6
   pub ready : Ready (c .context) s from x left store
   pub long : length store ≡ length (w₀ .store)
-  pub rest : Follows (all c t w₀) s from₀ (last c t (6 - number) (world x left store)) from
+  pub runs : Runs (forBelow number (numbered c t) w₀) s from₀ (on (world x left store)) from
 
 pub at-first : {c : CodedBlocks} {t : List ℕ} {s : List ℕ} {from : Reader} {x : Slice} {left : List ℤ} {store : List ℕ}
     → Ready (c .context) s from x left store → AtBlock c t s from (world x left store) from x left store 0
-unfolding blocks
-at-first k = record { few = omega arith; ready = k; long = refl; rest = f-start }
+at-first {c} {t} k = record { few = omega arith; ready = k; long = refl; runs = r-for (λ i. leave (numbered c t i)) }
 
 module _ {c : CodedBlocks} {t : List ℕ} {s : List ℕ} {from₀ : Reader} {w₀ : World} {from : Reader} {x : Slice} {left : List ℤ}
     {store : List ℕ} {number : ℕ} (i : AtBlock c t s from₀ w₀ from x left store number) where
-  -- the program's next block
-  next : number < 6
-      → Follows (all c t w₀) s from₀ (onward (numbered c t number (world x left store)) (last c t (5 - number))) from
-  unfolding lastBlocks
-  next h =
-      let e : 6 - number ≡ suc (5 - number) = omega arith in
-      let n : 5 - (5 - number) ≡ number = omega arith in
-      rw (e, n) at (i .rest)
-
   module _ (h : number < 6) {r : Progress} {left₁ : List ℤ} {store₁ : List ℕ}
       (w : Went (numbered c t number (world x left store)) (c .context) s from r left₁ store₁) where
     -- a turn that goes on
     pub at-next : r .stop ≡ 0 → length store₁ ≡ length store → AtBlock c t s from₀ w₀ (r .reader) (r .state) left₁ store₁ (number + 1)
     at-next z e =
-        let n : 6 - (number + 1) ≡ 5 - number = omega arith in
-        record { few = omega arith; ready = w .ready; long = e ∙ i .long; rest = rw n (f-onward _ (next h) (rw z at (w .runs))) }
+        record { few = omega arith; ready = w .ready; long = e ∙ i .long; runs = r-for-onward number (numbered c t) w₀ (i .runs) (rw z at (w .runs)) }
 
     -- one that leaves
     pub at-stop : (r .stop ≡ 0 → ⊥) → Went (all c t w₀) (c .context) s from₀ r left₁ store₁
+    unfolding blocks
     at-stop z =
         let e = way-out (world (r .state) left₁ store₁) store₁ z in
-        record { runs = rw e (f-leave _ (next h) (rw e at (w .runs))); ready = w .ready }
+        let o = r-for-onward number (numbered c t) w₀ (i .runs) (rw e at (w .runs)) in
+        record { runs = rw e (r-for-leave (number + 1) (numbered c t) w₀ (5 - number) 6 (omega arith) o); ready = w .ready }
 
   -- and the end
   pub at-end : 6 ≤ number → Runs (all c t w₀) s from₀ (on (world x left store)) from
-  unfolding lastBlocks
-  at-end h = let e : 6 - number ≡ 0 = omega arith in f-end (rw e at (i .rest)) r-done
+  unfolding blocks
+  at-end h = let e : number ≡ 6 = omega (arith, i .few) in rw e at (i .runs)

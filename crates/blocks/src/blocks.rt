@@ -13,8 +13,8 @@ ghost use mathlib.Core.Path.{_≡_};
 ghost use Prim.Native.Nat.{_-_, _^_, _<_};
 ghost use Rattle.codes.specs.Lent.{Lent};
 ghost use Rattle.picture.specs.State.{world};
-ghost use Rattle.picture.specs.Blocks.{predictorOf, predictorAs, quantiserOf, oneBlock, blocks};
-ghost use Rattle.picture.specs.Views.{matricesIn, Ready, Went, patternBlock};
+ghost use Rattle.picture.specs.Blocks.{predictorOf, predictorAs, quantiserOf, oneBlock, patternBlock, blocks};
+ghost use Rattle.picture.specs.Views.{matricesIn, Ready, Went};
 
 // What the blocks of a macroblock have in common: the picture's context, whether they are intra, and the pattern that names those there are.
 pub struct CodedBlocks {
@@ -121,7 +121,7 @@ fn block_of_pattern(
     requires { ⌜ Lent (now tables) ⌝ }
     requires { ⌜ number < 6 ⌝ }
     ensures { λ r. ⌜
-        Went (patternBlock (coded .context) (matricesIn (now (tables .entry))) (coded .intra) (coded .pattern) (2 ^ (5 - number)) number
+        Went (patternBlock (coded .context) (matricesIn (now (tables .entry))) (coded .intra) (coded .pattern) number
         (world state (now (values .entry)) (now (store .entry))))
         (coded .context) (now (s .entry)) reader r (now (values .exit)) (now (store .exit))
         ⌝ }

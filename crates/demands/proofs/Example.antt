@@ -9,7 +9,7 @@ use Rattle.laws.specs.Signed.{clamp255, half0, odd}
 use Rattle.laws.specs.Stores.{storeRow, storeRows}
 use Rattle.laws.specs.Turns.{turns}
 use Rattle.bits.specs.Bits.{bitAt, bitsAt, got, next, codePrefix, codeFrom, found}
-use Rattle.bits.specs.Programs.{run, bind, loop, findTurn, findStartCode}
+use Rattle.bits.specs.Programs.{run, bind, forBelow, loop, findTurn, findStartCode}
 use Rattle.codes.specs.Tables as Tables
 use Rattle.codes.specs.Walk.{walkTurn, walk, vlc}
 use Rattle.codes.specs.Codes as Codes
@@ -32,7 +32,7 @@ use Rattle.picture.specs.Ways.{also, leave, onward, plain}
 use Rattle.picture.specs.Increments.{incrementTurn, increment}
 use Rattle.picture.specs.Predictions.{unlessRefused, predictFrom, predictBoth, predict, predictSkipped}
 use Rattle.picture.specs.Heads.{macroblockType, scale, vector, forward, backward, vectors, head, pattern}
-use Rattle.picture.specs.Blocks.{results, written, blockEnd, oneBlock, lastBlocks, blocks}
+use Rattle.picture.specs.Blocks.{results, written, blockEnd, oneBlock, blocks}
 use Rattle.picture.specs.Macroblocks.{skipReset, advance, predictUnlessIntra, body, firstOf, laterOf, macroblock}
 use Rattle.picture.specs.Slices.{extraTurn, extra, pastMacroblock, sliceTurn, slice}
 use Rattle.picture.specs.Pictures as P
@@ -161,7 +161,7 @@ pub record Pictures : Type 0 where
 
 pub shown-pictures : Pictures
 unfolding clamp255 half0 odd storeRow storeRows turns allBelow ofInt div
-    bitAt bitsAt got next codePrefix codeFrom found run bind loop findTurn findStartCode
+    bitAt bitsAt got next codePrefix codeFrom found run bind forBelow loop findTurn findStartCode
     Tables.macroblockAddressIncrementIndex Tables.macroblockAddressIncrementValue Tables.macroblockTypeIntraIndex Tables.macroblockTypeIntraValue
     Tables.macroblockTypePredictiveIndex Tables.macroblockTypePredictiveValue Tables.macroblockTypeBIndex Tables.macroblockTypeBValue
     Tables.motionIndex Tables.motionValue Tables.dctSizeLuminanceIndex Tables.dctSizeLuminanceValue Tables.dctSizeChrominanceIndex
@@ -174,7 +174,7 @@ unfolding clamp255 half0 odd storeRow storeRows turns allBelow ofInt div
     Syntax.pairTurn Syntax.pairs Syntax.intraCoded Syntax.codedBlock Block.allPlaced Block.reconstructed Block.block Block.leftOver
     butterfly columns rows idct dcOnly sample fetch predicted setConst overwrite
     also leave onward plain incrementTurn increment follow following predictedPlanes unlessRefused predictFrom predictBoth predictSkipped predict
-    macroblockType scale vector forward backward vectors head pattern blockPlace results written blockEnd oneBlock lastBlocks blocks skipReset
+    macroblockType scale vector forward backward vectors head pattern blockPlace results written blockEnd oneBlock blocks skipReset
     advance predictUnlessIntra body firstOf laterOf macroblock extraTurn extra pastMacroblock sliceTurn slice P.direction
     P.pictureHeader P.pastSlice P.slicesTurn P.slices P.coded P.picture
     fresh freshState cleared possible matrix size rest findSequence accepted askSize askHeader askStore opened openingFrom opening nextCode isFollowed timeOf

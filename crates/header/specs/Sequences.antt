@@ -1,28 +1,31 @@
 -- RULES O.3 (11172-2, 2.4.2.3): the sequence header, from behind its start code on.
 use mathlib.Core.List.{List}
-use Prim.Native.Nat.{ℕ, zero, suc, min, _-_}
+use Prim.Native.Nat.{ℕ, min, _-_}
 use lib.Dec.{eqb}
 use lib.Ieee.{Float}
 use lib.ListN.{getD, set, replicate}
-use Rattle.bits.specs.Programs.{Prog, done, bind, bits, _>>=_, _>>_, if_then_else_}
+use Rattle.bits.specs.Programs.{Prog, done, bind, bits, forBelow, _>>=_, _>>_, if_then_else_}
 use Rattle.codes.specs.Matrices.{zigZag, intraQuantMatrix, nonIntraQuantMatrix}
 use Rattle.codes.specs.Rates.{pixelAspectRatio, pictureRate}
 use Rattle.picture.specs.declared.state.Matrices.{Matrices}
 use Rattle.header.specs.declared.sequences.RestRead.{RestRead}
 use Rattle.header.specs.State.{noTime}
 
--- the last n of 64 bytes in zig-zag order, into the matrix m
-unfoldable pub lastEntries : ℕ → List ℕ → Prog (List ℕ)
-lastEntries zero m = done m
-lastEntries (suc n) m = do
+-- 8 bits: the entry of a matrix with this number in zig-zag order
+abbrev pub entry : ℕ → List ℕ → Prog (List ℕ)
+entry i m = do
   b ← bits 8
-  lastEntries n (set m (getD zigZag (63 - n) 0) b)
+  done (set m (getD zigZag i 0) b)
+
+-- all 64
+unfoldable pub entries : Prog (List ℕ)
+entries = forBelow 64 entry (replicate 64 0)
 
 -- one bit: if 1, a matrix of 64 bytes, else the default one
 unfoldable pub matrix : List ℕ → Prog (List ℕ)
 matrix default = do
   loaded ← bits 1
-  if eqb loaded 0 then done default else lastEntries 64 (replicate 64 0)
+  if eqb loaded 0 then done default else entries
 
 -- RULES O.3: 12 bits of width, 12 bits of height
 pub record Size : Type 0 where

@@ -8,7 +8,6 @@ use codes::rates::pixel_aspect_ratio;
 use picture::state::Matrices;
 ghost use mathlib.Core.Path.{_≡_};
 ghost use Prim.Native.Nat.{_≤_, _<_};
-ghost use lib.ListN.{replicate};
 ghost use Rattle.bits.specs.Runs.{Inside, Reading};
 ghost use Rattle.header.specs.Sequences as Header;
 
@@ -38,7 +37,7 @@ pub struct RestRead {
 // 64 bytes in zig-zag order.
 fn read_entries(s: &[u8], reader: Reader) -> MatrixRead
     requires { ⌜ Inside (now s) reader ⌝ }
-    ensures { λ r. ⌜ Reading (Header.lastEntries 64 (replicate 64 0)) (now (s .entry)) reader (r .matrix) (r .reader) ⌝ }
+    ensures { λ r. ⌜ Reading Header.entries (now (s .entry)) reader (r .matrix) (r .reader) ⌝ }
 {
     let order = zig_zag();
     let mut matrix = [0u8; 64];

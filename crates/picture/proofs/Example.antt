@@ -8,7 +8,7 @@ use lib.ListN.{replicate, take}
 use Rattle.laws.specs.Signed.{clamp255, odd}
 use Rattle.laws.specs.Stores.{storeRow, storeRows}
 use Rattle.bits.specs.Bits.{bitAt, bitsAt, got, next, codePrefix, codeFrom, found}
-use Rattle.bits.specs.Programs.{run, bind, loop}
+use Rattle.bits.specs.Programs.{run, bind, forBelow, loop}
 use Rattle.codes.specs.Tables.{macroblockAddressIncrementIndex, macroblockAddressIncrementValue, macroblockTypeIntraIndex, macroblockTypeIntraValue}
 use Rattle.codes.specs.Tables.{macroblockTypePredictiveIndex, macroblockTypePredictiveValue, motionIndex, motionValue, dctSizeLuminanceIndex}
 use Rattle.codes.specs.Tables.{dctSizeLuminanceValue, dctSizeChrominanceIndex, dctSizeChrominanceValue, dctCoeffIndex, dctCoeffValue}
@@ -31,7 +31,7 @@ use Rattle.picture.specs.Ways.{leave, onward, plain}
 use Rattle.picture.specs.Increments.{incrementTurn, increment}
 use Rattle.picture.specs.Predictions.{unlessRefused, predictFrom, predict}
 use Rattle.picture.specs.Heads.{macroblockType, scale, vector, forward, backward, vectors, head, pattern}
-use Rattle.picture.specs.Blocks.{results, written, blockEnd, oneBlock, lastBlocks, blocks}
+use Rattle.picture.specs.Blocks.{results, written, blockEnd, oneBlock, blocks}
 use Rattle.picture.specs.Macroblocks.{advance, predictUnlessIntra, body, firstOf, laterOf, macroblock}
 use Rattle.picture.specs.Slices.{extraTurn, extra, pastMacroblock, sliceTurn, slice}
 use Rattle.picture.specs.Pictures as P
@@ -84,13 +84,13 @@ storeOf (out n l) = l
 
 -- the first row of plane Y in store 0
 pub row : take 32 (storeOf (decoded .value)) ≡ replicate 16 133 ++ replicate 16 128
-unfolding clamp255 odd storeRow storeRows bitAt bitsAt got next codePrefix codeFrom found run bind loop macroblockAddressIncrementIndex
+unfolding clamp255 odd storeRow storeRows bitAt bitsAt got next codePrefix codeFrom found run bind forBelow loop macroblockAddressIncrementIndex
     macroblockAddressIncrementValue macroblockTypeIntraIndex macroblockTypeIntraValue dctSizeLuminanceIndex dctSizeLuminanceValue dctSizeChrominanceIndex
     dctSizeChrominanceValue dctCoeffIndex dctCoeffValue walkTurn walk vlc Codes.macroblockAddressIncrement Codes.macroblockTypeIntra Codes.dctSizeLuminance
     Codes.dctSizeChrominance Codes.dctCoeff downFrom diagonals zigZag intraQuantMatrix premultiplierMatrix Dcs.dcSize Dcs.added Dcs.dcDifference
     Coefficients.runLevel Coefficients.coefficient dequantised Syntax.pairTurn Syntax.pairs Syntax.intraCoded Syntax.codedBlock Block.allPlaced
     Block.reconstructed Block.block Block.leftOver butterfly columns rows idct dcOnly setConst overwrite leave onward plain incrementTurn increment
-    macroblockType scale head pattern blockPlace results written blockEnd oneBlock lastBlocks blocks advance predictUnlessIntra body firstOf laterOf
+    macroblockType scale head pattern blockPlace results written blockEnd oneBlock blocks advance predictUnlessIntra body firstOf laterOf
     macroblock extraTurn extra pastMacroblock sliceTurn slice P.direction P.pictureHeader P.pastSlice P.slicesTurn P.slices P.coded P.picture
 row = refl
 
@@ -103,10 +103,10 @@ outside = 0x00 ∷ 0x0f ∷ 0xff ∷ 0xf8 ∷ 0x00 ∷ 0x00 ∷ 0x01 ∷ 0x01 �
 
 -- RULES Q8: the DC value is 128 + 255
 pub eight : run (P.picture one matrices (P.frame fresh none (replicate 1152 7))) outside 0 ≡ record { value = out 8 (replicate 1152 7); at = 87 }
-unfolding bitAt bitsAt got next codePrefix codeFrom found run bind loop macroblockAddressIncrementIndex macroblockAddressIncrementValue
+unfolding bitAt bitsAt got next codePrefix codeFrom found run bind forBelow loop macroblockAddressIncrementIndex macroblockAddressIncrementValue
     macroblockTypeIntraIndex macroblockTypeIntraValue dctSizeLuminanceIndex dctSizeLuminanceValue walkTurn walk vlc Codes.macroblockAddressIncrement
     Codes.macroblockTypeIntra Codes.dctSizeLuminance Dcs.dcSize Dcs.added Dcs.dcDifference Syntax.intraCoded Syntax.codedBlock Block.reconstructed
-    Block.block leave onward plain incrementTurn increment macroblockType scale head pattern blockEnd oneBlock lastBlocks blocks predictUnlessIntra body
+    Block.block leave onward plain incrementTurn increment macroblockType scale head pattern blockEnd oneBlock blocks predictUnlessIntra body
     firstOf macroblock extraTurn extra pastMacroblock sliceTurn slice P.direction P.pictureHeader P.pastSlice P.slicesTurn P.slices P.coded P.picture
 eight = refl
 

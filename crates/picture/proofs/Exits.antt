@@ -1,9 +1,9 @@
 -- What holds of the value of a program that may leave early: one rule for each form. Assumes nothing.
 use mathlib.Core.List.{List}
-use Prim.Native.Nat.{ℕ}
+use Prim.Native.Nat.{ℕ, _<_}
 use Rattle.bits.specs.Programs.{Prog}
-use Rattle.bits.proofs.Gives.{Gives, g-done, g-bind}
-use Rattle.picture.specs.Ways.{Way, on, out, also, leave, onward, plain}
+use Rattle.bits.proofs.Gives.{Gives, g-done, g-bind, g-for}
+use Rattle.picture.specs.Ways.{Way, on, out, also, leave, onward, plain, forBelow}
 
 -- a way goes on with P, or leaves with O
 abbrev pub Ways : {A : Type 0} → (A → Type 0) → (ℕ → List ℕ → Type 0) → Way A → Type 0
@@ -34,3 +34,12 @@ module _ (O : ℕ → List ℕ → Type 0) where
       → ((x : A) → P x → Gives s (Ways Q O) (f x)) → Gives s (Ways Q O) (onward (plain p) f)
   unfolding plain
   plain-ways {P = P} f g k = onward-ways {P = P} f (g-bind _ g (λ x h. g-done h)) k
+
+  pub for-ways : {s : List ℕ} {A : Type 0} {P : A → Type 0} (n : ℕ) (f : ℕ → A → Prog (Way A))
+      → ((i : ℕ) → i < n → (x : A) → P x → Gives s (Ways P O) (f i x)) → {x : A} → P x → Gives s (Ways P O) (forBelow n f x)
+  unfolding leave
+  for-ways {s} {A} {P} n f keeps h = g-for n (λ i. leave (f i)) go h
+    where
+      go : (i : ℕ) → i < n → (w : Way A) → Ways P O w → Gives s (Ways P O) (leave (f i) w)
+      go i k (on x) h = keeps i k x h
+      go i k (out m l) h = g-done h

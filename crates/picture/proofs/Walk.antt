@@ -27,12 +27,12 @@ use Rattle.picture.specs.State.{World, world, inSlice, startCodeAs, slic
 use Rattle.picture.specs.Ways.{Way, on, out}
 use Rattle.picture.specs.Predictions.{unlessRefused, predictFrom, predictBoth, predict, predictSkipped}
 use Rattle.picture.specs.Heads.{flag, isIntra, macroblockType, head, pattern}
-use Rattle.picture.specs.Blocks.{predictorOf, predictorAs, quantiserOf, matrixFor, written, blockEnd, oneBlock, lastBlocks, blocks}
+use Rattle.picture.specs.Blocks.{predictorOf, predictorAs, quantiserOf, matrixFor, written, blockEnd, oneBlock, patternBlock, blocks}
 use Rattle.picture.specs.Increments.{increment}
 use Rattle.picture.specs.Macroblocks.{nowhere, further, skipReset, advance, predictUnlessIntra, body, firstOf, laterOf, macroblock}
 use Rattle.picture.specs.Slices.{Slicing, slicing, sliceStart, isLast, extra, pastMacroblock, sliceTurn, slice}
 use Rattle.picture.specs.Pictures as P
-use Rattle.picture.proofs.Exits.{Ways, also-ways, onward-ways, plain-ways}
+use Rattle.picture.proofs.Exits.{Ways, also-ways, onward-ways, plain-ways, for-ways}
 
 -- what is to hold: of the state at the beginning of a slice and later in it, of the left-over coefficients, of the store, of the start code, and of
 -- number and store where a picture leaves early
@@ -132,21 +132,20 @@ module _ {s : List ℕ} {g : Context} {m : Matrices} {i : Invariant} (c : Keeps 
       (c .blocks intra number (w .slice) (w .«block_data») h (k .slice) (k .block))
       (λ r j. g-done (end-ways (quantiserOf g intra (w .slice)) number w r (k .store) j))
 
-  last-ways : (intra : Bool) (pattern j : ℕ) (w : World) → WorldKept w → Gives s (Ways WorldKept O) (lastBlocks g m intra pattern j w)
-  unfolding lastBlocks
-  last-ways intra pattern zero w k = g-done k
-  last-ways intra pattern (suc j) w k =
-      onward-ways O {P = WorldKept} _ (g-if (flag pattern (2 ^ j)) (λ e. block-ways intra (5 - j) w (omega arith) k) (λ e. g-done k))
-      (λ x h. last-ways intra pattern j x h)
+  blocks-ways : (intra : Bool) (pattern : ℕ) (w : World) → WorldKept w → Gives s (Ways WorldKept O) (blocks g m intra pattern w)
+  unfolding blocks
+  blocks-ways intra pattern w k =
+      for-ways O 6 (patternBlock g m intra pattern) (λ i h w k.
+      g-if (flag pattern (2 ^ (5 - i))) (λ e. block-ways intra i w (omega arith) k) (λ e. g-done k)) k
 
   body-ways : (w : World) → WorldKept w → Gives s (Ways WorldKept O) (body g m w)
-  unfolding body blocks
+  unfolding body
   body-ways w k =
       plain-ways O _ (g-any (macroblockType (g .«picture_type»))) (λ t u.
       plain-ways O _ (c .heads t (w .slice) (k .slice)) (λ x h.
       onward-ways O {P = S} _ (g-done (unless-ways t x (w .store) (k .store))) (λ l e.
       plain-ways O _ (g-any (pattern t)) (λ q u.
-      last-ways (isIntra t) q 6 (world x (w .«block_data») l) (record { slice = h; block = k .block; store = e })))))
+      blocks-ways (isIntra t) q (world x (w .«block_data») l) (record { slice = h; block = k .block; store = e })))))
 
   advance-ways : (n : ℕ) (w : World) → WorldKept w → leZ (pos (g .sizes .«mb_size»)) (w .slice .«macroblock_address» +ℤ pos n) ≡ false
       → Ways WorldKept O (advance g n w)

@@ -1,12 +1,13 @@
 -- The rules by which a function's proof follows a program that may leave early. Assumes nothing.
 use mathlib.Core.Path.{_≡_, refl}
 use mathlib.Core.List.{List}
-use Prim.Native.Nat.{ℕ, zero, suc}
+use Prim.Native.Nat.{ℕ, zero, suc, _+_}
+use native.Mathlib.Omega.{arith}
 use Rattle.bits.specs.Programs.{Prog}
 use Rattle.bits.specs.Runs.{Runs}
 use Rattle.bits.specs.declared.reader.Reader.{Reader}
-use Rattle.bits.proofs.Rules.{Follows, r-call, r-done, f-call, f-end}
-use Rattle.picture.specs.Ways.{Way, on, out, leave, onward, plain}
+use Rattle.bits.proofs.Rules.{r-call, r-done, r-for-on}
+use Rattle.picture.specs.Ways.{Way, on, out, leave, onward, plain, forBelow}
 use Rattle.picture.specs.Views.{way}
 
 module _ {A B : Type 0} {s : List ℕ} {from mid : Reader} where
@@ -24,15 +25,20 @@ module _ {A B : Type 0} {s : List ℕ} {from mid : Reader} where
   unfolding plain
   r-plain f q r = r-onward f (r-call _ q r-done) r
 
-module _ {A B : Type 0} {s : List ℕ} {from mid to : Reader} {p : Prog (Way B)} {q : Prog (Way A)} (f : A → Prog (Way B))
-    (l : Follows p s from (onward q f) mid) where
-  -- a step that goes on, and one that leaves
-  pub f-onward : {v : A} → Runs q s mid (on v) to → Follows p s from (f v) to
-  unfolding onward leave
-  f-onward r = f-call (leave f) l r
+-- a loop that counts up: behind one step more, and where one has left
+module _ {A : Type 0} {s : List ℕ} {from mid : Reader} (n : ℕ) (f : ℕ → A → Prog (Way A)) (x : A) where
+  pub r-for-onward : {y : A} {w : Way A} {to : Reader} → Runs (forBelow n f x) s from (on y) mid → Runs (f n y) s mid w to
+      → Runs (forBelow (n + 1) f x) s from w to
+  unfolding leave
+  r-for-onward q r = r-for-on n (λ i. leave (f i)) (on x) q r
 
-  pub f-leave : {n : ℕ} {m : List ℕ} → Runs q s mid (out n m) to → Runs p s from (out n m) to
-  f-leave r = f-end l (r-leave f r)
+  pub r-for-leave : (d m : ℕ) → m ≡ n + d → {k : ℕ} {l : List ℕ} → Runs (forBelow n f x) s from (out k l) mid
+      → Runs (forBelow m f x) s from (out k l) mid
+  unfolding leave
+  r-for-leave zero m e q = let h : m ≡ n = omega arith in rw h q
+  r-for-leave (suc d) m e q =
+      let h : m ≡ n + d + 1 = omega arith in
+      rw h (r-for-on (n + d) (λ i. leave (f i)) (on x) (r-for-leave d (n + d) refl q) r-done)
 
 -- the way that a number tells
 pub way-out : {A : Type 0} {n : ℕ} (x : A) (l : List ℕ) → (n ≡ 0 → ⊥) → way n x l ≡ out n l

@@ -1,7 +1,7 @@
 -- RULES 7.16, 6.12, 6.13: the blocks of a macroblock, read and written.
 use mathlib.Core.Bool.{Bool}
 use mathlib.Core.List.{List}
-use Prim.Native.Nat.{ℕ, zero, suc, _-_, _^_}
+use Prim.Native.Nat.{ℕ, _-_, _^_}
 use borrow.Rule.Slice.PartMut.{midOf, putMid}
 use lib.Dec.{ltb}
 use lib.IntN.{ℤ, pos, natAbs}
@@ -20,7 +20,7 @@ use Rattle.picture.specs.declared.state.Context.{Context}
 use Rattle.picture.specs.declared.state.Matrices.{Matrices}
 use Rattle.picture.specs.declared.state.Slice.{Slice}
 use Rattle.picture.specs.State.{World, world, predictorsAs}
-use Rattle.picture.specs.Ways.{Way, on, out, leave, onward, plain, step, give, _>>=_, _>>_}
+use Rattle.picture.specs.Ways.{Way, on, out, leave, onward, plain, step, give, forBelow, _>>=_, _>>_}
 use Rattle.picture.specs.Heads.{flag}
 
 -- RULES 3.1: the place of a block's DC predictor: 0 for Y, 1 for Cb, 2 for Cr
@@ -73,13 +73,10 @@ oneBlock g m intra number w = do
   r ← plain (block q (matrixFor m intra) (ltb number 4) predictor (w .«block_data»))
   step (blockEnd g q number w r)
 
--- RULES 7.16: the last n of the six blocks; the bit of weight 2 ^ k of the pattern says whether block 5 - k is read
-unfoldable pub lastBlocks : Context → Matrices → Bool → ℕ → ℕ → World → Prog (Way World)
-lastBlocks g m intra pattern zero w = give w
-lastBlocks g m intra pattern (suc k) w = do
-  x ← if flag pattern (2 ^ k) then oneBlock g m intra (5 - k) w else give w
-  lastBlocks g m intra pattern k x
+-- RULES 7.16: the block with this number, if the pattern has its bit: that of block 0 weighs 32, that of block 5 weighs 1
+abbrev pub patternBlock : Context → Matrices → Bool → ℕ → ℕ → World → Prog (Way World)
+patternBlock g m intra pattern number w = if flag pattern (2 ^ (5 - number)) then oneBlock g m intra number w else give w
 
 -- RULES 7.16 (11172-2, 2.4.2.7): the blocks that the pattern names, 0 to 5 in this order
 unfoldable pub blocks : Context → Matrices → Bool → ℕ → World → Prog (Way World)
-blocks g m intra pattern w = lastBlocks g m intra pattern 6 w
+blocks g m intra pattern w = forBelow 6 (patternBlock g m intra pattern) w

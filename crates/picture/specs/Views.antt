@@ -9,7 +9,7 @@ use lib.ListN.{length, getD}
 use lib.Signed.{nonNeg, leZ}
 use Rattle.laws.specs.Turns.{Turn, again, stop}
 use Rattle.bits.specs.declared.reader.Reader.{Reader}
-use Rattle.bits.specs.Programs.{Prog, loop, many, if_then_else_}
+use Rattle.bits.specs.Programs.{Prog, loop, many}
 use Rattle.bits.specs.Runs.{Runs, Inside}
 use Rattle.codes.specs.Lent.{matrixOf}
 use Rattle.codes.specs.Matrices.{Bounded}
@@ -30,10 +30,9 @@ use Rattle.picture.specs.Pictures as P
 use Rattle.picture.specs.Macroblocks.{advance}
 use Rattle.picture.specs.State.{World, world}
 use Rattle.picture.specs.Possible.{PossibleMotion, PossibleSlice}
-use Rattle.picture.specs.Ways.{Way, on, out, give}
+use Rattle.picture.specs.Ways.{Way, on, out}
 use Rattle.picture.specs.Slices.{Slicing, slicing, pastMacroblock, sliceTurn}
-use Rattle.picture.specs.Blocks.{predictorOf, quantiserOf, matrixFor, written, oneBlock}
-use Rattle.picture.specs.Heads.{flag}
+use Rattle.picture.specs.Blocks.{predictorOf, quantiserOf, matrixFor, written}
 
 -- the two matrices, lent one by one
 abbrev pub matrices : List ℕ → List ℕ → Matrices
@@ -81,10 +80,6 @@ slicesOn false begun n f = stop (way n f (f .store))
 abbrev pub blockOf : Context → Matrices → Bool → ℕ → Slice → List ℤ → Prog Read
 blockOf g m intra number s left =
     block (quantiserOf g intra s) (matrixFor m intra) (ltb number 4) (getD (s .«dc_predictor») (predictorOf number) (pos 0)) left
-
--- the block with this number, if the pattern has the bit of this weight
-abbrev pub patternBlock : Context → Matrices → Bool → ℕ → ℕ → ℕ → World → Prog (Way World)
-patternBlock g m intra pattern weight number w = if flag pattern weight then oneBlock g m intra number w else give w
 
 -- the macroblocks of a slice; the way w₀ that the loop would give with its fuel spent does not matter
 abbrev pub macroblocks : Context → Matrices → Way World → World → Prog (Way World)

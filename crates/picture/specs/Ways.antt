@@ -2,6 +2,7 @@
 use mathlib.Core.List.{List}
 use Prim.Native.Nat.{ℕ}
 use Rattle.bits.specs.Programs.{Prog, done, bind}
+use Rattle.bits.specs.Programs as Programs
 
 -- on with a value, or out with a number and the store as it then is. The record is not part of it: after 8 and 9 it is the one passed in
 pub data Way (A : Type 0) : Type 0 where
@@ -30,6 +31,10 @@ _>>=_ = onward
 infixl 1 _>>_
 abbrev pub _>>_ : {A B : Type 0} → Prog (Way A) → Prog (Way B) → Prog (Way B)
 p >> q = onward p (λ x. q)
+
+-- for (i = 0; i < n; i++): f 0, f 1 .. f (n - 1) in turn, as long as they go on
+abbrev pub forBelow : {A : Type 0} → ℕ → (ℕ → A → Prog (Way A)) → A → Prog (Way A)
+forBelow n f x = Programs.forBelow n (λ i. leave (f i)) (on x)
 
 -- a program that never leaves
 unfoldable pub plain : {A : Type 0} → Prog A → Prog (Way A)

@@ -9,7 +9,7 @@ use Rattle.laws.specs.Signed.{clamp255, odd}
 use Rattle.laws.specs.Turns.{turns}
 use Rattle.laws.specs.Stores.{storeRow, storeRows}
 use Rattle.bits.specs.Bits.{bitAt, bitsAt, got, next, codePrefix, codeFrom, found}
-use Rattle.bits.specs.Programs.{run, bind, loop, many, findTurn, findStartCode}
+use Rattle.bits.specs.Programs.{run, bind, forBelow, loop, many, findTurn, findStartCode}
 use Rattle.codes.specs.Tables as Tables
 use Rattle.codes.specs.Standard.{macroblockTypeIntraCodes, macroblockTypePredictiveCodes, macroblockTypeBCodes}
 use Rattle.codes.specs.Walk.{walkTurn, walk, vlc}
@@ -101,7 +101,7 @@ pub record Sequence : Type 0 where
   pub handed : rows (decoded stream opened-by) ≡ (0 ∷ 133 ∷ 128 ∷ 128 ∷ []) ∷ (2 ∷ 132 ∷ 132 ∷ 130 ∷ []) ∷ []
 
 pub sequence : Sequence
-unfolding clamp255 odd storeRow storeRows bitAt bitsAt got next codePrefix codeFrom found run bind loop findTurn findStartCode turns ofInt allBelow
+unfolding clamp255 odd storeRow storeRows bitAt bitsAt got next codePrefix codeFrom found run bind forBelow loop findTurn findStartCode turns ofInt allBelow
     Tables.macroblockAddressIncrementIndex Tables.macroblockAddressIncrementValue Tables.macroblockTypeIntraIndex Tables.macroblockTypeIntraValue
     Tables.macroblockTypePredictiveIndex Tables.macroblockTypePredictiveValue Tables.macroblockTypeBIndex Tables.macroblockTypeBValue
     Tables.motionIndex Tables.motionValue Tables.dctSizeLuminanceIndex Tables.dctSizeLuminanceValue Tables.dctSizeChrominanceIndex

@@ -3,11 +3,13 @@
 use mathlib.Core.Path.{_≡_, refl, sym, ap, _∙_, subst}
 use mathlib.Core.Bool.{Bool, true, false, true≢false, false≢true}
 use mathlib.Core.List.{List}
-use Prim.Native.Nat.{ℕ, zero, suc}
+use Prim.Native.Nat.{ℕ, zero, suc, _<_}
+use native.Mathlib.Omega.{arith}
 use Rattle.laws.specs.Turns.{Turn, again, stop}
 use Rattle.bits.specs.Programs.{Prog, Out, done, run, bind, loop, turn}
+use Rattle.bits.specs.Programs as Programs
 use Rattle.bits.proofs.Programs.{run-bind}
-use Rattle.picture.specs.Ways.{Way, on, out, leave, onward, plain, step, give}
+use Rattle.picture.specs.Ways.{Way, on, out, leave, onward, plain, step, give, forBelow}
 use Rattle.standard.specs.Standard.Words.{forbidden, conforms, shall}
 
 -- of what steps that read nothing give
@@ -88,6 +90,14 @@ module _ {C D : Type 0} {Q : C → D → Type 0} {s : List ℕ} {a : ℕ} where
   a-shall false f h = record { is = tt }
 
 -- ---- loops in step
+
+-- R i holds before the step with the number i
+pub a-for : {A B : Type 0} {s : List ℕ} (R : ℕ → A → B → Type 0) (n : ℕ) (f : ℕ → A → Prog (Way A)) (g : ℕ → B → Prog (Way B))
+    → ((i : ℕ) → i < n → (x : A) (y : B) (a : ℕ) → R i x y → Agree (R (suc i)) s a (f i x) (g i y))
+    → {x : A} {y : B} {a : ℕ} → R 0 x y → Agree (R n) s a (forBelow n f x) (forBelow n g y)
+unfolding Programs.forBelow onward
+a-for R zero f g steps r = a-give r
+a-for R (suc n) f g steps r = a-onward (f n) (g n) (a-for R n f g (λ i h. steps i (omega arith)) r) (λ x y e r. steps n (omega arith) x y e r)
 
 abbrev pub TurnMeets : {S T A B : Type 0} → (S → T → Type 0) → (A → B → Type 0) → Turn S (Way A) → ℕ → Turn T (Way B) → ℕ → Type 0
 TurnMeets I R (again x) e (again y) i = (e ≡ i) × I x y

@@ -1,6 +1,6 @@
 -- 2.4.2.8, 2.4.4.1, 2.4.4.2: the blocks of a macroblock, with the DC prediction. Assumes nothing.
 use mathlib.Core.Path.{_≡_, refl, sym, ap, _∙_, subst}
-use mathlib.Core.Bool.{Bool, true, false, cond, not, _&&_, _||_, false≢true}
+use mathlib.Core.Bool.{Bool, true, false, cond, not, _&&_, _||_}
 use mathlib.Core.List.{List, [], _∷_}
 use Prim.Native.Nat.{ℕ, zero, suc, _+_, _-_, _*_, _^_, _≤_, _<_}
 use native.Mathlib.Omega.{arith}
@@ -40,7 +40,7 @@ use Rattle.picture.specs.Ways.{Way, on, out, leave, onward, plain, step, give}
 use Rattle.picture.specs.Heads.{flag}
 use Rattle.picture.specs.Blocks as O
 use Rattle.standard.specs.Standard as S
-use Rattle.standard.proofs.Agreement.{WayIs, Agree, a-same, a-give, a-plain, a-onward, a-shall, plain-bind, plain-bind-on}
+use Rattle.standard.proofs.Agreement.{WayIs, Agree, a-same, a-give, a-plain, a-onward, a-shall, a-for, plain-bind, plain-bind-on}
 use Rattle.standard.proofs.Related.{Own, own, sliceOf, eights, Rule, coding}
 use Rattle.standard.specs.Rules.{times}
 
@@ -200,18 +200,18 @@ ownAs i x o = cond (ltb i 4) (own (o .forSet) (o .backSet) x (o .cb) (o .cr))
 abbrev dcsOf : Own → List ℤ
 dcsOf o = o .y ∷ o .cb ∷ o .cr ∷ []
 
--- the pasts as the last k blocks use them
+-- the pasts as blocks i to 5 use them
 abbrev pub leftOf : Bool → ℕ → S.Pasts → S.Pasts
-leftOf isFar k p = S.pasts (cond (eqb k 6 && isFar) (pos 1024) (p .y)) (cond (ltb 1 k && isFar) (pos 1024) (p .cb)) (cond (ltb 0 k && isFar) (pos 1024) (p .cr))
+leftOf isFar i p = S.pasts (cond (eqb i 0 && isFar) (pos 1024) (p .y)) (cond (ltb i 5 && isFar) (pos 1024) (p .cb)) (cond (ltb i 6 && isFar) (pos 1024) (p .cr))
 
-pub left-six : (isFar : Bool) (p : S.Pasts) → leftOf isFar 6 p ≡ cond isFar (S.pasts (pos 1024) (pos 1024) (pos 1024)) p
+pub left-six : (isFar : Bool) (p : S.Pasts) → leftOf isFar 0 p ≡ cond isFar (S.pasts (pos 1024) (pos 1024) (pos 1024)) p
 left-six true p = refl
 left-six false p = refl
 
--- block i with its predictor, where k blocks follow it
-record Component (isFar : Bool) (p : S.Pasts) (o : Own) (x : ℤ) (k i : ℕ) : Type 0 where
+-- block i with its predictor
+record Component (isFar : Bool) (p : S.Pasts) (o : Own) (x : ℤ) (i : ℕ) : Type 0 where
   pred : S.dcPredictor isFar i p ≡ pos 8 *ℤ getD (dcsOf o) (O.predictorOf i) (pos 0)
-  past : leftOf isFar k (S.pastAs i (pos 8 *ℤ x) p) ≡ eights (ownAs i x o)
+  past : leftOf isFar (suc i) (S.pastAs i (pos 8 *ℤ x) p) ≡ eights (ownAs i x o)
   dcs : set (dcsOf o) (O.predictorOf i) x ≡ dcsOf (ownAs i x o)
 
 -- what holds of each of six numbers
@@ -224,24 +224,23 @@ below-six P a b c d e f (suc (suc (suc (suc zero)))) h = e
 below-six P a b c d e f (suc (suc (suc (suc (suc zero))))) h = f
 below-six P a b c d e f (suc (suc (suc (suc (suc (suc k)))))) h = let z : ⊥ = omega arith in absurd z
 
-component : (isFar : Bool) (p : S.Pasts) (o : Own) (x : ℤ) (k : ℕ) → k < 6 → leftOf isFar (suc k) p ≡ eights o → Component isFar p o x k (5 - k)
+component : (isFar : Bool) (p : S.Pasts) (o : Own) (x : ℤ) (i : ℕ) → i < 6 → leftOf isFar i p ≡ eights o → Component isFar p o x i
 component isFar p o x =
-    below-six (λ k. leftOf isFar (suc k) p ≡ eights o → Component isFar p o x k (5 - k))
-    (λ e. record { pred = λ j. e j .cr; past = λ j. S.pasts (e j .y) (e j .cb) (pos 8 *ℤ x); dcs = refl })
+    below-six (λ i. leftOf isFar i p ≡ eights o → Component isFar p o x i)
+    (λ e. record { pred = λ j. e j .y; past = λ j. S.pasts (pos 8 *ℤ x) (e j .cb) (e j .cr); dcs = refl })
+    (λ e. record { pred = λ j. e j .y; past = λ j. S.pasts (pos 8 *ℤ x) (e j .cb) (e j .cr); dcs = refl })
+    (λ e. record { pred = λ j. e j .y; past = λ j. S.pasts (pos 8 *ℤ x) (e j .cb) (e j .cr); dcs = refl })
+    (λ e. record { pred = λ j. e j .y; past = λ j. S.pasts (pos 8 *ℤ x) (e j .cb) (e j .cr); dcs = refl })
     (λ e. record { pred = λ j. e j .cb; past = λ j. S.pasts (e j .y) (pos 8 *ℤ x) (e j .cr); dcs = refl })
-    (λ e. record { pred = λ j. e j .y; past = λ j. S.pasts (pos 8 *ℤ x) (e j .cb) (e j .cr); dcs = refl })
-    (λ e. record { pred = λ j. e j .y; past = λ j. S.pasts (pos 8 *ℤ x) (e j .cb) (e j .cr); dcs = refl })
-    (λ e. record { pred = λ j. e j .y; past = λ j. S.pasts (pos 8 *ℤ x) (e j .cb) (e j .cr); dcs = refl })
-    (λ e. record { pred = λ j. e j .y; past = λ j. S.pasts (pos 8 *ℤ x) (e j .cb) (e j .cr); dcs = refl })
+    (λ e. record { pred = λ j. e j .cr; past = λ j. S.pasts (e j .y) (e j .cb) (pos 8 *ℤ x); dcs = refl })
 
 -- a predictor put in its own place
-kept-dcs : (o : Own) (k : ℕ) → k < 6 → set (dcsOf o) (O.predictorOf (5 - k)) (getD (dcsOf o) (O.predictorOf (5 - k)) (pos 0)) ≡ dcsOf o
-kept-dcs o =
-    below-six (λ k. set (dcsOf o) (O.predictorOf (5 - k)) (getD (dcsOf o) (O.predictorOf (5 - k)) (pos 0)) ≡ dcsOf o) refl refl refl refl refl refl
+kept-dcs : (o : Own) (i : ℕ) → i < 6 → set (dcsOf o) (O.predictorOf i) (getD (dcsOf o) (O.predictorOf i) (pos 0)) ≡ dcsOf o
+kept-dcs o = below-six (λ i. set (dcsOf o) (O.predictorOf i) (getD (dcsOf o) (O.predictorOf i) (pos 0)) ≡ dcsOf o) refl refl refl refl refl refl
 
 -- 63 has all six bits
-bits-63 : (k : ℕ) → k < 6 → flag 63 (2 ^ k) ≡ true
-bits-63 = below-six (λ k. flag 63 (2 ^ k) ≡ true) refl refl refl refl refl refl
+bits-63 : (i : ℕ) → i < 6 → flag 63 (2 ^ (5 - i)) ≡ true
+bits-63 = below-six (λ i. flag 63 (2 ^ (5 - i)) ≡ true) refl refl refl refl refl refl
 
 or-true : (t : Bool) → (t || true) ≡ true
 or-true true = refl
@@ -314,13 +313,13 @@ written-same rule g m f b intra scale i address x l lone =
 
 -- ---- a block
 
--- before the last k blocks of an intra macroblock: the pasts are our predictors
-pub record Intra (isFar : Bool) (k : ℕ) (g : S.Coding) (A : ℤ) (q : ℕ) (for back : S.Vector) (fs bs : Bool) (x : S.Blocks) (w : World) : Type 0 where
+-- before block i of an intra macroblock: the pasts are our predictors
+pub record Intra (isFar : Bool) (i : ℕ) (g : S.Coding) (A : ℤ) (q : ℕ) (for back : S.Vector) (fs bs : Bool) (x : S.Blocks) (w : World) : Type 0 where
   pub y : ℤ
   pub cb : ℤ
   pub cr : ℤ
   pub is : w ≡ world (sliceOf g A q for back (own fs bs y cb cr)) freshBlock (x .pels)
-  pub past : leftOf isFar k (x .past) ≡ eights (own fs bs y cb cr)
+  pub past : leftOf isFar i (x .past) ≡ eights (own fs bs y cb cr)
 
 -- of any other macroblock: pasts and predictors stay
 pub record Inter (g : S.Coding) (A : ℤ) (q : ℕ) (for back : S.Vector) (o : Own) (p : S.Pasts) (x : S.Blocks) (w : World) : Type 0 where
@@ -349,16 +348,13 @@ module _ (rule : Rule) (g : Context) (m : Matrices) (f b : S.Direction) (A : ℤ
       let pels = written-same rule g m f b intra q i (natAbs A) y l lone in
       ap (O.blockEnd g (quantiser intra q) i (ours o l)) e ∙ (λ j. on (world (predictorsAs (d j) (sliceOf G A q for back o)) freshBlock (pels j)))
 
-  -- an intra block, which k others follow; o has our predictors
-  module _ (isFar : Bool) (k : ℕ) (h : k < 6) (x : S.Blocks) (o : Own) (before : leftOf isFar (suc k) (x .past) ≡ eights o) where
-    abbrev i : ℕ
-    i = 5 - k
-
+  -- intra block i; o has our predictors
+  module _ (isFar : Bool) (i : ℕ) (h : i < 6) (x : S.Blocks) (o : Own) (before : leftOf isFar i (x .past) ≡ eights o) where
     abbrev pred : ℤ
     pred = getD (dcsOf o) (O.predictorOf i) (pos 0)
 
     abbrev After : S.Blocks → World → Type 0
-    After = Intra isFar k G A q for back (o .forSet) (o .backSet)
+    After = Intra isFar (suc i) G A q for back (o .forSet) (o .backSet)
 
     -- dct_recon with the DC value alone
     abbrev dcFilled : ℤ → S.Filled
@@ -405,7 +401,7 @@ module _ (rule : Rule) (g : Context) (m : Matrices) (f b : S.Direction) (A : ℤ
       end-agrees : (p : Ended) (y : S.Filled) (e : ℕ) → Fills p y → Agree After s e (theirEnd (pos 8 *ℤ dc) y) (ourEnd (coded d p))
       end-agrees p y e c =
           let n = ownAs i dc o in
-          let t = component isFar (x .past) o dc k h before in
+          let t = component isFar (x .past) o dc i h before in
           a-same (ap (λ (w : Way World). run (step w) s e)
           (sym (block-ends true i o dc (dcsOf n) y (x .pels) (made (coded d p)) (made-is p y c) (c .1 .lone) (t .dcs))))
           (a-give (record { y = n .y; cb = n .cb; cr = n .cr; is = refl; past = t .past }))
@@ -424,7 +420,7 @@ module _ (rule : Rule) (g : Context) (m : Matrices) (f b : S.Direction) (A : ℤ
     -- the DC value with the difference that was read
     recon-is : (zz d : ℤ) → zz ≡ d → S.dcPredictor isFar i (x .past) +ℤ pos 8 *ℤ zz ≡ pos 8 *ℤ (pred +ℤ d)
     recon-is zz d e =
-        ap (λ (z : ℤ). z +ℤ pos 8 *ℤ zz) (component isFar (x .past) o (pred +ℤ d) k h before .pred) ∙ eight-add pred zz
+        ap (λ (z : ℤ). z +ℤ pos 8 *ℤ zz) (component isFar (x .past) o (pred +ℤ d) i h before .pred) ∙ eight-add pred zz
         ∙ ap (λ (z : ℤ). pos 8 *ℤ (pred +ℤ z)) e
 
     intra-agrees : (a : ℕ) → Agree After s a (S.intraBlock G isFar q (natAbs A) i x) (O.oneBlock g m true i (ours o (x .pels)))
@@ -438,17 +434,16 @@ module _ (rule : Rule) (g : Context) (m : Matrices) (f b : S.Direction) (A : ℤ
         subst (λ (recon : ℤ). Agree After s e (theirs recon) (onward (plain (ourPairs (dcInside (pred +ℤ d)) d)) ourEnd)) (sym (recon-is zz d c))
         (a-shall _ _ (λ z. pairs-agree d (eight-inside (pred +ℤ d) z) e)))))
 
-  intra-block : (isFar fs bs : Bool) (k : ℕ) → k < 6 → (x : S.Blocks) (w : World) (a : ℕ) → Intra isFar (suc k) G A q for back fs bs x w
-      → Agree (Intra isFar k G A q for back fs bs) s a (S.intraBlock G isFar q (natAbs A) (5 - k) x) (O.oneBlock g m true (5 - k) w)
-  intra-block isFar fs bs k h x w a r =
-      subst (λ (w : World). Agree (Intra isFar k G A q for back fs bs) s a (S.intraBlock G isFar q (natAbs A) (5 - k) x) (O.oneBlock g m true (5 - k) w))
-      (sym (r .is)) (intra-agrees isFar k h x (own fs bs (r .y) (r .cb) (r .cr)) (r .past) a)
+  intra-block : (isFar fs bs : Bool) (i : ℕ) → i < 6 → (x : S.Blocks) (w : World) (a : ℕ) → Intra isFar i G A q for back fs bs x w
+      → Agree (Intra isFar (suc i) G A q for back fs bs) s a (S.intraBlock G isFar q (natAbs A) i x) (O.oneBlock g m true i w)
+  intra-block isFar fs bs i h x w a r =
+      subst (λ (w : World). Agree (Intra isFar (suc i) G A q for back fs bs) s a (S.intraBlock G isFar q (natAbs A) i x) (O.oneBlock g m true i w))
+      (sym (r .is)) (intra-agrees isFar i h x (own fs bs (r .y) (r .cb) (r .cr)) (r .past) a)
 
-  inter-block : (o : Own) (p : S.Pasts) (k : ℕ) → k < 6 → (x : S.Blocks) (w : World) (a : ℕ) → Inter G A q for back o p x w
-      → Agree (Inter G A q for back o p) s a (S.nonIntraBlock G q (natAbs A) (5 - k) x) (O.oneBlock g m false (5 - k) w)
+  inter-block : (o : Own) (p : S.Pasts) (i : ℕ) → i < 6 → (x : S.Blocks) (w : World) (a : ℕ) → Inter G A q for back o p x w
+      → Agree (Inter G A q for back o p) s a (S.nonIntraBlock G q (natAbs A) i x) (O.oneBlock g m false i w)
   unfolding S.nonIntraBlock O.oneBlock B.block codedBlock otherCoded B.reconstructed onward leave plain bind
-  inter-block o past k h x w a r =
-      let i = 5 - k in
+  inter-block o past i h x w a r =
       let pred = getD (dcsOf o) (O.predictorOf i) (pos 0) in
       let Q = quantiser false q in
       let matrix = m .«non_intra_quant_matrix» in
@@ -465,31 +460,27 @@ module _ (rule : Rule) (g : Context) (m : Matrices) (f b : S.Direction) (A : ℤ
       let filled = ap (λ (l : List ℤ). B.allPlaced Q matrix (B.filled l 0) (p .pairs)) (sym times-zero) ∙ c .1 .same in
       let read : made ≡ wholeOf pred y = λ j. record { filled = filled j; predictor = pred; end = c .0 j } in
       a-same (ap (λ (w : Way World). run (step w) s (run (pairs 0) s a .at))
-      (sym (block-ends false i o pred (dcsOf o) y (x .pels) made read (c .1 .lone) (kept-dcs o k h))))
+      (sym (block-ends false i o pred (dcsOf o) y (x .pels) made read (c .1 .lone) (kept-dcs o i h))))
       (a-give (record { is = refl; past = r .past })))))))
 
-  -- ---- the blocks that are left
+  -- ---- all six
 
-  pub intra-blocks : (isFar fs bs : Bool) (cbp : ℕ) (k : ℕ) → k ≤ 6 → (x : S.Blocks) (w : World) (a : ℕ) → Intra isFar k G A q for back fs bs x w
-      → Agree (Intra isFar 0 G A q for back fs bs) s a (S.blocks G true isFar cbp q (natAbs A) k x) (O.lastBlocks g m true 63 k w)
-  unfolding S.blocks O.lastBlocks
-  intra-blocks isFar fs bs cbp zero h x w a r = a-give r
-  intra-blocks isFar fs bs cbp (suc k) h x w a r = a-onward _ _ (all (flag cbp (2 ^ k)) (flag 63 (2 ^ k)) (bits-63 k (omega arith)))
-      (λ x w e r. intra-blocks isFar fs bs cbp k (omega arith) x w e r)
-    where
-      all : (t u : Bool) → u ≡ true
-          → Agree (Intra isFar k G A q for back fs bs) s a (cond (t || true) (S.intraBlock G isFar q (natAbs A) (5 - k) x) (give x))
-          (cond u (O.oneBlock g m true (5 - k) w) (give w))
-      all t true z = rw (or-true t) (intra-block isFar fs bs k (omega arith) x w a r)
-      all t false z = absurd (false≢true z)
+  pub intra-blocks : (isFar fs bs : Bool) (cbp : ℕ) (x : S.Blocks) (w : World) (a : ℕ) → Intra isFar 0 G A q for back fs bs x w
+      → Agree (Intra isFar 6 G A q for back fs bs) s a (S.blocks G true isFar cbp q (natAbs A) x) (O.blocks g m true 63 w)
+  unfolding S.blocks O.blocks
+  intra-blocks isFar fs bs cbp x w a r =
+      a-for (λ i. Intra isFar i G A q for back fs bs) 6 (S.block G true isFar cbp q (natAbs A)) (O.patternBlock g m true 63) (λ i h x w a r.
+      rw (or-true (flag cbp (2 ^ (5 - i))), bits-63 i h) (intra-block isFar fs bs i h x w a r)) r
 
-  pub inter-blocks : (isFar : Bool) (o : Own) (p : S.Pasts) (cbp : ℕ) (k : ℕ) → k ≤ 6 → (x : S.Blocks) (w : World) (a : ℕ) → Inter G A q for back o p x w
-      → Agree (Inter G A q for back o p) s a (S.blocks G false isFar cbp q (natAbs A) k x) (O.lastBlocks g m false cbp k w)
-  unfolding S.blocks O.lastBlocks
-  inter-blocks isFar o p cbp zero h x w a r = a-give r
-  inter-blocks isFar o p cbp (suc k) h x w a r = a-onward _ _ (some (flag cbp (2 ^ k))) (λ x w e r. inter-blocks isFar o p cbp k (omega arith) x w e r)
+  pub inter-blocks : (isFar : Bool) (o : Own) (p : S.Pasts) (cbp : ℕ) (x : S.Blocks) (w : World) (a : ℕ) → Inter G A q for back o p x w
+      → Agree (Inter G A q for back o p) s a (S.blocks G false isFar cbp q (natAbs A) x) (O.blocks g m false cbp w)
+  unfolding S.blocks O.blocks
+  inter-blocks isFar o p cbp x w a r =
+      a-for (λ i. Inter G A q for back o p) 6 (S.block G false isFar cbp q (natAbs A)) (O.patternBlock g m false cbp) (λ i h x w a r.
+      some i h x w a r (flag cbp (2 ^ (5 - i)))) r
     where
-      some : (t : Bool) → Agree (Inter G A q for back o p) s a (cond (t || false) (S.nonIntraBlock G q (natAbs A) (5 - k) x) (give x))
-          (cond t (O.oneBlock g m false (5 - k) w) (give w))
-      some true = inter-block o p k (omega arith) x w a r
-      some false = a-give r
+      some : (i : ℕ) → i < 6 → (x : S.Blocks) (w : World) (a : ℕ) → Inter G A q for back o p x w → (t : Bool)
+          → Agree (Inter G A q for back o p) s a (cond (t || false) (S.nonIntraBlock G q (natAbs A) i x) (give x))
+          (cond t (O.oneBlock g m false i w) (give w))
+      some i h x w a r true = inter-block o p i h x w a r
+      some i h x w a r false = a-give r

@@ -9,7 +9,7 @@ use lib.ListN.{getD, replicate}
 use Rattle.laws.specs.Signed.{clamp255, odd}
 use Rattle.laws.specs.Stores.{storeRow, storeRows}
 use Rattle.bits.specs.Bits.{bitAt, bitsAt, got, next}
-use Rattle.bits.specs.Programs.{run, bind, loop}
+use Rattle.bits.specs.Programs.{run, bind, forBelow, loop}
 use Rattle.codes.specs.Tables as Tables
 use Rattle.codes.specs.Standard.{macroblockTypeIntraCodes, macroblockTypePredictiveCodes, macroblockTypeBCodes}
 use Rattle.codes.specs.Walk.{walkTurn, walk, vlc}
@@ -88,7 +88,7 @@ pub record Slices : Type 0 where
   pub b-row : row (slice rust 3 bothWaysBytes) ≡ 50 ∷ 50 ∷ 90 ∷ []
 
 pub slices : Slices
-unfolding clamp255 odd storeRow storeRows bitAt bitsAt got next run bind loop
+unfolding clamp255 odd storeRow storeRows bitAt bitsAt got next run bind forBelow loop
     Tables.macroblockAddressIncrementIndex Tables.macroblockAddressIncrementValue Tables.macroblockTypeIntraIndex Tables.macroblockTypeIntraValue
     Tables.macroblockTypePredictiveIndex Tables.macroblockTypePredictiveValue Tables.macroblockTypeBIndex Tables.macroblockTypeBValue
     Tables.motionIndex Tables.motionValue Tables.dctSizeLuminanceIndex Tables.dctSizeLuminanceValue Tables.dctSizeChrominanceIndex

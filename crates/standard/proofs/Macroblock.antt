@@ -87,7 +87,7 @@ module _ (rule : Rule) (g : Context) (m : Matrices) (df db : S.Direction) (s : L
   theirRest intra pattern q for back =
       onward (step (cond intra (on l) (S.predicted G t (natAbs A) for back l))) (λ p.
       onward (cond pattern (plain codeBlockPattern) (give 0)) (λ cbp.
-      onward (S.blocks G intra (S.far A x) cbp q (natAbs A) 6 (record { past = x .past; pels = p })) (λ b. give (after intra q for back b))))
+      onward (S.blocks G intra (S.far A x) cbp q (natAbs A) (record { past = x .past; pels = p })) (λ b. give (after intra q for back b))))
 
   abbrev oursRest : Bool → Bool → Slice → Prog (Way World)
   oursRest intra pattern y =
@@ -98,10 +98,10 @@ module _ (rule : Rule) (g : Context) (m : Matrices) (df db : S.Direction) (s : L
   intra-rest : (q : ℕ) (f b : S.Vector) (a : ℕ) (y cb cr : ℤ) → flag t 1 ≡ true → flag t 8 ≡ false → pastStart A x ≡ eights (own (flag t 8) (flag t 4) y cb cr)
       → Agree (Related G false) s a (theirRest true false q f b)
       (oursRest true false (sliceOf G A q S.zero-vector S.zero-vector (own (flag t 8) (flag t 4) y cb cr)))
-  unfolding onward leave bind plain O.blocks
+  unfolding onward leave bind plain
   intra-rest q f b a y cb cr h1 h8 p =
       a-after (after true q f b)
-      (intra-blocks rule g m df db A q S.zero-vector S.zero-vector s (S.far A x) (flag t 8) (flag t 4) 0 6 (omega arith) _ _ a
+      (intra-blocks rule g m df db A q S.zero-vector S.zero-vector s (S.far A x) (flag t 8) (flag t 4) 0 _ _ a
       (record { y = y; cb = cb; cr = cr; is = refl; past = left-six (S.far A x) (x .past) ∙ p })) (λ z w r.
       related G (after true q f b z) w (own (flag t 8) (flag t 4) (r .y) (r .cb) (r .cr)) S.zero-vector S.zero-vector (for-0 (eqb (g .«picture_type») 2))
       (rw h1 (back-0 (eqb (g .«picture_type») 3))) (zero-in df) (zero-in db) (r .is) refl refl
@@ -120,14 +120,14 @@ module _ (rule : Rule) (g : Context) (m : Matrices) (df db : S.Direction) (s : L
       → (flag t 8 ≡ false → eqb (g .«picture_type») 2 ≡ true → f ≡ S.zero-vector)
       → (eqb (g .«picture_type») 3 ≡ false → b ≡ S.zero-vector) → leZ (x .«past_intra_address») (x .«previous_macroblock_address») ≡ true → 1 ≤ n
       → Agree (Related G false) s a (theirRest false (flag t 2) q f b) (oursRest false (flag t 2) (sliceOf G A q f b (reset t)))
-  unfolding O.blocks plain bind
+  unfolding plain bind
   inter-rest q f b a h1 i j kf kb order some =
       a-onward _ _ (a-step _ _ (predicted-meets G A q f b (reset t) t (natAbs A) l (λ e. (refl, refl)))) (λ p p′ e same.
       subst (λ (p′ : List ℕ). Agree (Related G false) s e (afterPrediction p) (ourPattern p′)) same (
       a-onward _ _ (patterns (flag t 2) e) (λ cbp c e z.
       subst (λ (c : ℕ). Agree (Related G false) s e (theirBlocks p cbp) (ourBlocks p c)) z (
       a-after (after false q f b)
-      (inter-blocks rule g m df db A q f b s (S.far A x) (reset t) (x .past) cbp 6 (omega arith) _ _ e (record { is = refl; past = refl })) (λ z w r.
+      (inter-blocks rule g m df db A q f b s (S.far A x) (reset t) (x .past) cbp _ _ e (record { is = refl; past = refl })) (λ z w r.
       related G (after false q f b z) w (reset t) f b (for-is (eqb (g .«picture_type») 2) kf (flag t 8) refl) (back-is (eqb (g .«picture_type») 3) refl)
       i j (r .is) refl refl
       (rw (yes-lt (lit 1) (v (x .«previous_macroblock_address») ⊕ lit n ⊕ lit 1 ⊖ v (x .«past_intra_address»))
@@ -136,13 +136,13 @@ module _ (rule : Rule) (g : Context) (m : Matrices) (df db : S.Direction) (s : L
       (omega (arith, le-yes (v (x .«past_intra_address»)) (v (x .«previous_macroblock_address»)) order))))))))
     where
       theirBlocks : List ℕ → ℕ → Prog (Way S.Variables)
-      theirBlocks p cbp = onward (S.blocks G false (S.far A x) cbp q (natAbs A) 6 (record { past = x .past; pels = p })) (λ b′. give (after false q f b b′))
+      theirBlocks p cbp = onward (S.blocks G false (S.far A x) cbp q (natAbs A) (record { past = x .past; pels = p })) (λ b′. give (after false q f b b′))
 
       afterPrediction : List ℕ → Prog (Way S.Variables)
       afterPrediction p = onward (cond (flag t 2) (plain codeBlockPattern) (give 0)) (theirBlocks p)
 
       ourBlocks : List ℕ → ℕ → Prog (Way World)
-      ourBlocks p c = O.lastBlocks g m false c 6 (world (sliceOf G A q f b (reset t)) freshBlock p)
+      ourBlocks p c = O.blocks g m false c (world (sliceOf G A q f b (reset t)) freshBlock p)
 
       ourPattern : List ℕ → Prog (Way World)
       ourPattern p = onward (plain (cond (flag t 2) (codeBlockPattern) (done 0))) (ourBlocks p)

@@ -15,7 +15,7 @@ use Rattle.laws.proofs.Lists.{length-mid, length-rows, put-before, put-after}
 use Rattle.laws.proofs.Tests.{by-case}
 use Rattle.bits.specs.Bits.{has, got}
 use Rattle.bits.specs.Programs.{Prog, done, run, nextStartCode, many, eqZ}
-use Rattle.bits.proofs.Gives.{Gives, Turned, g-done, g-bind, g-if, g-loop, g-any}
+use Rattle.bits.proofs.Gives.{Gives, Turned, g-done, g-bind, g-if, g-for, g-loop, g-any}
 use Rattle.prediction.specs.declared.place.Macroblock.{Macroblock}
 use Rattle.prediction.specs.declared.place.Place.{Place}
 use Rattle.prediction.specs.declared.planes.Plane.{Plane}
@@ -26,7 +26,7 @@ use Rattle.prediction.specs.Writers.{overwrite, addBlock, blockPlace, blockWidt
 use Rattle.picture.specs.declared.state.Stores.{Stores}
 use Rattle.picture.specs.declared.state.Sizes.{Sizes}
 use Rattle.picture.specs.declared.state.Matrices.{Matrices}
-use Rattle.picture.specs.Ways.{Way, on, out, also, leave, onward}
+use Rattle.picture.specs.Ways.{Way, on, out, also, leave, onward, forBelow}
 use Rattle.standard.specs.Standard as S
 use Rattle.standard.proofs.Agreement.{WayIs}
 
@@ -46,6 +46,15 @@ module _ {s : List ℕ} where
       go : (w : Way A) → WayIs P w → Gives s (WayIs Q) (leave f w)
       go (on x) h = k x h
       go (out n l) h = g-done tt
+
+  g-each : {A : Type 0} {P : A → Type 0} (n : ℕ) (f : ℕ → A → Prog (Way A)) → ((i : ℕ) (x : A) → P x → Gives s (WayIs P) (f i x)) → {x : A} → P x
+      → Gives s (WayIs P) (forBelow n f x)
+  unfolding leave
+  g-each {A} {P} n f keeps h = g-for n (λ i. leave (f i)) go h
+    where
+      go : (i : ℕ) → i < n → (w : Way A) → WayIs P w → Gives s (WayIs P) (leave (f i) w)
+      go i k (on x) h = keeps i x h
+      go i k (out n l) h = g-done tt
 
   -- whatever the first gives
   g-then : {A B : Type 0} {Q : B → Type 0} (p : Prog (Way A)) (f : A → Prog (Way B)) → ((x : A) → Gives s (WayIs Q) (f x))
@@ -187,12 +196,11 @@ module _ (g : S.Coding) (l : List ℕ) (three : g .context .stores .cur * (384 *
         g-if intra (λ e. g-then _ _ (λ zz. g-then _ _ (λ u. g-then _ _ (λ p. g-then _ _ (λ f. g-done (written-spared true i a f (b .pels) h))))))
         (λ e. g-then _ _ (λ p. g-then _ _ (λ f. g-done (written-spared false i a f (b .pels) h))))
 
-    blocks-spared : (intra isFar : Bool) (cbp scale a k : ℕ) (b : S.Blocks) → Blocks b → Gives s (WayIs Blocks) (S.blocks g intra isFar cbp scale a k b)
+    blocks-spared : (intra isFar : Bool) (cbp scale a : ℕ) (b : S.Blocks) → Blocks b → Gives s (WayIs Blocks) (S.blocks g intra isFar cbp scale a b)
     unfolding S.blocks
-    blocks-spared intra isFar cbp scale a zero b h = g-done h
-    blocks-spared intra isFar cbp scale a (suc k) b h =
-        g-onward {P = Blocks} _ (g-if (S.patternCode intra cbp k) (λ e. block-spared intra isFar scale a (5 - k) b h) (λ e. g-done h))
-        (λ x h. blocks-spared intra isFar cbp scale a k x h)
+    blocks-spared intra isFar cbp scale a b h =
+        g-each {P = Blocks} 6 (S.block g intra isFar cbp scale a) (λ i b h.
+        g-if (S.patternCode intra cbp i) (λ e. block-spared intra isFar scale a i b h) (λ e. g-done h)) h
 
     -- ---- macroblocks
 
@@ -201,7 +209,7 @@ module _ (g : S.Coding) (l : List ℕ) (three : g .context .stores .cur * (384 *
     coded-spared first k u v x h =
         g-then _ _ (λ t. g-then _ _ (λ u. g-then _ _ (λ scale. g-then _ _ (λ f. g-then _ _ (λ b.
         g-onward {P = Same} _ (g-done (by-case (WayIs Same) (S.«macroblock_intra» t) (λ e. h) (λ e. predicted-spared t _ f b x h))) (λ x h. g-then _ _ (λ cbp.
-        g-onward {P = Blocks} _ (blocks-spared _ _ cbp scale _ 6 _ h) (λ b h. g-done h))))))))
+        g-onward {P = Blocks} _ (blocks-spared _ _ cbp scale _ _ h) (λ b h. g-done h))))))))
 
     macroblock-spared : (first : Bool) (v : S.Variables) → Variables v → Gives s (WayIs Variables) (S.macroblock g first v)
     unfolding S.macroblock

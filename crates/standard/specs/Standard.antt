@@ -32,7 +32,7 @@ coded g first n last v l = do
   back ← backVector g t (backStart g first last v)
   p ← step (if «macroblock_intra» t then on l else predicted g t (natAbs address) for back l)
   cbp ← if «macroblock_pattern» t then plain codeBlockPattern else give 0
-  b ← blocks g («macroblock_intra» t) (far address v) cbp scale (natAbs address) 6 (record { past = v .past; pels = p })
+  b ← blocks g («macroblock_intra» t) (far address v) cbp scale (natAbs address) (record { past = v .past; pels = p })
   give (record {
     «previous_macroblock_address» = address;
     «past_intra_address» = if «macroblock_intra» t then address else v .«past_intra_address»;

@@ -4,9 +4,9 @@ use Rattle.coefficients.specs.declared.block.BlockEnd.the-variants.{Whole, Drop
 use Rattle.coefficients.specs.{Dcs.dcSize, Standard.dctZZ0, Syntax.Pair, Syntax.Ended, Syntax.pairs}
 use Rattle.prediction.specs.{Planes.planeOf, Planes.planeLength, Writers.overwrite, Writers.addBlock, Writers.blockWidth, Writers.blockPlace}
 use Rattle.picture.specs.Blocks.{matrixFor}
-use Rattle.standard.specs.Standard.Words.{Bool, true, false, _&&_, _||_, List, [], _∷_, ℕ, zero, suc, _+_, _-_, _^_, eqb, ltb, ℤ, pos, negℤ, _+ℤ_}
+use Rattle.standard.specs.Standard.Words.{Bool, true, false, _&&_, _||_, List, [], _∷_, ℕ, _+_, _-_, _^_, eqb, ltb, ℤ, pos, negℤ, _+ℤ_}
 use Rattle.standard.specs.Standard.Words.{_-ℤ_, _*ℤ_, getD, set, replicate, ltZ, leZ, midOf, putMid, Prog, bits, if_then_else_, macroblockAt, planeStart}
-use Rattle.standard.specs.Standard.Words.{Way, on, plain, step, give, _>>=_, _>>_, flag, forbidden, shall}
+use Rattle.standard.specs.Standard.Words.{Way, on, plain, step, give, forBelow, _>>=_, _>>_, flag, forbidden, shall}
 use Rattle.standard.specs.Standard.State.{Coding, Pasts, pasts, Variables}
 
 -- dct_recon so far, row by row, and how many places of the zig-zag order are used
@@ -80,13 +80,15 @@ nonIntraBlock g scale address i b = do
   f ← step (coefficients g false scale (record { recon = replicate 64 (pos 0); n = 0 }) p)
   give (record { past = b .past; pels = written g false i address f (b .pels) })
 
--- 2.4.3.6: pattern_code[i] = 0; if (cbp & (1 << (5 - i))) pattern_code[i] = 1; if (macroblock_intra) pattern_code[i] = 1; here i is 5 - k
+-- 2.4.3.6: pattern_code[i] = 0; if (cbp & (1 << (5 - i))) pattern_code[i] = 1; if (macroblock_intra) pattern_code[i] = 1
 abbrev pub patternCode : Bool → ℕ → ℕ → Bool
-patternCode intra cbp k = flag cbp (2 ^ k) || intra
+patternCode intra cbp i = flag cbp (2 ^ (5 - i)) || intra
 
--- 2.4.2.7: for (i = 0; i < 6; i++) block(i): the last n of them, i = 6 - n first
-unfoldable pub blocks : Coding → Bool → Bool → ℕ → ℕ → ℕ → ℕ → Blocks → Prog (Way Blocks)
-blocks g intra isFar cbp scale address zero b = give b
-blocks g intra isFar cbp scale address (suc k) b = do
-  x ← if patternCode intra cbp k then (if intra then intraBlock g isFar scale address (5 - k) b else nonIntraBlock g scale address (5 - k) b) else give b
-  blocks g intra isFar cbp scale address k x
+-- 2.4.2.8: block(i), if (pattern_code[i])
+abbrev pub block : Coding → Bool → Bool → ℕ → ℕ → ℕ → ℕ → Blocks → Prog (Way Blocks)
+block g intra isFar cbp scale address i b =
+    if patternCode intra cbp i then (if intra then intraBlock g isFar scale address i b else nonIntraBlock g scale address i b) else give b
+
+-- 2.4.2.7: for (i = 0; i < 6; i++) block(i)
+unfoldable pub blocks : Coding → Bool → Bool → ℕ → ℕ → ℕ → Blocks → Prog (Way Blocks)
+blocks g intra isFar cbp scale address b = forBelow 6 (block g intra isFar cbp scale address) b
