@@ -71,8 +71,8 @@ module _ (s : List ℕ) (d : Decoder) (l : List ℕ) where
     go-no zero g e = absurd (g refl)
     go-no (suc n) g e = rw (← e)
 
-    pub go-on : (n : ℕ) → n ≡ 0 → asked n x ≡ askFirst s d l → {r : Left Outcome} → r ≡ ended d x (pictures s (x .sequence .sizes) (x .sequence .matrices) (begun d x l))
-        → r ≡ goOn s d l (askFirst s d l)
+    pub go-on : (n : ℕ) → n ≡ 0 → asked n x ≡ askFirst s d l
+        → {r : Left Outcome} → r ≡ ended d x (pictures s (x .sequence .sizes) (x .sequence .matrices) (begun d x l)) → r ≡ goOn s d l (askFirst s d l)
     unfolding goOn
     go-on zero g e f = rw (← e) f
     go-on (suc n) g e f = absurd (omega arith)

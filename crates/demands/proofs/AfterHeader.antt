@@ -36,7 +36,8 @@ pub find-sequence : (s : List ℕ) (d : Decoder) → length s ≤ longestStream 
 unfolding findSequence nextCode
 find-sequence s d h = go (eqZ (startCode d) (pos 0xb3)) refl (run (findStartCode (pos 0xb3)) s (place d)) (search-end s 0xb3 (place d) h)
   where
-    go : (b : Bool) → eqZ (startCode d) (pos 0xb3) ≡ b → (o : Out ℤ) → SearchEnd s 0xb3 (place d) o → Finds s d (stateAs (cond b (d .state) (S.searchedAs (o .value) (o .at) (d .state))) d)
+    go : (b : Bool) → eqZ (startCode d) (pos 0xb3) ≡ b → (o : Out ℤ) → SearchEnd s 0xb3 (place d) o
+        → Finds s d (stateAs (cond b (d .state) (S.searchedAs (o .value) (o .at) (d .state))) d)
     go true e o k = a-code (had-it (eqZ-is (startCode d) (pos 0xb3) e))
     go false e o (with-code v k) = rw v (a-code (found-it k))
     go false e o (with-none v k) = rw v (no-code k)

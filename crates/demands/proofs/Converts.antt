@@ -27,5 +27,6 @@ abbrev pub stores : List ℕ
 stores = replicate 384 0 ++ (replicate 256 235 ++ (replicate 128 128 ++ replicate 384 0))
 
 pub writes : converted one stores 1 (7 ∷ 7 ∷ []) 1 1 ≡ area Written (0xfffefefe ∷ 7 ∷ [])
-unfolding clamp255 storeRow premultiplierMatrix bounded luma red green blue argb samplePixel outputPixel pixelAt scaled allBelow fresh freshState possible converted
+unfolding clamp255 storeRow premultiplierMatrix bounded luma red green blue argb samplePixel outputPixel pixelAt scaled
+    allBelow fresh freshState possible converted
 writes = refl

@@ -128,4 +128,6 @@ module _ (d : Decoder) (s l : List ℕ) (r : Handed) (m : List ℕ) (gave : Deco
       go x (a-later y (a-later u (a-later v (a-later t (a-later q (this-one e z)))))) = other w e (λ g. omega arith) (λ g. omega arith)
       go x (a-later y (a-later u (a-later v (a-later t (a-later q (a-later o (this-one e z))))))) = other w e (λ g. omega arith) (λ g. omega arith)
       go x (a-later y (a-later u (a-later v (a-later t (a-later q (a-later o (a-later p i))))))) =
-          let h = pictures-number s (withHeader s d .sequence .sizes) (withHeader s d .sequence .matrices) x i in ⊎-elim (λ (g : n ≡ 3). omega arith) (λ (g : n ≡ 4). omega arith) w
+          let q = withHeader s d .sequence in
+          let h = pictures-number s (q .sizes) (q .matrices) x i in
+          ⊎-elim (λ (g : n ≡ 3). omega arith) (λ (g : n ≡ 4). omega arith) w

@@ -12,6 +12,7 @@ use Rattle.picture.specs.Ways.{Way, out}
 use Rattle.picture.specs.Pictures.{Frame}
 use Rattle.header.specs.Store.{cleared}
 use Rattle.decoder.specs.declared.record.Decoder.{Decoder}
+use Rattle.playback.specs.declared.state.State.{State}
 use Rattle.playback.specs.declared.outcome.Outcome.the-variants as H
 use Rattle.decoder.specs.declared.answers.Handed.{Handed}
 use Rattle.decoder.specs.Record.{given, storeBytes}
@@ -30,7 +31,8 @@ module _ (d : Decoder) (s l : List ℕ) where
   -- with a header: 1, 2, the stop mark, 6, and the pictures' 7, 8, 9
   pub asks-headed : d .sequence .«has_sequence_header» ≡ true
       → handOutAsks d s l
-      ≡ Q.isShort s ∷ ask 2 (possible d) ∷ ask (d .stop) (eqb (d .stop) 0) ∷ Q.hasStore d l ∷ picturesAsk s (d .sequence .sizes) (d .sequence .matrices) (given d l)
+      ≡ Q.isShort s ∷ ask 2 (possible d) ∷ ask (d .stop) (eqb (d .stop) 0) ∷ Q.hasStore d l ∷
+      picturesAsk s (d .sequence .sizes) (d .sequence .matrices) (given d l)
   unfolding handOutAsks begun
   asks-headed h = rw h refl
 
@@ -96,23 +98,25 @@ module _ (d : Decoder) (s l : List ℕ) (r : Handed) (m : List ℕ) (gave : Deco
     abbrev endAt : Way Frame
     endAt = pictureEnd s (d .sequence .sizes) (d .sequence .matrices) (atPicture s (given d l))
 
+    -- the state before it
+    abbrev before : State
+    before = atPicture s (given d l) .state
+
     -- the store is too short for the header that an earlier call read
     pub says-6 : length l < storeBytes d → r .outcome ≡ H.Refused 6
     unfolding firstNo
     says-6 k = says 6 (omega arith) (from _ b (asks-headed d s l header) ∙ rw (lt-leb (storeBytes d) (length l) k) refl)
 
     -- no picture to decode, and none to flush
-    pub says-7 : storeBytes d ≤ length l → isThere s (atPicture s (given d l) .state) ≡ false → isFlush s (atPicture s (given d l) .state) ≡ false → r .outcome ≡ H.Refused 7
+    pub says-7 : storeBytes d ≤ length l → isThere s before ≡ false → isFlush s before ≡ false → r .outcome ≡ H.Refused 7
     unfolding firstNo picturesAsk turnAsks
     says-7 k t u = says 7 (omega arith) (from _ b (asks-headed d s l header) ∙ rw (le-leb (storeBytes d) (length l) k, t, u))
 
     -- the picture leaves early with 8
-    pub says-8 : storeBytes d ≤ length l → isThere s (atPicture s (given d l) .state) ≡ true → {x : List ℕ} → endAt ≡ out 8 x
-        → r .outcome ≡ H.Refused 8
+    pub says-8 : storeBytes d ≤ length l → isThere s before ≡ true → {x : List ℕ} → endAt ≡ out 8 x → r .outcome ≡ H.Refused 8
     unfolding firstNo picturesAsk turnAsks
     says-8 k t e = says 8 (omega arith) (from _ b (asks-headed d s l header) ∙ rw (le-leb (storeBytes d) (length l) k, t, e))
 
-    pub says-9 : storeBytes d ≤ length l → isThere s (atPicture s (given d l) .state) ≡ true → {x : List ℕ} → endAt ≡ out 9 x
-        → r .outcome ≡ H.Refused 9
+    pub says-9 : storeBytes d ≤ length l → isThere s before ≡ true → {x : List ℕ} → endAt ≡ out 9 x → r .outcome ≡ H.Refused 9
     unfolding firstNo picturesAsk turnAsks
     says-9 k t e = says 9 (omega arith) (from _ b (asks-headed d s l header) ∙ rw (le-leb (storeBytes d) (length l) k, t, e))

@@ -159,7 +159,8 @@ module _ (s : List ℕ) (g : Context) (l : List ℕ) (area : g .sizes .«mb_size
     next = λ n x h k. tt;
     skips = λ n x h k. tt;
     heads = λ t x k. g-any (head (g .«picture_type») t x);
-    blocks = λ intra number x c h k j. g-as (λ r e. record { slice = tt; block = tt; outside = λ o m i. (i, dc (e (ap isOutside o))) }) (block-caused _ _ _ _ _);
+    blocks = λ intra number x c h k j.
+        g-as (λ r e. record { slice = tt; block = tt; outside = λ o m i. (i, dc (e (ap isOutside o))) }) (block-caused _ _ _ _ _);
     writes = written-same;
     predicts = λ a from h v interpolate m e.
         next-ways S O _ _ (plane-ways a from interpolate Y h v m e) (λ m₁ e₁.

@@ -76,7 +76,9 @@ followed s a short h = go (run (findStartCode (pos 0)) s a) (sought (pos 0) s a 
 
 there : (s : List ℕ) {z : Sizes} (x : TurnState) → length s ≤ longestStream → KeepsAt s z x → Behind s (x .state) → isThere s (x .state) ≡ true
     → place (x .state) + 40 ≤ length s * 8
-there s x short k (at-code c) i = followed s (place (x .state)) short (k .ahead c) (both (not (eqZ (startCode (x .state)) (negsuc 0))) (isFollowed s (place (x .state))) i .1)
+there s x short k (at-code c) i =
+    let a = place (x .state) in
+    followed s a short (k .ahead c) (both (not (eqZ (startCode (x .state)) (negsuc 0))) (isFollowed s a) i .1)
 there s x short k (at-end c b) i = no-code s (x .state) c i
 
 -- ---- a turn

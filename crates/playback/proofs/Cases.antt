@@ -18,7 +18,8 @@ use Rattle.playback.specs.State.{place, startCode, held, pastFrame, held
 use Rattle.playback.specs.Search.{nextPicture, isFollowed}
 use Rattle.playback.specs.Display.{Result, told, isWaiting, counted, handed, shown, flushed}
 use Rattle.playback.specs.Turns.{TurnState, inState, Ended, gave, among, atPicture, pictureRun, pastPicture, decoded, searched, pictureTurn}
-use Rattle.playback.specs.Cases.{isThere, isFlush, isB, Reads, leftBy, countedPast, b-picture, held-picture, flushed-picture, TurnIs, gives, holds, leaves, is-seven}
+use Rattle.playback.specs.Cases.{isThere, isFlush, isB, Reads, leftBy, countedPast, b-picture, held-picture, flushed-picture}
+use Rattle.playback.specs.Cases.{TurnIs, gives, holds, leaves, is-seven}
 
 module _ (s : List ℕ) (z : Sizes) (m : Matrices) (x : TurnState) where
   shown-is : (f : Frame) (a : ℕ) → isThere s (x .state) ≡ true → Reads s z m x f a

@@ -20,7 +20,8 @@ use Rattle.playback.specs.declared.state.State.{State}
 use Rattle.playback.specs.State.{place, startCode, pastFrame}
 use Rattle.playback.specs.Search.{nextPicture, isFollowed}
 use Rattle.playback.specs.Display.{shown, flushed}
-use Rattle.playback.specs.Turns.{TurnState, turnState, inState, Ended, gave, among, frameOf, pictureRun, pastPicture, decoded, searched, pictureTurn, pictures}
+use Rattle.playback.specs.Turns.{TurnState, turnState, inState, Ended, gave, among, frameOf}
+use Rattle.playback.specs.Turns.{pictureRun, pastPicture, decoded, searched, pictureTurn, pictures}
 use Rattle.playback.specs.Turned.{endOf, turnOf}
 use Rattle.playback.proofs.TwoTurns.{Holds, isStop, goes-held, held-stops}
 

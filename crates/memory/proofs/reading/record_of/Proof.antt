@@ -37,8 +37,16 @@ returns c =
 
 pub record-of-spec : {M : Type 1} → statement M
 record-of-spec =
-    tie.close (tie.spec (λ c. omega (arith, roomed (entry c) .numbers)) (λ c κs. let r = roomed (entry c) in (r .numbers, r .matrices))
-    picture-in-requires (λ c κs. roomed (entry (c .before .before)) .integers) (λ c. omega (arith, roomed (read c) .numbers))
-    (λ c. omega (arith, roomed (read (c .before)) .numbers)) (λ c. let s = read (c .before) in omega (arith, short-at (now (s .args .numbers)) (ranged s) 19 refl))
+    tie.close
+    (tie.spec
+    (λ c. omega (arith, roomed (entry c) .numbers))
+    (λ c κs. let r = roomed (entry c) in (r .numbers, r .matrices))
+    picture-in-requires
+    (λ c κs. roomed (entry (c .before .before)) .integers)
+    (λ c. omega (arith, roomed (read c) .numbers))
+    (λ c. omega (arith, roomed (read (c .before)) .numbers))
+    (λ c. let s = read (c .before) in omega (arith, short-at (now (s .args .numbers)) (ranged s) 19 refl))
     (λ c. omega (arith, roomed (read (c .before .before)) .numbers))
-    (λ c. let s = read (c .before .before) in omega (arith, short-at (now (s .args .numbers)) (ranged s) 20 refl)) (λ c κs. roomed (read (c .before .before)) .clock) returns)
+    (λ c. let s = read (c .before .before) in omega (arith, short-at (now (s .args .numbers)) (ranged s) 20 refl))
+    (λ c κs. roomed (read (c .before .before)) .clock)
+    returns)

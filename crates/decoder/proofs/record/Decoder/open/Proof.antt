@@ -15,7 +15,7 @@ ask-header-requires : tie.Need-ask-header-requires
 ask-header-requires c κs = (rw (c .before .fresh .ensures) fit-fresh, c .if1 .left)
 
 -- the answer to all four questions
-asks : (a : tie.After-ask-store) → let s = a .before .before .before .before .before .before in
+asks : (a : tie.After-ask-store) → let f = a .before .before .before in let s = f .before .before .before in
     asked (a .ask-store .result .answer) (a .ask-store .result .decoder) ≡ askStore fresh (s .args .store .now) (askHeader (s .args .stream .now) fresh)
 asks a =
     let h = a .before in
