@@ -6,29 +6,33 @@ use Rattle.listing.proofs.Writing.{fewest-few, wrote-field}
 use Rattle.listing.proofs.text.write_field.Statement.{statement}
 use Rattle.listing.proofs.text.write_field.Tie as tie
 
+-- the entry, seen from the digits; the digits, seen from where they are written
+abbrev entry : tie.After-decimal → tie.Start
+entry d = d .before .before .before
+
+abbrev digits : tie.After-write-bytes → tie.After-decimal
+digits w = w .before .before .before
+
 -- 20 digits at most
-few : (c : tie.After-decimal) → c .decimal .result ≤ 20
-few c = fewest-few (c .decimal .result) (c .before .before .before .args .n) (c .decimal .ensures .1 .0) (c .before .before .before .fits .n .fits)
+few : (d : tie.After-decimal) → d .decimal .result ≤ 20
+few d = fewest-few (d .decimal .result) (entry d .args .n) (d .decimal .ensures .1 .0) (entry d .fits .n .fits)
 
 write-bytes-requires : tie.Need-write-bytes-requires
 write-bytes-requires c κs = omega (arith, few (c .before .before), c .before .before .decimal .ensures)
 
-abbrev entry : tie.After-write-bytes → tie.Start
-entry c = c .before .before .before .before .before .before
-
 -- the place behind the digits
-low : (c : tie.After-write-bytes) → c .write-bytes .result ≤ entry c .args .at + 20
-low c = let d = c .before .before .before in omega (arith, few d, d .decimal .ensures, c .write-bytes .ensures .place)
+low : (w : tie.After-write-bytes) → w .write-bytes .result ≤ entry (digits w) .args .at + 20
+low w = let d = digits w in omega (arith, few d, d .decimal .ensures, w .write-bytes .ensures .place)
 
 -- what was asked of the page
-asked : (c : tie.After-write-bytes) → entry c .args .at + 21 ≤ length (entry c .args .page .now)
-asked c = entry c .pre
+asked : (w : tie.After-write-bytes) → let s = entry (digits w) in s .args .at + 21 ≤ length (s .args .page .now)
+asked w = entry (digits w) .pre
 
 returns : tie.Need-returns
 returns c =
     let w = c .before .before in
-    let d = w .before .before .before in
-    let a = d .before .before .before in (
+    let d = digits w in
+    let a = entry d in (
       wrote-field (a .args .n) (a .args .end) (d .decimal .result) _ _ _ _ _ (d .decimal .ensures .1 .0) (a .fits .n .fits) (d .decimal .ensures .1 .1)
           (w .write-bytes .ensures),
       omega (arith, low w),

@@ -5,27 +5,30 @@ use Rattle.memory.specs.Fields.{fields, TypedNumbers}
 use Rattle.memory.proofs.apart.numbers_of.Statement.{statement}
 use Rattle.memory.proofs.apart.numbers_of.Tie as tie
 
--- the record, seen from the place where a field of it is read
-abbrev entry : tie.After-flag → Decoder
-entry c = c .before .before .before .before .before .before .args .d
+-- the entry, seen from the header's flag; that, seen from the motions; the record, seen from the place where a field of it is read
+abbrev entry : tie.After-flag → tie.Start
+entry c = let slice = c .before .before .before in slice .before .before .before
 
-abbrev behind-forward : tie.After-struct-known3 → Decoder
-behind-forward c = entry (c .before .before .before .before .before)
+abbrev header : tie.After-struct-known3 → tie.After-flag
+header c = let scale = c .before .before .before in scale .before .before
 
-abbrev behind-backward : tie.After-struct-known4 → Decoder
-behind-backward c = behind-forward (c .before .before .before)
+abbrev forward-of : tie.After-struct-known4 → tie.After-struct-known3
+forward-of c = c .before .before .before
+
+abbrev behind : tie.After-flag → Decoder
+behind c = entry c .args .d
 
 -- of the types of the fields
-type : (c : tie.After-struct-known) → entry (c .before) .state .picture .«picture_type» ≤ 4294967295
+type : (c : tie.After-struct-known) → behind (c .before) .state .picture .«picture_type» ≤ 4294967295
 type c = search needs
 
-scale : (c : tie.After-struct-known2) → entry (c .before .before) .state .picture .slice .«quantizer_scale» ≤ 4294967295
+scale : (c : tie.After-struct-known2) → behind (c .before .before) .state .picture .slice .«quantizer_scale» ≤ 4294967295
 scale c = search needs
 
-forward : (c : tie.After-struct-known3) → behind-forward c .state .picture .slice .«motion_forward» .«r_size» ≤ 4294967295
+forward : (c : tie.After-struct-known3) → behind (header c) .state .picture .slice .«motion_forward» .«r_size» ≤ 4294967295
 forward c = search needs
 
-backward : (c : tie.After-struct-known4) → behind-backward c .state .picture .slice .«motion_backward» .«r_size» ≤ 4294967295
+backward : (c : tie.After-struct-known4) → behind (header (forward-of c)) .state .picture .slice .«motion_backward» .«r_size» ≤ 4294967295
 backward c = search needs
 
 handed : (s : tie.Start) → s .args .d .state .display .«frames_decoded» ≤ 4294967295
@@ -34,10 +37,10 @@ handed s = search needs
 stop : (s : tie.Start) → s .args .d .stop ≤ 4294967295
 stop s = search needs
 
-typed : (c : tie.After-struct-known4) → TypedNumbers (fields .numbers) (behind-backward c)
+typed : (c : tie.After-struct-known4) → TypedNumbers (fields .numbers) (behind (header (forward-of c)))
 typed c =
-    let f = c .before .before .before in let q = f .before .before .before in
-    let s = q .before .before .before .before .before .before .before .before in
+    let f = forward-of c in let q = f .before .before .before in
+    let s = entry (header f) in
     (type (q .before), (scale q, (forward f, (backward c, (handed s, (stop s, tt))))))
 
 -- a law for each flag

@@ -11,7 +11,7 @@ use Rattle.memory.proofs.reading.matrix_in.Statement.{statement}
 use Rattle.memory.proofs.reading.matrix_in.Tie as tie
 
 abbrev entry : tie.After-values2 → tie.Start
-entry c = c .before .before .before .before .before
+entry c = let values = c .before .before .before in values .before .before
 
 returns : tie.Need-returns
 returns c =

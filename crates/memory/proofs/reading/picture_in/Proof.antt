@@ -10,7 +10,7 @@ use Rattle.memory.proofs.reading.picture_in.Tie as tie
 
 -- the entry, seen from the scale on
 abbrev entry : tie.After-shared-slice-known6 → tie.Start
-entry c = c .before .before .before .before .before .before .before
+entry c = let code = c .before .before .before .before in code .before .before .before
 
 cast-picture-type : tie.Need-cast-picture-type
 cast-picture-type c = omega (arith, let s = c .before .before in short-at (now (s .args .numbers)) (s .pre .0) 7 refl)

@@ -13,15 +13,15 @@ use Rattle.mpeg1.proofs.calls.hand_out.Tie as tie
 abbrev lent : tie.Start → Memory
 lent s = memory (now (s .args .numbers)) (now (s .args .integers)) (now (s .args .matrices)) (now (s .args .clock))
 
--- the calls, from the last one back to the entry
+-- the calls, from the last one back to the entry; between two of them the parts of the record are lent and given back
 abbrev at-save : tie.After-slice-known8 → tie.After-save
-at-save c = c .before .before .before .before .before .before .before
+at-save c = let integers = c .before .before .before .before in integers .before .before .before
 
 abbrev at-decode : tie.After-save-arg4 → tie.After-decode
-at-decode c = c .before .before .before .before .before .before
+at-decode c = let store = c .before .before .before .before in store .before .before
 
 abbrev entry : tie.After-record-of-arg4 → tie.Start
-entry c = c .before .before .before .before .before .before .before .before .before
+entry c = let known = c .before .before .before .before in let numbers = known .before .before .before in numbers .before .before
 
 -- the memory that `save` has written
 abbrev saved-in : tie.After-save → Memory

@@ -17,18 +17,18 @@ use Rattle.bits.specs.Bounds.{longestStream}
 abbrev lent : tie.Start → Memory
 lent s = memory (now (s .args .numbers)) (now (s .args .integers)) (now (s .args .matrices)) (now (s .args .clock))
 
--- the calls, from the last one back to the entry
+-- the calls, from the last one back to the entry; between two of them the parts of the record are lent and given back
 abbrev at-hand-out : tie.After-slice-known9 → tie.After-hand-out
-at-hand-out c = c .before .before .before .before .before .before .before .before .before
+at-hand-out c = let integers = c .before .before .before .before in let store = integers .before .before .before .before in store .before
 
 abbrev asked : tie.After-hand-out-arg5 → tie.Else3
-asked c = c .before .before .before .before .before
+asked c = let first = c .before .before .before .before in first .before
 
 abbrev roomy : tie.After-is-record → tie.Else2
-roomy c = c .before .before .before .before .before
+roomy c = let first = c .before .before .before .before in first .before
 
 abbrev entry : tie.After-slice-known5 → tie.Start
-entry c = c .before .before .before .before .before .before
+entry c = let numbers = c .before .before .before in numbers .before .before .before
 
 abbrev begun : tie.Else2 → tie.Start
 begun c = entry (c .before .before)

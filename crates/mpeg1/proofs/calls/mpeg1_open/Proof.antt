@@ -13,15 +13,19 @@ use Rattle.mpeg1.proofs.calls.mpeg1_open.Tie as tie
 abbrev lent : tie.Start → Memory
 lent s = memory (now (s .args .numbers)) (now (s .args .integers)) (now (s .args .matrices)) (now (s .args .clock))
 
--- the calls, from the last one back to the entry
+-- the calls, from the last one back to the entry; between two of them the parts of the record are lent and given back
 abbrev at-save : tie.After-opening-number → tie.After-save
-at-save c = c .before .before .before .before .before .before .before .before
+at-save c = let matrices = c .before .before .before .before in matrices .before .before .before .before
 
 abbrev at-open : tie.After-save-arg4 → tie.After-open
-at-open c = c .before .before .before .before .before .before
+at-open c = let store = c .before .before .before .before in store .before .before
 
 abbrev entry : tie.After-has-room → tie.Start
-entry c = c .before .before .before .before .before .before .before .before .before .before
+entry c = let lent = c .before .before .before .before in let numbers = lent .before .before .before in numbers .before .before .before
+
+-- the memory that `save` has written
+abbrev saved-in : tie.After-save → Memory
+saved-in w = let x = w .save .last .1 in memory (x .0) (x .1 .0) (x .1 .1 .0) (x .1 .1 .1 .0)
 
 -- behind the question
 roomy-is : (c : tie.Else1) → roomy (lent (entry (c .before))) ≡ true
@@ -41,8 +45,7 @@ returns-2 c =
     let w = at-save c in let o = at-open (w .before) in let q = o .before .before in let s = entry (q .before) in
     let x = w .save .ensures in (
       opens (now (s .args .stream)) (now (s .args .store)) (lent s) (roomy-is q) (o .«open» .ensures) (c .opening-number .ensures) (x .0),
-      λ h. subst (λ (z : Decoder). Holds (memory (w .save .last .1 .0) (w .save .last .1 .1 .0) (w .save .last .1 .1 .1 .0) (w .save .last .1 .1 .1 .1 .0)) z)
-          (ap (λ y. y .decoder) (o .«open» .ensures)) (x .1),
+      λ h. subst (λ (z : Decoder). Holds (saved-in w) z) (ap (λ y. y .decoder) (o .«open» .ensures)) (x .1),
     )
 
 pub mpeg1-open-spec : {M : Type 1} → statement M

@@ -18,7 +18,7 @@ lent s k = memory (now (s .args .numbers)) (now (s .args .integers)) (now (s .ar
 
 -- the question, and the entry
 abbrev entry : tie.After-is-record → tie.Start
-entry c = c .before .before .before .before .before .before
+entry c = let area = c .before .before in area .before .before .before .before
 
 record-test : (c : tie.After-is-record) → c .is-record .result ≡ isRecord (lent (entry c) still)
 record-test c = c .is-record .ensures ∙ ap (λ z. isRecord (lent (entry c) z)) still-is
