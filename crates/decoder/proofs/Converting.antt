@@ -18,7 +18,7 @@ use Rattle.decoder.specs.Conversion.{area, converted}
 use Rattle.decoder.proofs.Fits.{possible-parts}
 
 pub headed : (d : Decoder) → possible d ≡ true → d .sequence .«has_sequence_header» ≡ true → Headed (d .sequence)
-headed d e t = headed-by (d .sequence) (possible-parts d e .1) t
+headed d e t = headed-by (d .sequence) (possible-parts d e .sequence) t
 
 -- RULES Q: the answers, in the order of the questions
 module _ (d : Decoder) (l : List ℕ) (k : ℕ) (a : List ℕ) (w h : ℕ) where

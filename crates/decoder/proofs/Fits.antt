@@ -1,13 +1,14 @@
 -- Where a record fits: what question 2 asks for is enough, and the changes of the record keep it. Assumes nothing.
 use mathlib.Core.Path.{_≡_, refl}
-use mathlib.Core.Bool.{Bool, true, false, _&&_, _||_, and-assoc, and-comm}
+use mathlib.Core.Bool.{Bool, true, false, _&&_, and-assoc, and-comm}
 use mathlib.Core.List.{List, [], _∷_}
+use mathlib.Core.Logic.{_⊎_, ⊎-elim}
 use Prim.Native.Nat.{ℕ, _≤_}
 use native.Mathlib.Omega.{arith}
-use lib.Dec.{eqb, leb}
+use lib.Dec.{leb}
 use lib.IntN.{pos}
 use lib.ListN.{length}
-use borrow.Author.Tests.{leb-true}
+use borrow.Author.Tests.{leb-true, le-leb}
 use Rattle.laws.proofs.Tests.{each}
 use Rattle.bits.specs.Bounds.{longestStream, lastPosition}
 use Rattle.codes.specs.Matrices.{bounded}
@@ -17,11 +18,12 @@ use Rattle.picture.proofs.Possible.{picture-of}
 use Rattle.header.specs.Possible.{possibleSequence}
 use Rattle.header.specs.Sequences.{Size, Rest}
 use Rattle.header.proofs.Sizing.{sized-of, possible-sized}
-use Rattle.playback.specs.State.{frames, freshState, mostPictures}
+use Rattle.playback.specs.State.{freshState, possibleDisplay}
+use Rattle.playback.proofs.Displays.{timed-possible}
 use Rattle.playback.proofs.Fits.{next-fits}
 use Rattle.decoder.specs.declared.record.Decoder.{Decoder}
-use Rattle.decoder.specs.Record.{place, fresh}
-use Rattle.decoder.specs.Possible.{possible}
+use Rattle.decoder.specs.Record.{place, fresh, stopAs}
+use Rattle.decoder.specs.Possible.{possibleMark, possible}
 use Rattle.decoder.specs.Headers.{findSequence, sized, accepted}
 use Rattle.decoder.specs.Fit.{Fit}
 use Rattle.decoder.proofs.Starts.{fresh-starts}
@@ -29,43 +31,70 @@ use Rattle.decoder.proofs.Starts.{fresh-starts}
 -- ---- question 2
 
 -- its parts
-pub possible-parts : (d : Decoder) → possible d ≡ true
-    → (place d ≤ lastPosition) × (possibleSequence (d .sequence) ≡ true) × (possiblePicture (d .state .picture) ≡ true)
-    × (bounded (d .«block_data») ≡ true) × (frames (d .state) ≤ mostPictures)
+pub record Possible (d : Decoder) : Type 0 where
+  pub inside : place d ≤ lastPosition
+  pub sequence : possibleSequence (d .sequence) ≡ true
+  pub picture : possiblePicture (d .state .picture) ≡ true
+  pub block : bounded (d .«block_data») ≡ true
+  pub display : possibleDisplay (d .state .display) ≡ true
+  pub mark : possibleMark (d .stop) ≡ true
+
+pub possible-parts : (d : Decoder) → possible d ≡ true → Possible d
 unfolding possible
 possible-parts d e =
     let h = each (leb (place d) lastPosition)
-    (possibleSequence (d .sequence) ∷ possiblePicture (d .state .picture) ∷ bounded (d .«block_data») ∷ leb (frames (d .state)) mostPictures ∷
-    (eqb (d .stop) 0 || eqb (d .stop) 8 || eqb (d .stop) 9) ∷ []) e in
-    (leb-true _ _ (h 0), h 1, h 2, h 3, leb-true _ _ (h 4))
+    (possibleSequence (d .sequence) ∷ possiblePicture (d .state .picture) ∷ bounded (d .«block_data») ∷ possibleDisplay (d .state .display) ∷
+    possibleMark (d .stop) ∷ []) e in
+    record { inside = leb-true _ _ (h 0); sequence = h 1; picture = h 2; block = h 3; display = h 4; mark = h 5 }
 
--- the same, as the code joins them: the numbers before the rest
-numbers-first : (a f m q p b : Bool) → (a && f && m && q && p && b) ≡ (a && q && p && b && f && m)
-numbers-first true f m q p b = rw (and-assoc (f && m) q p, and-assoc (f && m) (q && p) b, and-comm (f && m) (q && p && b), ← and-assoc (q && p && b) f m)
-numbers-first false f m q p b = refl
+all-true : {a q p b v m : Bool} → a ≡ true → q ≡ true → p ≡ true → b ≡ true → v ≡ true → m ≡ true → (a && q && p && b && v && m) ≡ true
+all-true a q p b v m = rw (a, q, p, b, v, m)
 
-pub possible-by : (d : Decoder) {n q p b : Bool}
-    → n ≡ (leb (place d) lastPosition && leb (frames (d .state)) mostPictures && (eqb (d .stop) 0 || eqb (d .stop) 8 || eqb (d .stop) 9))
-    → q ≡ possibleSequence (d .sequence) → p ≡ possiblePicture (d .state .picture) → b ≡ bounded (d .«block_data») → (n && q && p && b) ≡ possible d
+pub possible-all : {d : Decoder} → Possible d → possible d ≡ true
 unfolding possible
-possible-by d numbers sequence picture block = rw (numbers, sequence, picture, block, numbers-first (leb (place d) lastPosition))
+possible-all {d} k = all-true (le-leb (place d) lastPosition (k .inside)) (k .sequence) (k .picture) (k .block) (k .display) (k .mark)
+
+-- RULES Q8, Q9: with a stop mark
+pub marked-possible : (d : Decoder) (n : ℕ) → possible d ≡ true → (n ≡ 8) ⊎ (n ≡ 9) → possible (stopAs n d) ≡ true
+marked-possible d n e m =
+    let k = possible-parts d e in
+    possible-all (record {
+      inside = k .inside;
+      sequence = k .sequence;
+      picture = k .picture;
+      block = k .block;
+      display = k .display;
+      mark = ⊎-elim (λ (e : n ≡ 8). rw e refl) (λ (e : n ≡ 9). rw e refl) m;
+    })
+
+-- as the code joins them: the numbers and what is shown before the rest
+numbers-first : (a m v q p b : Bool) → (a && m && v && q && p && b) ≡ (a && q && p && b && v && m)
+numbers-first true m v q p b =
+    rw (and-comm m v, and-assoc (v && m) q p, and-assoc (v && m) (q && p) b, and-comm (v && m) (q && p && b), ← and-assoc (q && p && b) v m)
+numbers-first false m v q p b = refl
+
+pub possible-by : (d : Decoder) {n v q p b : Bool} → n ≡ (leb (place d) lastPosition && possibleMark (d .stop)) → v ≡ possibleDisplay (d .state .display)
+    → q ≡ possibleSequence (d .sequence) → p ≡ possiblePicture (d .state .picture) → b ≡ bounded (d .«block_data») → (n && v && q && p && b) ≡ possible d
+unfolding possible
+possible-by d numbers display sequence picture block =
+    rw (numbers, display, sequence, picture, block, numbers-first (leb (place d) lastPosition))
 
 pub fit-of : {d : Decoder} → possible d ≡ true → Fit d
 fit-of {d} e =
     let p = possible-parts d e in
-    let k = possible-sized (d .sequence) (p .1) in
+    let k = possible-sized (d .sequence) (p .sequence) in
     let z = k .2 in
     record {
       wide = k .0;
       high = k .1;
       state = record {
-        place = p .0;
+        place = p .inside;
         across = z .across;
         down = z .down;
         size = z .size;
-        picture = picture-of (d .state .picture) (p .2);
-        block = bounded-of (d .«block_data») (p .3);
-        count = p .4;
+        picture = picture-of (d .state .picture) (p .picture);
+        block = bounded-of (d .«block_data») (p .block);
+        display = p .display;
       };
     }
 
@@ -83,7 +112,7 @@ fit-fresh = record {
     size = refl;
     picture = picture-of _ (fresh-starts .picture);
     block = bounded-of _ (fresh-starts .block);
-    count = omega arith;
+    display = fresh-starts .display;
   };
 }
 
@@ -100,7 +129,7 @@ fit-sized z f e w h =
     record {
       wide = w;
       high = h;
-      state = record { place = e; across = x .across; down = x .down; size = x .size; picture = x .picture; block = x .block; count = x .count };
+      state = record { place = e; across = x .across; down = x .down; size = x .size; picture = x .picture; block = x .block; display = x .display };
     }
 
 -- RULES O.4: an accepted header
@@ -131,6 +160,6 @@ fit-accepted {d} v f e =
           slice = x .picture .slice;
         };
         block = x .block;
-        count = x .count;
+        display = timed-possible _ (d .state .display) (x .display);
       };
     }

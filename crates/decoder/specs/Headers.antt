@@ -11,7 +11,7 @@ use Rattle.picture.specs.State.{storesAs, firstStores}
 use Rattle.header.specs.Possible.{sizesOf}
 use Rattle.header.specs.Sequences.{Size, Rest, size, rest, aspectOf, rateOf}
 use Rattle.decoder.specs.declared.record.Decoder.{Decoder}
-use Rattle.playback.specs.State.{held, frames, nextTime, shownTime}
+use Rattle.playback.specs.State.{nextTime, shownTime, timedAs}
 use Rattle.playback.specs.Search.{nextCode}
 use Rattle.decoder.specs.Record.{place, startCode, placeAs, sequenceAs, stateAs, storeBytes}
 
@@ -47,16 +47,12 @@ accepted o d = record {
   state = record {
     position = record { 0 = o .at };
     picture = storesAs firstStores (d .state .picture);
-    display = record {
-      clock = record {
-        framerate = rateOf (o .value .«picture_rate»);
-        «pixel_aspect_ratio» = aspectOf (o .value .«pel_aspect_ratio»);
-        time = nextTime (d .state);
-        «last_frame_time» = shownTime (d .state);
-      };
-      «has_reference_frame» = held (d .state);
-      «frames_decoded» = frames (d .state);
-    };
+    display = timedAs (record {
+      framerate = rateOf (o .value .«picture_rate»);
+      «pixel_aspect_ratio» = aspectOf (o .value .«pel_aspect_ratio»);
+      time = nextTime (d .state);
+      «last_frame_time» = shownTime (d .state);
+    }) (d .state .display);
   };
   «block_data» = d .«block_data»;
   stop = d .stop;

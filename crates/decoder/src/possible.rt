@@ -6,21 +6,18 @@ use bits::position::LAST_POSITION;
 use codes::matrices::bounded;
 use header::possible::possible_sequence;
 use picture::limits::possible_picture;
-use playback::state::MOST_PICTURES;
+use playback::state::possible_display;
 ghost use mathlib.Core.Path.{_≡_};
-ghost use mathlib.Core.Bool.{_&&_, _||_};
-ghost use lib.Dec.{eqb, leb};
-ghost use Rattle.decoder.specs.Possible.{possible, possibleWith};
+ghost use mathlib.Core.Bool.{_&&_};
+ghost use lib.Dec.{leb};
+ghost use Rattle.decoder.specs.Possible.{possibleMark, possible, possibleWith};
 ghost use Rattle.bits.specs.Bounds.{lastPosition};
-ghost use Rattle.playback.specs.State.{mostPictures};
 
-// Position, count of pictures handed out, stop mark.
-fn possible_numbers(at: usize, frames_decoded: u32, stop: u32) -> bool
-    ensures { λ r. ⌜ r ≡ (leb at lastPosition && leb «frames_decoded» mostPictures && (eqb stop 0 || eqb stop 8 || eqb stop 9)) ⌝ }
+// Position, stop mark.
+fn possible_numbers(at: usize, stop: u32) -> bool
+    ensures { λ r. ⌜ r ≡ (leb at lastPosition && possibleMark stop) ⌝ }
 {
-    (at <= LAST_POSITION)
-        & (frames_decoded <= MOST_PICTURES)
-        & ((stop == 0) | (stop == 8) | (stop == 9))
+    (at <= LAST_POSITION) & ((stop == 0) | (stop == 8) | (stop == 9))
 }
 
 pub fn possible(d: Decoder) -> bool
@@ -28,10 +25,11 @@ pub fn possible(d: Decoder) -> bool
 {
     let values = d.block_data;
     let left = bounded(&values);
-    let numbers = possible_numbers(d.state.position.0, d.state.display.frames_decoded, d.stop);
+    let numbers = possible_numbers(d.state.position.0, d.stop);
+    let display = possible_display(d.state.display);
     let sequence = possible_sequence(d.sequence);
     let picture = possible_picture(d.state.picture);
-    numbers & sequence & picture & left
+    numbers & display & sequence & picture & left
 }
 
 // As a hand-out asks it, which has a stream.
@@ -40,8 +38,9 @@ pub fn possible_with(s: &[u8], d: Decoder) -> bool
 {
     let values = d.block_data;
     let left = bounded(&values);
-    let numbers = possible_numbers(d.state.position.0, d.state.display.frames_decoded, d.stop);
+    let numbers = possible_numbers(d.state.position.0, d.stop);
+    let display = possible_display(d.state.display);
     let sequence = possible_sequence(d.sequence);
     let picture = possible_picture(d.state.picture);
-    numbers & sequence & picture & left
+    numbers & display & sequence & picture & left
 }

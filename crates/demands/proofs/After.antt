@@ -1,22 +1,19 @@
 -- RULES D1.5, D2.3, QC, QG: what each call leaves behind its numbers, whole.
 use mathlib.Core.Path.{_≡_, refl, sym, ap, subst, _∙_}
 use mathlib.Core.Bool.{Bool, true, false, cond, not, _||_}
-use mathlib.Core.List.{List, [], _∷_}
+use mathlib.Core.List.{List}
 use mathlib.Core.Logic.{_⊎_, inl, inr}
 use Prim.Native.Nat.{ℕ, _-_, _≤_}
 use native.Mathlib.Omega.{arith}
 use lib.Dec.{eqb, leb}
 use lib.ListN.{length, getD}
 use borrow.Author.Tests.{eqb-true, leb-true, leb-false}
-use Rattle.laws.proofs.Tests.{by-case, each}
-use Rattle.codes.specs.Matrices.{bounded}
+use Rattle.laws.proofs.Tests.{by-case}
 use Rattle.picture.specs.declared.state.Matrices.{Matrices}
 use Rattle.picture.specs.declared.state.Sizes.{Sizes}
-use Rattle.picture.specs.Possible.{possiblePicture}
 use Rattle.picture.proofs.Possible.{stores-of, picture-of}
 use Rattle.picture.specs.State.{firstStores}
 use Rattle.header.specs.Store.{cleared}
-use Rattle.header.specs.Possible.{possibleSequence}
 use Rattle.header.proofs.Clearing.{cleared-later, cleared-length}
 use Rattle.decoder.specs.declared.record.Decoder.{Decoder}
 use Rattle.decoder.specs.declared.answers.Opening.{Opening}
@@ -24,13 +21,13 @@ use Rattle.decoder.specs.declared.answers.Opening.the-variants as O
 use Rattle.playback.specs.declared.outcome.Shown.{Shown}
 use Rattle.playback.specs.declared.outcome.Outcome.{Outcome}
 use Rattle.playback.specs.declared.outcome.Outcome.the-variants as H
-use Rattle.playback.specs.State.{frames, mostPictures}
 use Rattle.playback.specs.Turns.{Ended}
-use Rattle.decoder.specs.Record.{Left, given, fresh, place, storeBytes}
-use Rattle.decoder.specs.Possible.{possible, possibleWith}
+use Rattle.decoder.specs.Record.{Left, given, fresh, storeBytes}
+use Rattle.decoder.specs.Possible.{possibleMark, possible, possibleWith}
 use Rattle.decoder.specs.Headers.{Asked, refused, passed, accepted, askHeader, askStore}
 use Rattle.decoder.specs.Opening.{opened, openingFrom, opening}
 use Rattle.decoder.specs.HandOut.{ended, askFirst, begun, goOn, handOut}
+use Rattle.decoder.proofs.Fits.{possible-parts}
 use Rattle.demands.specs.Questions.{withHeader, headed}
 use Rattle.demands.specs.Stores.{SameFrom}
 use Rattle.demands.specs.After as A
@@ -39,7 +36,7 @@ use Rattle.demands.specs.Handing.{Opened, HandsOut}
 use Rattle.demands.proofs.AfterHeader.{AskAfter, IsHeaded, header-after, header-passed}
 use Rattle.demands.proofs.Reached.{same-from, then-same, RoomFor, CallEnd, hands, seven, stops, pictures-end}
 use Rattle.demands.proofs.Keeps.{sized}
-use Rattle.bits.specs.Bounds.{longestStream, lastPosition}
+use Rattle.bits.specs.Bounds.{longestStream}
 
 -- ---- opening
 
@@ -72,21 +69,8 @@ opening-ready s l e = subst (λ (o : Opening). OpeningRow s l o (opening s l .de
 
 -- ---- a possible record
 
-pub record Parts (d : Decoder) : Type 0 where
-  pub sequence : possibleSequence (d .sequence) ≡ true
-  pub picture : possiblePicture (d .state .picture) ≡ true
-  pub block : bounded (d .«block_data») ≡ true
-  pub mark : (eqb (d .stop) 0 || eqb (d .stop) 8 || eqb (d .stop) 9) ≡ true
-
-pub parts : (d : Decoder) → possible d ≡ true → Parts d
-unfolding possible
-parts d p =
-    let x = each (leb (place d) lastPosition) (possibleSequence (d .sequence) ∷ possiblePicture (d .state .picture) ∷ bounded (d .«block_data») ∷
-    leb (frames (d .state)) mostPictures ∷ (eqb (d .stop) 0 || eqb (d .stop) 8 || eqb (d .stop) 9) ∷ []) p in
-    record { sequence = x 1; picture = x 2; block = x 3; mark = x 5 }
-
 -- RULES QA: a stop mark other than 0 is 8 or 9
-marks : (n : ℕ) → (eqb n 0 || eqb n 8 || eqb n 9) ≡ true → eqb n 0 ≡ false → (n ≡ 8) ⊎ (n ≡ 9)
+marks : (n : ℕ) → possibleMark n ≡ true → eqb n 0 ≡ false → (n ≡ 8) ⊎ (n ≡ 9)
 marks n h z = go (eqb n 8) refl (rw z at h)
   where
     go : (b : Bool) → eqb n 8 ≡ b → (b || eqb n 9) ≡ true → (n ≡ 8) ⊎ (n ≡ 9)
@@ -122,7 +106,7 @@ module _ (d : Decoder) (s l : List ℕ) where
       go : (b : Bool) → d .sequence .«has_sequence_header» ≡ b → storeBytes (cond b d (withHeader s d)) ≤ length l
           → let x = cond b d (withHeader s d) in RoomFor (x .sequence .sizes) (given x (cond b l (cleared (storeBytes x) l)))
       go true e h =
-          let q = parts d p in
+          let q = possible-parts d p in
           record { area = sized (d .sequence) e (q .sequence) .area; stores = picture-of (d .state .picture) (q .picture) .stores; long = h }
       go false e h =
           record { area = refl; stores = stores-of firstStores refl; long = omega (arith, h, cleared-length (storeBytes (withHeader s d)) l h) }
@@ -187,7 +171,8 @@ module _ (d : Decoder) (s l : List ℕ) where
       (λ e. record { after = A.after-1 (leb-false (length s) longestStream (not-true (leb (length s) longestStream) e)); same = same-from }) (λ e.
       by-case Row (not (possibleWith s d)) (λ f. record { after = A.after-2 (not-true (possible d) f); same = same-from }) (λ f.
       by-case Row (not (eqb (d .stop) 0))
-      (λ g. record { after = A.after-mark (marks (d .stop) (parts d (not-false (possible d) f) .mark) (not-true (eqb (d .stop) 0) g)); same = same-from })
+      (λ g. let mark = possible-parts d (not-false (possible d) f) .mark in
+      record { after = A.after-mark (marks (d .stop) mark (not-true (eqb (d .stop) 0) g)); same = same-from })
       (λ g. first-row (leb-true (length s) longestStream (not-false (leb (length s) longestStream) e)) (not-false (possible d) f))))
 
   pub hand-after : (n : ℕ) → handOut d s l .answer ≡ H.Refused n → AfterHandOut d s l n (handOut d s l .decoder) (handOut d s l .store)

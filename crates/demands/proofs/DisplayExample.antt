@@ -18,7 +18,7 @@ use Rattle.decoder.specs.Record.{fresh}
 use Rattle.decoder.specs.Possible.{possible}
 use Rattle.decoder.specs.Headers.{findSequence, accepted, askSize, askHeader, askStore}
 use Rattle.decoder.specs.Opening.{opened, openingFrom, opening}
-use Rattle.playback.specs.State.{freshState}
+use Rattle.playback.specs.State.{freshState, possibleDisplay}
 use Rattle.playback.specs.Search.{nextCode, isFollowed}
 use Rattle.playback.specs.Display.{timeOf, counted, handed, shown}
 use Rattle.playback.specs.Turns.{pastPicture, decoded, searched, pictureTurn, pictures}
@@ -40,7 +40,7 @@ pub record Shown : Type 0 where
 pub shown-example : Shown
 unfolding turns allBelow ofInt bitAt bitsAt got next codePrefix codeFrom found run bind loop findTurn findStartCode
     intraQuantMatrix nonIntraQuantMatrix premultiplierMatrix bounded leave onward P.direction P.pictureHeader P.coded P.slicesTurn P.slices P.picture
-    fresh freshState cleared possible matrix size rest findSequence accepted askSize askHeader askStore opened openingFrom opening
+    fresh freshState possibleDisplay cleared possible matrix size rest findSequence accepted askSize askHeader askStore opened openingFrom opening
     nextCode isFollowed timeOf counted handed shown pastPicture decoded searched pictureTurn pictures ended askFirst begun goOn handOut
     displayed waiting turnReads picturesRead handOutReads
 shown-example = record { reads = refl; shows = refl; waits = refl; reads-no-more = refl; shows-no-more = refl }

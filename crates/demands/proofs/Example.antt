@@ -44,7 +44,7 @@ use Rattle.laws.specs.Each.{allBelow}
 use Rattle.decoder.specs.Possible.{possible}
 use Rattle.decoder.specs.Headers.{findSequence, accepted, askSize, askHeader, askStore}
 use Rattle.decoder.specs.Opening.{opened, openingFrom, opening}
-use Rattle.playback.specs.State.{freshState}
+use Rattle.playback.specs.State.{freshState, possibleDisplay}
 use Rattle.playback.specs.Search.{nextCode, isFollowed}
 use Rattle.playback.specs.Display.{timeOf, counted, handed, shown, flushed}
 use Rattle.playback.specs.Turns.{pastPicture, decoded, searched, pictureTurn, pictures}
@@ -177,8 +177,8 @@ unfolding clamp255 half0 odd storeRow storeRows turns allBelow ofInt div
     macroblockType scale vector forward backward vectors head pattern blockPlace results written blockEnd oneBlock blocks skipReset
     advance predictUnlessIntra body firstOf laterOf macroblock extraTurn extra pastMacroblock sliceTurn slice P.direction
     P.pictureHeader P.pastSlice P.slicesTurn P.slices P.coded P.picture
-    fresh freshState cleared possible matrix size rest findSequence accepted askSize askHeader askStore opened openingFrom opening nextCode isFollowed timeOf
-    counted handed shown flushed pastPicture decoded searched pictureTurn pictures ended askFirst begun goOn handOut
+    fresh freshState possibleDisplay cleared possible matrix size rest findSequence accepted askSize askHeader askStore opened openingFrom opening
+    nextCode isFollowed timeOf counted handed shown flushed pastPicture decoded searched pictureTurn pictures ended askFirst begun goOn handOut
 shown-pictures = record {
   hands = refl;
   intra-row = refl;

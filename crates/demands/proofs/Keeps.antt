@@ -9,6 +9,7 @@ use lib.IntN.{ℤ, pos, negℤ}
 use lib.ListN.{length}
 use borrow.Author.Tests.{eqb-true, leb-true}
 use Rattle.laws.proofs.Tests.{both, each}
+use Rattle.bits.specs.Bounds.{longestStream}
 use Rattle.codes.specs.Matrices.{bounded}
 use Rattle.picture.specs.declared.state.Sizes.{Sizes}
 use Rattle.picture.specs.declared.state.Picture.{Picture}
@@ -18,24 +19,27 @@ use Rattle.picture.proofs.Possible.{picture-of, picture-by}
 use Rattle.header.specs.declared.state.Sequence.{Sequence}
 use Rattle.header.specs.Possible.{across, sizesOf, sameSizes, possibleSequence}
 use Rattle.prediction.specs.Planes.{storesBytes}
-use Rattle.playback.specs.State.{place, frames, searchedAs}
+use Rattle.playback.specs.declared.state.Display.{Display}
+use Rattle.playback.specs.State.{place, frames, possibleDisplay, searchedAs, heldAs}
 use Rattle.playback.specs.Display.{counted}
 use Rattle.playback.specs.Turns.{TurnState, inState}
+use Rattle.playback.proofs.Displays.{held-possible, counted-possible}
 use Rattle.decoder.specs.declared.record.Decoder.{Decoder}
 use Rattle.decoder.specs.Record.{given, resumed}
 
--- what the turns keep, of the sizes, the place, the picture, the left-over coefficients, the count of pictures handed out and the store: 29 bits are
--- read for each picture handed out; before a picture start code that is in the state bits are left
-pub record TurnKeeps (s : List ℕ) (z : Sizes) (a : ℕ) (p : Picture) (c : List ℤ) (n : ℕ) (l : List ℕ) : Type 0 where
+-- what the turns keep, of the sizes, the place, the picture, the left-over coefficients, what is shown and the store: 29 bits are read for each
+-- picture handed out; before a picture start code that is in the state bits are left
+pub record TurnKeeps (s : List ℕ) (z : Sizes) (a : ℕ) (p : Picture) (c : List ℤ) (v : Display) (l : List ℕ) : Type 0 where
   pub picture : possiblePicture p ≡ true
   pub block : bounded c ≡ true
   pub long : storesBytes (z .«mb_size») ≤ length l
   pub inside : a ≤ length s * 8
   pub ahead : p .«start_code» ≡ pos 0 → a < length s * 8
-  pub count : 29 * n ≤ a
+  pub display : possibleDisplay v ≡ true
+  pub count : 29 * v .«frames_decoded» ≤ a
 
 abbrev pub KeepsAt : List ℕ → Sizes → TurnState → Type 0
-KeepsAt s z x = TurnKeeps s z (place (x .state)) (x .state .picture) (x .«block_data») (frames (x .state)) (x .store)
+KeepsAt s z x = TurnKeeps s z (place (x .state)) (x .state .picture) (x .«block_data») (x .state .display) (x .store)
 
 -- what a record keeps from an accepted header on, with no stop mark
 pub record Keeps (s : List ℕ) (d : Decoder) (l : List ℕ) : Type 0 where
@@ -59,10 +63,28 @@ code-possible c p h k =
     picture-by {p = startCodeAs c p} (record { type = x .type; code = h; stores = x .stores; slice = x .slice })
 
 module _ {s : List ℕ} {z : Sizes} (x : TurnState) (k : KeepsAt s z x) where
-  pub keeps-counted : 29 * frames (x .state) + 29 ≤ place (x .state) → KeepsAt s z (inState (counted (x .state)) x)
+  pub keeps-counted : length s ≤ longestStream → 29 * frames (x .state) + 29 ≤ place (x .state) → KeepsAt s z (inState (counted (x .state)) x)
   unfolding counted
-  keeps-counted h =
-      record { picture = k .picture; block = k .block; long = k .long; inside = k .inside; ahead = k .ahead; count = omega arith }
+  keeps-counted short h = record {
+    picture = k .picture;
+    block = k .block;
+    long = k .long;
+    inside = k .inside;
+    ahead = k .ahead;
+    display = counted-possible (x .state) (k .display) (omega (arith, k .inside));
+    count = omega arith;
+  }
+
+  pub keeps-held : (b : Bool) → KeepsAt s z (inState (heldAs b (x .state)) x)
+  keeps-held b = record {
+    picture = k .picture;
+    block = k .block;
+    long = k .long;
+    inside = k .inside;
+    ahead = k .ahead;
+    display = held-possible (x .state) (k .display) b;
+    count = k .count;
+  }
 
   pub keeps-searched : (c : ℤ) (e : ℕ) → between (negℤ (pos 1)) (pos 255) c ≡ true → place (x .state) ≤ e → e ≤ length s * 8
       → (c ≡ pos 0 → e < length s * 8)
@@ -73,6 +95,7 @@ module _ {s : List ℕ} {z : Sizes} (x : TurnState) (k : KeepsAt s z x) where
     long = k .long;
     inside = m;
     ahead = a;
+    display = k .display;
     count = omega (arith, k .count);
   }
 

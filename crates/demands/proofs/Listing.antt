@@ -19,7 +19,7 @@ use Rattle.laws.specs.Each.{allBelow}
 use Rattle.decoder.specs.Possible.{possible}
 use Rattle.decoder.specs.Headers.{findSequence, accepted, askSize, askHeader, askStore}
 use Rattle.decoder.specs.Opening.{opened, openingFrom, opening}
-use Rattle.playback.specs.State.{freshState}
+use Rattle.playback.specs.State.{freshState, possibleDisplay}
 use Rattle.playback.specs.Search.{nextCode, isFollowed}
 use Rattle.playback.specs.Display.{timeOf, counted, handed, shown}
 use Rattle.playback.specs.Turns.{pastPicture, decoded, searched, pictureTurn, pictures}
@@ -62,7 +62,7 @@ pub record Listed : Type 0 where
 pub listed : Listed
 unfolding turns allBelow ofInt bitAt bitsAt got next codePrefix codeFrom found run bind loop findTurn findStartCode
     intraQuantMatrix nonIntraQuantMatrix premultiplierMatrix bounded leave onward P.direction P.pictureHeader P.coded P.slicesTurn P.slices P.picture
-    fresh freshState cleared possible matrix size rest findSequence accepted askSize askHeader askStore opened openingFrom opening
+    fresh freshState possibleDisplay cleared possible matrix size rest findSequence accepted askSize askHeader askStore opened openingFrom opening
     nextCode isFollowed timeOf counted handed shown pastPicture decoded searched pictureTurn pictures ended askFirst begun goOn handOut linesFrom
     linesOf listing
 listed = record { opens = refl; clears = refl; hands = refl; ends = refl; lines = refl }

@@ -1,6 +1,6 @@
 -- For RULES R: one call of a run from an opened record, and what it leaves to the next.
 use mathlib.Core.Path.{_≡_, refl, sym, ap, subst, _∙_}
-use mathlib.Core.Bool.{Bool, true, false, _&&_}
+use mathlib.Core.Bool.{Bool, true, false}
 use mathlib.Core.List.{List}
 use mathlib.Core.Logic.{_⊎_, inl, inr, ⊎-elim}
 use Prim.Native.Nat.{ℕ, _+_, _*_, _/_, _≤_, _<_}
@@ -16,26 +16,22 @@ use Rattle.decoder.specs.declared.record.Decoder.{Decoder}
 use Rattle.playback.specs.declared.outcome.Shown.{Shown}
 use Rattle.playback.specs.declared.outcome.Outcome.{Outcome}
 use Rattle.playback.specs.declared.outcome.Outcome.the-variants as H
-use Rattle.playback.specs.State.{frames, mostPictures}
+use Rattle.playback.specs.State.{frames}
 use Rattle.playback.specs.Turns.{TurnState, Ended, gave, stopped, pictureTurn, pictures}
-use Rattle.decoder.specs.Record.{Left, left, given, resumed, place, stopAs, storeBytes}
-use Rattle.decoder.specs.Possible.{possible, possibleWith}
+use Rattle.decoder.specs.Record.{Left, left, given, resumed, stopAs, storeBytes}
+use Rattle.decoder.specs.Possible.{possibleWith}
 use Rattle.decoder.specs.Headers.{Asked, refused, passed, askHeader, askStore}
 use Rattle.decoder.specs.HandOut.{ended, askFirst, begun, goOn, handOut}
 use Rattle.decoder.specs.Run.{Going, going, call, behind, pictureIn}
 use Rattle.decoder.proofs.Cleared.{begun-clears}
+use Rattle.decoder.proofs.Fits.{possible-all, marked-possible}
 use Rattle.demands.specs.After.{AfterHeader, after-3, after-4, after-5}
 use Rattle.decoder.specs.Answers.{handOutNumber}
 use Rattle.demands.proofs.AfterHeader.{AskAfter, header-after}
 use Rattle.demands.proofs.Keeps.{Keeps, keeps-resumed, keeps-sized}
 use Rattle.demands.proofs.RunTurns.{Stuck, Ends, hands, flushes, seven, stops, pictures-row}
 use Rattle.demands.proofs.Waiting.{Waits, waits-sequence, Accepted, Accepts, header-accepts}
-use Rattle.bits.specs.Bounds.{longestStream, lastPosition}
-
--- ---- question 2
-
-all-true : {a b c d e f : Bool} → a ≡ true → b ≡ true → c ≡ true → d ≡ true → e ≡ true → f ≡ true → (a && b && c && d && e && f) ≡ true
-all-true p q r t u v = rw (p, q, r, t, u, v)
+use Rattle.bits.specs.Bounds.{longestStream}
 
 -- ---- a call that is given a record with a header
 
@@ -45,17 +41,19 @@ StuckAt s d l = Stuck s (d .sequence .sizes) (d .sequence .matrices) (given d l)
 
 module _ (s : List ℕ) (short : length s ≤ longestStream) where
   pub keeps-possible : {d : Decoder} {l : List ℕ} → Keeps s d l → possibleWith s d ≡ true
-  unfolding possible
   keeps-possible {d} {l} k =
-      all-true (le-leb (place d) lastPosition (omega (arith, k .turn .inside))) (k .sequence) (k .turn .picture) (k .turn .block)
-      (le-leb (frames (d .state)) mostPictures (omega (arith, k .turn .count, k .turn .inside))) (rw (k .mark) refl)
+      let t = k .turn in
+      possible-all (record {
+        inside = omega (arith, t .inside);
+        sequence = k .sequence;
+        picture = t .picture;
+        block = t .block;
+        display = t .display;
+        mark = rw (k .mark) refl;
+      })
 
   pub keeps-marked : {d : Decoder} {l : List ℕ} (n : ℕ) → Keeps s d l → (n ≡ 8) ⊎ (n ≡ 9) → possibleWith s (stopAs n d) ≡ true
-  unfolding possible
-  keeps-marked {d} {l} n k m =
-      all-true (le-leb (place d) lastPosition (omega (arith, k .turn .inside))) (k .sequence) (k .turn .picture) (k .turn .block)
-      (le-leb (frames (d .state)) mostPictures (omega (arith, k .turn .count, k .turn .inside)))
-      (⊎-elim (λ (e : n ≡ 8). rw e refl) (λ (e : n ≡ 9). rw e refl) m)
+  keeps-marked {d} {l} n k m = marked-possible d n (keeps-possible k) m
 
   -- the questions 3 to 6 are passed, and the turns follow
   pub keeps-call : (d : Decoder) (l : List ℕ) → Keeps s d l
@@ -81,16 +79,18 @@ module _ (s : List ℕ) (short : length s ≤ longestStream) where
   -- ---- a call that is given a record with none
 
   pub waits-possible : {d : Decoder} → Waits s d → possibleWith s d ≡ true
-  unfolding possible
   waits-possible {d} k =
-      all-true (le-leb (place d) lastPosition (omega (arith, k .inside))) (waits-sequence k) (k .picture) (k .block)
-      (le-leb (frames (d .state)) mostPictures (omega (arith, k .count))) (rw (k .mark) refl)
+      possible-all (record {
+        inside = omega (arith, k .inside);
+        sequence = waits-sequence k;
+        picture = k .picture;
+        block = k .block;
+        display = k .display;
+        mark = rw (k .mark) refl;
+      })
 
   pub waits-marked : {d : Decoder} (n : ℕ) → Waits s d → (n ≡ 8) ⊎ (n ≡ 9) → possibleWith s (stopAs n d) ≡ true
-  unfolding possible
-  waits-marked {d} n k m =
-      all-true (le-leb (place d) lastPosition (omega (arith, k .inside))) (waits-sequence k) (k .picture) (k .block)
-      (le-leb (frames (d .state)) mostPictures (omega (arith, k .count))) (⊎-elim (λ (e : n ≡ 8). rw e refl) (λ (e : n ≡ 9). rw e refl) m)
+  waits-marked {d} n k m = marked-possible d n (waits-possible k) m
 
   pub waits-call : (d : Decoder) (l : List ℕ) → Waits s d → handOut d s l ≡ goOn s d l (askStore d l (askHeader s d))
   unfolding handOut askFirst

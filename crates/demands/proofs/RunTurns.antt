@@ -33,7 +33,7 @@ use Rattle.playback.proofs.Searches.{Barren, Sought, hit, miss, sought}
 use Rattle.playback.proofs.Next.{Next, has, finds, fails, next-is, next-has, next-barren}
 use Rattle.playback.proofs.Cases.{turn-is, turn-seven}
 use Rattle.playback.proofs.TwoTurns.{Each, by-turns}
-use Rattle.demands.proofs.Keeps.{KeepsAt, keeps-counted, keeps-searched, Sized}
+use Rattle.demands.proofs.Keeps.{KeepsAt, keeps-counted, keeps-held, keeps-searched, Sized}
 
 -- ---- 7, for good
 
@@ -125,13 +125,14 @@ module _ (s : List ℕ) (z : Sizes) (m : Matrices) (short : length s ≤ longest
             long = omega (arith, k .long, o .kept .store);
             inside = o .inside;
             ahead = o .ahead;
+            display = k .display;
             count = omega (arith, k .count, o .past);
           },
           omega (arith, k .count, o .past),
         )
 
     shown-row : {f : Frame} {a : ℕ} → isThere s (x .state) ≡ true → Reads s z m x f a → KeepsAt s z (leftBy f (counted (pastFrame f a (x .state))))
-    shown-row {f} {a} i r = let h = read-row i r in keeps-counted (leftBy f (pastFrame f a (x .state))) (h .0) (h .1)
+    shown-row {f} {a} i r = let h = read-row i r in keeps-counted (leftBy f (pastFrame f a (x .state))) (h .0) short (h .1)
 
     -- RULES 8.8: the held picture is flushed, and every later turn answers 7
     flush-row : isThere s (x .state) ≡ false → isFlush s (x .state) ≡ true → Stuck s z m (inState (heldAs false (x .state)) x)
@@ -152,8 +153,8 @@ module _ (s : List ℕ) (z : Sizes) (m : Matrices) (short : length s ≤ longest
     unfolding counted
     case-row (gives (b-picture i r e)) = hands (shown-row i r) refl
     case-row (gives (held-picture i r e h)) = hands (shown-row i r) refl
-    case-row (gives (flushed-picture i u)) = flushes k refl (flush-row i u)
-    case-row (holds i r e h) = (read-row i r .0, refl)
+    case-row (gives (flushed-picture i u)) = flushes (keeps-held x k false) refl (flush-row i u)
+    case-row (holds {f} {a} i r e h) = (keeps-held (leftBy f (pastFrame f a (x .state))) (read-row i r .0) true, refl)
     case-row (leaves i r) = stops (subst Ran r (ran i) .kept .0)
     case-row (is-seven i u) = seven k refl (seven-row i u)
 

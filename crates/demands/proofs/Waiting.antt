@@ -24,7 +24,8 @@ use Rattle.header.specs.Possible.{across, sizesOf, sameSizes, possibleSequence}
 use Rattle.header.specs.Sequences.{size, rest}
 use Rattle.playback.specs.declared.state.State.{State}
 use Rattle.playback.specs.State as S
-use Rattle.playback.specs.State.{held, frames, freshState}
+use Rattle.playback.specs.State.{held, frames, freshState, possibleDisplay}
+use Rattle.playback.proofs.Displays.{timed-possible}
 use Rattle.playback.specs.Search.{nextCode}
 use Rattle.decoder.specs.declared.record.Decoder.{Decoder}
 use Rattle.decoder.specs.Record.{fresh, place, startCode, searchedAs, storeBytes}
@@ -47,6 +48,7 @@ pub record Waits (s : List ℕ) (d : Decoder) : Type 0 where
   pub block : bounded (d .«block_data») ≡ true
   pub mark : d .stop ≡ 0
   pub inside : place d ≤ length s * 8
+  pub display : possibleDisplay (d .state .display) ≡ true
   pub count : frames (d .state) ≡ 0
   pub held : held (d .state) ≡ false
 
@@ -61,6 +63,7 @@ fresh-waits s = record {
   block = fresh-starts .block;
   mark = refl;
   inside = omega arith;
+  display = fresh-starts .display;
   count = refl;
   held = refl;
 }
@@ -81,6 +84,7 @@ module _ {s : List ℕ} {d : Decoder} (k : Waits s d) where
     block = k .block;
     mark = k .mark;
     inside = m;
+    display = k .display;
     count = k .count;
     held = k .held;
   }
@@ -152,6 +156,7 @@ size-accepts {s} {d} k c =
       block = k .block;
       mark = k .mark;
       inside = there;
+      display = k .display;
       count = k .count;
       held = k .held;
     })
@@ -167,6 +172,7 @@ size-accepts {s} {d} k c =
           long = long;
           inside = run-most rest s (run size s (place d) .at) (length s) there (omega arith);
           ahead = λ e. never (ap natAbs (sym c ∙ e));
+          display = timed-possible _ (d .state .display) (k .display);
           count = omega (arith, k .count);
         };
       };

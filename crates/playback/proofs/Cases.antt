@@ -14,9 +14,9 @@ use Rattle.picture.specs.Ways.{Way, on, out}
 use Rattle.picture.specs.Pictures.{Frame}
 use Rattle.playback.specs.declared.outcome.Outcome.the-variants.{Picture, Refused}
 use Rattle.playback.specs.declared.state.State.{State}
-use Rattle.playback.specs.State.{place, startCode, held, pastFrame, heldAs}
+use Rattle.playback.specs.State.{place, startCode, held, told, pastFrame, heldAs}
 use Rattle.playback.specs.Search.{nextPicture, isFollowed}
-use Rattle.playback.specs.Display.{Result, told, isWaiting, counted, handed, shown, flushed}
+use Rattle.playback.specs.Display.{Result, isWaiting, counted, handed, shown, flushed}
 use Rattle.playback.specs.Turns.{TurnState, inState, Ended, gave, among, atPicture, pictureRun, pastPicture, decoded, searched, pictureTurn}
 use Rattle.playback.specs.Cases.{isThere, isFlush, isB, Reads, leftBy, countedPast, b-picture, held-picture, flushed-picture}
 use Rattle.playback.specs.Cases.{TurnIs, gives, holds, leaves, is-seven}

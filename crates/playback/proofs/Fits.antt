@@ -23,6 +23,7 @@ use Rattle.playback.specs.Search.{nextCode}
 use Rattle.playback.specs.Turns.{TurnState, Ended, frameOf, atPicture, pictureTurn}
 use Rattle.playback.specs.Fit.{FitState}
 use Rattle.playback.specs.Cases.{Reads, TurnIs, gives, holds, leaves, is-seven}
+use Rattle.playback.proofs.Displays.{held-possible}
 use Rattle.playback.proofs.Searches.{Sought, hit, miss, sought}
 use Rattle.playback.proofs.Cases.{turn-is}
 
@@ -37,7 +38,7 @@ module _ {z : Sizes} (x : State) {c : List ℤ} (f : FitState z x c) where
     size = f .size;
     picture = record { type = f .picture .type; code = q; stores = f .picture .stores; slice = f .picture .slice };
     block = f .block;
-    count = f .count;
+    display = f .display;
   }
 
   -- RULES 1.11: a start code that was searched, or -1
@@ -73,7 +74,7 @@ module _ (s : List ℕ) (z : Sizes) (m : Matrices) (short : length s ≤ longest
         size = k .size;
         picture = picture-of (f .picture) (j .picture);
         block = j .block;
-        count = k .count;
+        display = held-possible (x .state) (k .display) true;
       }
   turn-goes x k (leaves i r) = tt
   turn-goes x k (is-seven i u) = tt

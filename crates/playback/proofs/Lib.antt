@@ -1,3 +1,4 @@
+pub mod Displays
 pub mod Searches
 pub mod Seeking
 pub mod Cases

@@ -9,8 +9,8 @@ use Rattle.laws.specs.Turns.{Turn, again, stop}
 use Rattle.playback.specs.declared.outcome.Outcome.the-variants.{Picture, Refused}
 use Rattle.playback.specs.declared.outcome.Turned.{Turned}
 use Rattle.playback.specs.declared.state.State.{State}
-use Rattle.playback.specs.State.{held, heldAs}
-use Rattle.playback.specs.Display.{Result, result, isWaiting, told, handed, shown, flushed}
+use Rattle.playback.specs.State.{held, told, heldAs}
+use Rattle.playback.specs.Display.{Result, result, isWaiting, handed, shown, flushed}
 use Rattle.playback.specs.Turns as Turns
 use Rattle.playback.specs.Turned.{endOf, turnOf, Steps}
 

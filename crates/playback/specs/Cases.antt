@@ -14,9 +14,9 @@ use Rattle.picture.specs.Pictures.{Frame}
 use Rattle.playback.specs.declared.outcome.Shown.{Shown}
 use Rattle.playback.specs.declared.outcome.Outcome.the-variants.{Picture, Refused}
 use Rattle.playback.specs.declared.state.State.{State}
-use Rattle.playback.specs.State.{place, startCode, held, pastFrame, heldAs}
+use Rattle.playback.specs.State.{place, startCode, held, told, pastFrame, heldAs}
 use Rattle.playback.specs.Search.{isFollowed}
-use Rattle.playback.specs.Display.{counted, told, isWaiting}
+use Rattle.playback.specs.Display.{counted, isWaiting}
 use Rattle.playback.specs.Turns.{TurnState, turnState, inState, Ended, gave, stopped, pictureRun}
 
 -- RULES 8.2, 8.3: a picture start code is there, and another one behind it

@@ -7,11 +7,10 @@ use lib.IntN.{pos}
 use lib.Ieee.{Float, binary64, div, ofInt}
 use Rattle.laws.specs.Turns.{Turn, again, stop}
 use Rattle.bits.specs.Programs.{if_then_else_}
-use Rattle.playback.specs.declared.outcome.Shown.{Shown}
 use Rattle.playback.specs.declared.outcome.Outcome.{Outcome}
 use Rattle.playback.specs.declared.outcome.Outcome.the-variants.{Picture, Refused}
 use Rattle.playback.specs.declared.state.State.{State}
-use Rattle.playback.specs.State.{place, held, frames, nextTime, shownTime, clockAs, heldAs}
+use Rattle.playback.specs.State.{place, held, frames, nextTime, told, clockAs, heldAs}
 use Rattle.playback.specs.Search.{hasEnded}
 
 -- the result of a call: its outcome, and the state that it leaves
@@ -36,10 +35,6 @@ counted x =
       time = timeOf n (x .display .clock .framerate);
       «last_frame_time» = nextTime x;
     }) n x
-
--- RULES F.12: what is told of the picture in the store number k, with the state x as the call leaves it: the store, and the time shown
-abbrev pub told : ℕ → State → Shown
-told k x = record { store = k; time = shownTime x }
 
 -- the store number k is handed out with the time that is then shown
 unfoldable pub handed : ℕ → State → Result

@@ -1,5 +1,6 @@
 -- What the turns ask and keep: bounds that follow from question 2 (RULES Q2).
 use mathlib.Core.Path.{_≡_}
+use mathlib.Core.Bool.{true}
 use mathlib.Core.List.{List}
 use Prim.Native.Nat.{ℕ, _*_, _≤_}
 use lib.IntN.{ℤ}
@@ -8,18 +9,19 @@ use Rattle.codes.specs.Matrices.{Bounded}
 use Rattle.picture.specs.declared.state.Picture.{Picture}
 use Rattle.picture.specs.declared.state.Sizes.{Sizes}
 use Rattle.picture.specs.Possible.{PossiblePicture}
+use Rattle.playback.specs.declared.state.Display.{Display}
 use Rattle.playback.specs.declared.state.State.{State}
-use Rattle.playback.specs.State.{place, frames, mostPictures}
+use Rattle.playback.specs.State.{place, possibleDisplay}
 
--- of the sizes, the place, the picture, the left-over coefficients and the count of pictures handed out
-pub record Fit (z : Sizes) (a : ℕ) (p : Picture) (c : List ℤ) (n : ℕ) : Type 0 where
+-- of the sizes, the place, the picture, the left-over coefficients and what is shown
+pub record Fit (z : Sizes) (a : ℕ) (p : Picture) (c : List ℤ) (v : Display) : Type 0 where
   pub place : a ≤ lastPosition
   pub across : z .«mb_width» ≤ 256
   pub down : z .«mb_height» ≤ 256
   pub size : z .«mb_size» ≡ z .«mb_width» * z .«mb_height»
   pub picture : PossiblePicture p
   pub block : Bounded c
-  pub count : n ≤ mostPictures
+  pub display : possibleDisplay v ≡ true
 
 abbrev pub FitState : Sizes → State → List ℤ → Type 0
-FitState z x c = Fit z (place x) (x .picture) c (frames x)
+FitState z x c = Fit z (place x) (x .picture) c (x .display)

@@ -1,11 +1,13 @@
 -- What hand-outs change of the record, and the changes that the rules make in it.
 use mathlib.Core.Bool.{Bool, false}
 use Prim.Native.Nat.{ℕ}
+use lib.Dec.{leb}
 use lib.Ieee.{Float}
 use lib.IntN.{ℤ}
 use Rattle.picture.specs.State.{startCodeAs, freshPicture}
 use Rattle.picture.specs.Pictures.{Frame}
 use Rattle.header.specs.State.{noTime}
+use Rattle.playback.specs.declared.outcome.Shown.{Shown}
 use Rattle.playback.specs.declared.state.Clock.{Clock}
 use Rattle.playback.specs.declared.state.Display.{Display}
 use Rattle.playback.specs.declared.state.State.{State}
@@ -35,6 +37,10 @@ nextTime x = x .display .clock .time
 abbrev pub shownTime : State → Float
 shownTime x = x .display .clock .«last_frame_time»
 
+-- RULES F.12: what is told of the picture in the store number k, with the state x as the call leaves it: the store, and the time shown
+abbrev pub told : ℕ → State → Shown
+told k x = record { store = k; time = shownTime x }
+
 -- RULES O.1: of the fresh record
 unfoldable pub freshState : State
 freshState = record {
@@ -46,6 +52,14 @@ freshState = record {
     «frames_decoded» = 0;
   };
 }
+
+-- RULES Q2: is what is shown possible? The count of pictures handed out
+unfoldable pub possibleDisplay : Display → Bool
+possibleDisplay v = leb (v .«frames_decoded») mostPictures
+
+-- what is shown, with another clock
+abbrev pub timedAs : Clock → Display → Display
+timedAs c v = record { clock = c; «has_reference_frame» = v .«has_reference_frame»; «frames_decoded» = v .«frames_decoded» }
 
 -- a search that ended at the place a with the start code c
 abbrev pub searchedAs : ℤ → ℕ → State → State

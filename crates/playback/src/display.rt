@@ -1,17 +1,18 @@
 // RULES 8.5, 8.8 to 8.11: what is handed out, and its time.
 use crate::outcome::Outcome;
-use crate::outcome::Shown;
 use crate::outcome::Turned;
+use crate::outcome::told;
 use crate::state::Clock;
 use crate::state::Display;
 use crate::state::State;
 use bits::reader::Reader;
 ghost use mathlib.Core.Path.{_≡_};
+ghost use mathlib.Core.Bool.{true};
 ghost use Prim.Native.Nat.{_≤_};
 ghost use lib.ListN.{length};
 ghost use Rattle.laws.specs.Turns.{stop};
 ghost use Rattle.bits.specs.Bounds.{longestStream};
-ghost use Rattle.playback.specs.State.{frames, mostPictures, heldAs};
+ghost use Rattle.playback.specs.State.{possibleDisplay, heldAs};
 ghost use Rattle.playback.specs.Display as Rules;
 ghost use Rattle.playback.specs.Turned.{Steps};
 
@@ -24,7 +25,7 @@ fn time_of(n: u32, rate: f64) -> f64
 
 // RULES 8.10.
 fn counted(mut d: State) -> State
-    requires { ⌜ frames d ≤ mostPictures ⌝ }
+    requires { ⌜ possibleDisplay (d .display) ≡ true ⌝ }
     ensures { λ r. ⌜ r ≡ Rules.counted d ⌝ }
 {
     let n = d.display.frames_decoded + 1;
@@ -44,14 +45,6 @@ fn counted(mut d: State) -> State
     };
     d.display = display;
     d
-}
-
-// What is told of the picture in the store number k, with the state as the call leaves it.
-fn told(d: State, k: usize) -> Shown
-    ensures { λ r. ⌜ r ≡ Rules.told k d ⌝ }
-{
-    let time = d.display.clock.last_frame_time;
-    Shown { store: k, time }
 }
 
 // RULES 8.5, 8.8: a reference picture waits, or none does.
@@ -77,7 +70,7 @@ pub fn gave(state: State, outcome: Outcome) -> Turned
 
 // The store number k is handed out with the time that is then shown.
 fn handed(d: State, k: usize) -> Turned
-    requires { ⌜ frames d ≤ mostPictures ⌝ }
+    requires { ⌜ possibleDisplay (d .display) ≡ true ⌝ }
     ensures { λ r. ⌜ Steps r (stop (Rules.handed k d)) ⌝ }
 {
     let x = counted(d);
@@ -86,7 +79,7 @@ fn handed(d: State, k: usize) -> Turned
 
 // RULES 8.5: after a picture, decoded or not.
 pub fn shown(d: State) -> Turned
-    requires { ⌜ frames d ≤ mostPictures ⌝ }
+    requires { ⌜ possibleDisplay (d .display) ≡ true ⌝ }
     ensures { λ r. ⌜ Steps r (Rules.shown d) ⌝ }
 {
     let picture_type = d.picture.picture_type;

@@ -3,10 +3,10 @@ use bits::position::BitPosition;
 use picture::fresh::fresh_picture;
 use picture::state::Picture;
 ghost use mathlib.Core.Path.{_≡_};
-ghost use Rattle.playback.specs.State.{freshState};
+ghost use Rattle.playback.specs.State.{freshState, possibleDisplay};
 
 // RULES Q2: the most pictures that a record can have handed out.
-pub const MOST_PICTURES: u32 = 134217728;
+const MOST_PICTURES: u32 = 134217728;
 
 // RULES 8.12: rate, aspect, the next time and the time shown.
 pub struct Clock {
@@ -27,6 +27,13 @@ pub struct State {
     pub position: BitPosition,
     pub picture: Picture,
     pub display: Display,
+}
+
+// RULES Q2: is what is shown possible? The count of pictures handed out.
+pub fn possible_display(display: Display) -> bool
+    ensures { λ r. ⌜ r ≡ possibleDisplay display ⌝ }
+{
+    display.frames_decoded <= MOST_PICTURES
 }
 
 // RULES O.1: the state of the fresh record.

@@ -1,6 +1,6 @@
 use mathlib.Core.Path.{refl}
-use Rattle.playback.proofs.display.told.Statement.{statement}
-use Rattle.playback.proofs.display.told.Tie as tie
+use Rattle.playback.proofs.outcome.told.Statement.{statement}
+use Rattle.playback.proofs.outcome.told.Tie as tie
 
 returns : tie.Need-returns
 returns c = refl
