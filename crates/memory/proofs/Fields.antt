@@ -12,8 +12,8 @@ use Rattle.decoder.specs.declared.record.Decoder.{Decoder}
 use Rattle.decoder.specs.Record.{place}
 use Rattle.laws.proofs.Tests.{both}
 use Rattle.memory.specs.Fields.{Number, flag, short, size, Entry, fields, flagNumber, value, most, fits, elements, count}
-use Rattle.memory.specs.Fields.{TypedNumbers, Sized, TypedEntries}
-use Rattle.memory.specs.Memory.{number, flagOf, over, within, inRange}
+use Rattle.memory.specs.Fields.{TypedNumbers, Sized, TypedEntries, number, flagOf}
+use Rattle.memory.specs.Memory.{over, within, inRange}
 
 -- ---- a flag
 

@@ -3,10 +3,15 @@ use mathlib.Core.Path.{_≡_}
 use mathlib.Core.Bool.{Bool, true, cond}
 use mathlib.Core.List.{List, [], _∷_, _++_, map}
 use Prim.Native.Nat.{ℕ, _+_, _≤_}
-use lib.Dec.{leb}
-use lib.Ieee.{Float}
-use lib.IntN.{ℤ}
-use lib.ListN.{length}
+use lib.Dec.{eqb, leb}
+use lib.Ieee.{Float, nan}
+use lib.IntN.{ℤ, pos}
+use lib.ListN.{length, getD}
+use borrow.Rule.Slice.PartMut.{midOf}
+use Rattle.picture.specs.declared.state.Motion.{Motion}
+use Rattle.picture.specs.declared.state.Picture.{Picture}
+use Rattle.header.specs.declared.state.Sequence.{Sequence}
+use Rattle.playback.specs.declared.state.Clock.{Clock}
 use Rattle.playback.specs.State.{held, frames, nextTime, shownTime}
 use Rattle.decoder.specs.declared.record.Decoder.{Decoder}
 use Rattle.decoder.specs.Record.{place}
@@ -80,6 +85,70 @@ fields = record {
       ∷ one (λ d. nextTime (d .state))
       ∷ one (λ d. shownTime (d .state))
       ∷ [];
+}
+
+-- ---- the record of these values: each field at its place, as RoundTrip proves
+
+abbrev pub number : List ℕ → ℕ → ℕ
+number n k = getD n k 0
+
+abbrev pub integer : List ℤ → ℕ → ℤ
+integer i k = getD i k (pos 0)
+
+abbrev pub flagOf : ℕ → Bool
+flagOf x = eqb x 1
+
+-- a motion, of the numbers from k on and the integers from j on
+abbrev pub motionIn : List ℕ → ℕ → List ℤ → ℕ → Motion
+motionIn n k i j = record {
+  «full_px» = flagOf (number n k);
+  «is_set» = flagOf (number n (k + 1));
+  «r_size» = number n (k + 2);
+  h = integer i j;
+  v = integer i (j + 1);
+}
+
+abbrev pub sequenceIn : List ℕ → List ℕ → Sequence
+sequenceIn n m = record {
+  «has_sequence_header» = flagOf (number n 1);
+  width = number n 2;
+  height = number n 3;
+  sizes = record { «mb_width» = number n 4; «mb_height» = number n 5; «mb_size» = number n 6 };
+  matrices = record { «intra_quant_matrix» = midOf 0 64 m; «non_intra_quant_matrix» = midOf 64 64 m };
+}
+
+abbrev pub pictureIn : List ℕ → List ℤ → Picture
+pictureIn n i = record {
+  «picture_type» = number n 7;
+  «start_code» = integer i 0;
+  stores = record { cur = number n 8; fwd = number n 9; bwd = number n 10 };
+  slice = record {
+    «quantizer_scale» = number n 11;
+    «macroblock_address» = integer i 1;
+    «motion_forward» = motionIn n 12 i 2;
+    «motion_backward» = motionIn n 15 i 4;
+    «dc_predictor» = midOf 6 3 i;
+  };
+}
+
+abbrev pub clockIn : List Float → Clock
+clockIn c = record {
+  framerate = getD c 0 nan;
+  «pixel_aspect_ratio» = getD c 1 nan;
+  time = getD c 2 nan;
+  «last_frame_time» = getD c 3 nan;
+}
+
+abbrev pub recordIn : List ℕ → List ℤ → List ℕ → List Float → Decoder
+recordIn n i m c = record {
+  sequence = sequenceIn n m;
+  state = record {
+    position = record { 0 = number n 0 };
+    picture = pictureIn n i;
+    display = record { clock = clockIn c; «has_reference_frame» = flagOf (number n 18); «frames_decoded» = number n 19 };
+  };
+  «block_data» = midOf 9 64 i;
+  stop = number n 20;
 }
 
 -- ---- what follows from the kinds

@@ -1,5 +1,4 @@
 // The record in memory that a host owns, each field in its own type.
-mod apart;
 mod copies;
 pub mod format;
 pub mod reading;

@@ -23,8 +23,8 @@ ghost use Prim.Native.Nat.{_+_, _≤_};
 ghost use borrow.Rule.Slice.PartMut.{midOf};
 ghost use lib.ListN.{length};
 ghost use mathlib.Core.Bool.{true};
-ghost use Rattle.memory.specs.Fields.{numberCount, integerCount, matrixCount, clockCount};
-ghost use Rattle.memory.specs.Memory.{memory, number, motionIn, sequenceIn, pictureIn, clockIn, recordOf, inRange, roomy, isRecord};
+ghost use Rattle.memory.specs.Fields.{number, motionIn, sequenceIn, pictureIn, clockIn, numberCount, integerCount, matrixCount, clockCount};
+ghost use Rattle.memory.specs.Memory.{memory, recordOf, inRange, roomy, isRecord};
 
 fn block_in(integers: &[i32]) -> [i32; 64]
     requires { ⌜ integerCount ≤ length (now integers) ⌝ }

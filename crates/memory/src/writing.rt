@@ -1,11 +1,11 @@
 // The record written into memory.
-use crate::apart::clock_of;
-use crate::apart::intra_of;
-use crate::apart::left_of;
-use crate::apart::non_intra_of;
-use crate::apart::numbers_of;
-use crate::apart::predictors_of;
-use crate::apart::single_integers;
+use crate::format::clock_of;
+use crate::format::intra_of;
+use crate::format::left_of;
+use crate::format::non_intra_of;
+use crate::format::numbers_of;
+use crate::format::predictors_of;
+use crate::format::single_integers;
 use crate::copies::copy_bytes;
 use crate::copies::copy_integers;
 use crate::copies::copy_numbers;

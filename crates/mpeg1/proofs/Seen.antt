@@ -15,8 +15,7 @@ use Rattle.header.specs.declared.state.Sequence.{Sequence}
 use Rattle.header.specs.State.{noTime, freshSequence}
 use Rattle.header.specs.Possible.{possibleSequence}
 use Rattle.header.proofs.Sizing.{possible-sized}
-use Rattle.memory.specs.Fields.{numberCount, clockCount}
-use Rattle.memory.specs.Memory.{number}
+use Rattle.memory.specs.Fields.{number, numberCount, clockCount}
 use Rattle.mpeg1.specs.Calls.{still}
 use Rattle.mpeg1.specs.Views.{Few, sequenceSeen, seen, numberSeen}
 

@@ -13,8 +13,7 @@ use Rattle.prediction.specs.Planes.{blockSize, planeLength, planeStart, storesB
 use Rattle.header.specs.declared.state.Sequence.{Sequence}
 use Rattle.header.specs.State.{noTime, freshSequence}
 use Rattle.header.specs.Possible.{sizesOf, possibleSequence}
-use Rattle.memory.specs.Fields.{numberCount, matrixCount, clockCount}
-use Rattle.memory.specs.Memory.{number, sequenceIn}
+use Rattle.memory.specs.Fields.{number, sequenceIn, numberCount, matrixCount, clockCount}
 
 -- the version of the calls and of the record: a later one has more fields, numbers or calls
 abbrev pub version : ℕ

@@ -2,8 +2,8 @@ use Prim.Native.Nat.{_≤_}
 use borrow.Author.Needs.{needs}
 use Rattle.decoder.specs.declared.record.Decoder.{Decoder}
 use Rattle.memory.specs.Fields.{fields, TypedNumbers}
-use Rattle.memory.proofs.apart.numbers_of.Statement.{statement}
-use Rattle.memory.proofs.apart.numbers_of.Tie as tie
+use Rattle.memory.proofs.format.numbers_of.Statement.{statement}
+use Rattle.memory.proofs.format.numbers_of.Tie as tie
 
 -- the entry, seen from the header's flag; that, seen from the motions; the record, seen from the place where a field of it is read
 abbrev entry : tie.After-flag → tie.Start
