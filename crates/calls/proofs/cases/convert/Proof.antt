@@ -5,11 +5,15 @@ use borrow.Author.Needs.{needs}
 use Rattle.calls.proofs.cases.convert.Statement.{statement}
 use Rattle.calls.proofs.cases.convert.Tie as tie
 
+-- the entry, seen from the area, which is made once the parts are read
+abbrev entry : tie.After-area → tie.Start
+entry a = let numbers = a .before .before .before in numbers .before .before
+
 slice-aggregate-lent : tie.Need-slice-aggregate-lent
 slice-aggregate-lent c =
     let t = c .before .before .before .before in
-    sym (length-take-le (t .before .before .before .before .before .before .args .length) (t .before .area .result)
-    (omega (arith, t .before .area .ensures, t .if1 .taken)))
+    let a = t .before in
+    sym (length-take-le (entry a .args .length) (a .area .result) (omega (arith, a .area .ensures, t .if1 .taken)))
 
 pub convert-spec : {M : Type 1} → statement M
 convert-spec =

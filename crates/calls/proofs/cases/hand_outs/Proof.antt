@@ -16,10 +16,17 @@ Inv-loop stream store₀ numbers₀ integers₀ matrices₀ clock₀ calls left�
 abbrev μ-loop : tie.MeasureT-loop
 μ-loop stream store₀ numbers₀ integers₀ matrices₀ clock₀ calls left₀ store numbers integers matrices clock left = left
 
+-- the hand-out, seen from the parts given back behind it; the turn of the loop
+abbrev decoded : tie.After-slice-known8 Inv-loop μ-loop → tie.After-decode Inv-loop μ-loop
+decoded c = let integers = c .before .before .before .before in let store = integers .before .before .before .before in store .before
+
+abbrev turn : tie.After-decode Inv-loop μ-loop → tie.At-loop Inv-loop μ-loop
+turn d = let integers = d .before .before .before in integers .before .before .before .before
+
 loop-again : tie.Need-loop-again Inv-loop μ-loop
 loop-again c =
-    let d = c .before .before .before .before .before .before .before .before .before in
-    let l = d .before .before .before .before .before .before .before in (
+    let d = decoded c in
+    let l = turn d in (
       d .decode .kept .1 .0 ∙ l .loop .inv .0,
       d .decode .kept .1 .1 .0 ∙ l .loop .inv .1,
       d .decode .kept .1 .1 .1 .0 ∙ l .loop .inv .2,

@@ -16,9 +16,16 @@ abbrev μ-loop : tie.MeasureT-loop
 μ-loop list clock₀ i₀ clock i = 4 - i
 
 loop-again : tie.Need-loop-again Inv-loop μ-loop
-loop-again c = let l = c .before .before .before .before in stored-first (l .loop .inv) (c .before .before .before .loop-test .taken) (c .fraction .ensures ∙ ap₂ fraction (c .before .before .number-at .ensures) (c .before .number-at2 .ensures))
+loop-again c =
+    let first = c .before .before in
+    let test = first .before in
+    stored-first (test .before .loop .inv) (test .loop-test .taken)
+    (c .fraction .ensures ∙ ap₂ fraction (first .number-at .ensures) (c .before .number-at2 .ensures))
 
 pub clock-in-spec : {M : Type 1} → statement M
 unfolding clockIn
 clock-in-spec =
-    tie.close (tie.spec Inv-loop μ-loop (λ c. none-stored) (λ c. omega arith) (λ c. omega arith) (λ c. omega arith) (λ c κs. tt) (λ c. omega arith) (λ c κs. tt) (λ c κs. tt) (λ c. omega arith) (λ c. omega (arith, c .before .before .before .before .loop .inv .long)) (λ c. omega arith) (λ c. omega arith) loop-again (λ c. all-stored (c .before .loop .inv) (c .loop-test .left)))
+    tie.close
+    (tie.spec Inv-loop μ-loop (λ c. none-stored) (λ c. omega arith) (λ c. omega arith) (λ c. omega arith) (λ c κs. tt) (λ c. omega arith)
+    (λ c κs. tt) (λ c κs. tt) (λ c. omega arith) (λ c. omega (arith, c .before .before .before .before .loop .inv .long)) (λ c. omega arith)
+    (λ c. omega arith) loop-again (λ c. all-stored (c .before .loop .inv) (c .loop-test .left)))

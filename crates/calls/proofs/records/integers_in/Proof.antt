@@ -19,9 +19,15 @@ abbrev μ-loop : tie.MeasureT-loop
 μ-loop list integers₀ i₀ integers i = 73 - i
 
 loop-again : tie.Need-loop-again Inv-loop μ-loop
-loop-again c = let l = c .before .before .before in stored-first (l .loop .inv) (c .before .before .loop-test .taken) (given (c .signed .ok) (c .signed .ensures) ∙ ap (toZ w32) (c .before .number-at .ensures))
+loop-again c =
+    let test = c .before .before in
+    stored-first (test .before .loop .inv) (test .loop-test .taken)
+    (given (c .signed .ok) (c .signed .ensures) ∙ ap (toZ w32) (c .before .number-at .ensures))
 
 pub integers-in-spec : {M : Type 1} → statement M
 unfolding integersIn
 integers-in-spec =
-    tie.close (tie.spec Inv-loop μ-loop (λ c. none-stored) (λ c. omega arith) (λ c. omega arith) (λ c κs. tt) (λ c κs. tt) (λ c. omega arith) (λ c. omega (arith, c .before .before .before .loop .inv .long)) (λ c. omega arith) (λ c. omega arith) loop-again (λ c. all-stored (c .before .loop .inv) (c .loop-test .left)))
+    tie.close
+    (tie.spec Inv-loop μ-loop (λ c. none-stored) (λ c. omega arith) (λ c. omega arith) (λ c κs. tt) (λ c κs. tt) (λ c. omega arith)
+    (λ c. omega (arith, c .before .before .before .loop .inv .long)) (λ c. omega arith) (λ c. omega arith) loop-again
+    (λ c. all-stored (c .before .loop .inv) (c .loop-test .left)))

@@ -18,4 +18,7 @@ loop-again c = let l = c .before .before in stored-first (l .loop .inv) (c .befo
 pub matrices-in-spec : {M : Type 1} → statement M
 unfolding matricesIn
 matrices-in-spec =
-    tie.close (tie.spec Inv-loop μ-loop (λ c. none-stored) (λ c. omega arith) (λ c κs. tt) (λ c. omega (arith, c .byte-at .ensures)) (λ c. omega (arith, c .before .before .loop .inv .long)) (λ c. omega arith) (λ c. omega arith) loop-again (λ c. all-stored (c .before .loop .inv) (c .loop-test .left)))
+    tie.close
+    (tie.spec Inv-loop μ-loop (λ c. none-stored) (λ c. omega arith) (λ c κs. tt) (λ c. omega (arith, c .byte-at .ensures))
+    (λ c. omega (arith, c .before .before .loop .inv .long)) (λ c. omega arith) (λ c. omega arith) loop-again
+    (λ c. all-stored (c .before .loop .inv) (c .loop-test .left)))

@@ -17,24 +17,30 @@ Inv-loop stream store₀ numbers₀ integers₀ matrices₀ clock₀ last₀ lef
 abbrev μ-loop : tie.MeasureT-loop
 μ-loop stream store₀ numbers₀ integers₀ matrices₀ clock₀ last₀ left₀ store numbers integers matrices clock last left = left
 
-kept : (d : tie.After-decode Inv-loop μ-loop) → let l = d .before .before .before .before .before .before .before in let s = l .before .before .before .before .before .before in
+-- the hand-out, seen from the parts given back behind it; the turn of the loop
+abbrev decoded : tie.After-slice-known8 Inv-loop μ-loop → tie.After-decode Inv-loop μ-loop
+decoded c = let integers = c .before .before .before .before in let store = integers .before .before .before .before in store .before
+
+abbrev turn : tie.After-decode Inv-loop μ-loop → tie.At-loop Inv-loop μ-loop
+turn d = let integers = d .before .before .before in integers .before .before .before .before
+
+abbrev entry : tie.At-loop Inv-loop μ-loop → tie.Start Inv-loop μ-loop
+entry l = let numbers = l .before .before .before in numbers .before .before .before
+
+kept : (d : tie.After-decode Inv-loop μ-loop) → let s = entry (turn d) in
     (length (d .decode .last .1 .0) ≡ length (now (s .args .store)))
     × (length (d .decode .last .1 .1 .0) ≡ length (now (s .args .numbers)))
     × (length (d .decode .last .1 .1 .1 .0) ≡ length (now (s .args .integers)))
     × (length (d .decode .last .1 .1 .1 .1 .0) ≡ length (now (s .args .matrices)))
     × (length (d .decode .last .1 .1 .1 .1 .1 .0) ≡ length (now (s .args .clock)))
 kept d =
-    let l = d .before .before .before .before .before .before .before in (
+    let l = turn d in (
       d .decode .kept .1 .0 ∙ l .loop .inv .0,
       d .decode .kept .1 .1 .0 ∙ l .loop .inv .1,
       d .decode .kept .1 .1 .1 .0 ∙ l .loop .inv .2,
       d .decode .kept .1 .1 .1 .1 .0 ∙ l .loop .inv .3,
       d .decode .kept .1 .1 .1 .1 .1 .0 ∙ l .loop .inv .4,
     )
-
--- the hand-out, seen from the question behind it
-abbrev decoded : tie.After-slice-known8 Inv-loop μ-loop → tie.After-decode Inv-loop μ-loop
-decoded c = c .before .before .before .before .before .before .before .before .before
 
 pub run-spec : {M : Type 1} → statement M
 run-spec =

@@ -26,4 +26,7 @@ loop-again c =
 
 pub sum-integers-spec : {M : Type 1} → statement M
 sum-integers-spec =
-    tie.close (tie.spec Inv-loop μ-loop (λ c. wording-none (c .pre)) (λ c. omega arith) (λ c. omega arith) (λ c κs. tt) (λ c κs. c .before .before .before .loop .inv .small) (λ c. omega arith) (λ c. omega arith) loop-again (λ c. wording-all (c .before .loop .inv) (c .loop-test .left)))
+    tie.close
+    (tie.spec Inv-loop μ-loop (λ c. wording-none (c .pre)) (λ c. omega arith) (λ c. omega arith) (λ c κs. tt)
+    (λ c κs. c .before .before .before .loop .inv .small) (λ c. omega arith) (λ c. omega arith) loop-again
+    (λ c. wording-all (c .before .loop .inv) (c .loop-test .left)))
