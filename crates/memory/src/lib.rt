@@ -1,5 +1,5 @@
 // The record in memory that a host owns, each field in its own type.
-mod copies;
+pub mod copies;
 pub mod format;
 pub mod reading;
 pub mod writing;

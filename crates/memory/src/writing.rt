@@ -1,4 +1,7 @@
 // The record written into memory.
+use crate::copies::copy_bytes;
+use crate::copies::copy_integers;
+use crate::copies::copy_numbers;
 use crate::format::clock_of;
 use crate::format::intra_of;
 use crate::format::left_of;
@@ -6,9 +9,6 @@ use crate::format::non_intra_of;
 use crate::format::numbers_of;
 use crate::format::predictors_of;
 use crate::format::single_integers;
-use crate::copies::copy_bytes;
-use crate::copies::copy_integers;
-use crate::copies::copy_numbers;
 use decoder::record::Decoder;
 ghost use mathlib.Core.Path.{_≡_};
 ghost use mathlib.Core.Bool.{true};

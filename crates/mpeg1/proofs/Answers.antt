@@ -1,12 +1,11 @@
 -- The ways through the definitions of the calls, one for each answer.
-use mathlib.Core.Path.{_≡_, refl}
+use mathlib.Core.Path.{_≡_}
 use mathlib.Core.Bool.{true, false, and-false}
-use mathlib.Core.List.{List, [], _∷_}
+use mathlib.Core.List.{List}
 use Prim.Native.Nat.{ℕ, _≤_, _<_}
-use native.Mathlib.Omega.{arith}
 use borrow.Author.Tests.{le-leb, lt-leb}
 use lib.Ieee.{Float}
-use lib.ListN.{length, set}
+use lib.ListN.{length}
 use Rattle.decoder.specs.declared.record.Decoder.{Decoder}
 use Rattle.decoder.specs.declared.answers.Opening.{Opening}
 use Rattle.playback.specs.declared.outcome.Outcome.{Outcome}
@@ -34,11 +33,6 @@ module _ (s l : List ℕ) (x : Memory) where
   opens h e o p = rw (h, ← e, o, p)
 
 -- ---- the hand-out
-
--- a picture's number, stored
-pub first-set : (k : List ℕ) (n : ℕ) → pictureCount ≤ length k → set k 0 n ≡ over (n ∷ []) k
-first-set [] n h = absurd (omega arith)
-first-set (x ∷ k) n h = refl
 
 -- what is left and shown of an answer
 abbrev pub told : Outcome → List ℕ → Memory → List ℕ → Float → Shows

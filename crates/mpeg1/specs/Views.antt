@@ -26,9 +26,8 @@ sequenceSeen n = sequenceIn n (replicate matrixCount 0)
 -- RULES Q2: that, if it is possible; else the fresh one, whose sizes are 0
 unfoldable pub seen : List ℕ → Sequence
 seen n =
-    if leb numberCount (length n) && leb (number n 1) 1 then
-      if possibleSequence (sequenceSeen n) then sequenceSeen n else freshSequence
-    else freshSequence
+    let q = sequenceSeen n in
+    if leb numberCount (length n) && leb (number n 1) 1 then (if possibleSequence q then q else freshSequence) else freshSequence
 
 -- the macroblocks of a picture are few
 pub record Few (q : Sequence) : Type 0 where

@@ -3,12 +3,14 @@ use bits::position::LONGEST_STREAM;
 use decoder::answers::Converted;
 use decoder::answers::Opening;
 use decoder::record::Decoder;
+use memory::copies::copy_numbers;
 use memory::format::CLOCK;
 use memory::reading::has_room;
 use memory::reading::is_record;
 use memory::reading::record_of;
 use memory::writing::save;
 use playback::outcome::Outcome;
+use playback::outcome::Shown;
 ghost use mathlib.Core.Path.{_≡_};
 ghost use mathlib.Core.Bool.{true};
 ghost use lib.Dec.{leb};
@@ -17,11 +19,18 @@ ghost use Rattle.decoder.specs.Opening as Open;
 ghost use Rattle.decoder.specs.HandOut as Out;
 ghost use Rattle.decoder.specs.Answers.{openingNumber, conversionNumber};
 ghost use Rattle.memory.specs.Memory.{memory, roomy, recordOf, isRecord, Holds};
-ghost use Rattle.mpeg1.specs.Calls.{kept, shows, opensIn, pictureCount, HandsOut, decodesIn, unclocked, converts, convertsIn};
+ghost use Rattle.mpeg1.specs.Calls.{kept, shows, opensIn, pictureNumbers, pictureCount, HandsOut, decodesIn, unclocked, converts, convertsIn};
 ghost use Rattle.bits.specs.Bounds.{longestStream};
 
-// How many numbers are told of a picture: its store.
+// How many numbers are told of a picture.
 pub const PICTURE_NUMBERS: usize = 1;
+
+// They are its store.
+fn picture_numbers(p: Shown) -> [usize; PICTURE_NUMBERS]
+    ensures { λ r. ⌜ r ≡ pictureNumbers p ⌝ }
+{
+    [p.store]
+}
 
 fn opening_number(x: Opening) -> u32
     ensures { λ r. ⌜ r ≡ openingNumber x ⌝ }
@@ -121,7 +130,8 @@ pub extern "C" fn mpeg1_decode(
     let outcome = hand_out(stream, store, numbers, integers, matrices, clock);
     match outcome {
         Outcome::Picture(p) => {
-            picture[0] = p.store;
+            let told = picture_numbers(p);
+            copy_numbers(picture, 0, &told);
             *time = p.time;
             0
         }

@@ -1,14 +1,15 @@
 use mathlib.Core.Bool.{true, false≢true}
-use mathlib.Core.Path.{_≡_, sym, _∙_}
+use mathlib.Core.Path.{_≡_, sym, ap, _∙_}
 use Prim.Native.Nat.{_≤_}
+use native.Mathlib.Omega.{arith}
 use borrow.Author.Needs.{needs}
 use borrow.Author.Tests.{not-true, not-false, lt-leb}
 use denote.Ref.{now}
 use lib.ListN.{length}
 use Rattle.playback.specs.declared.outcome.Outcome.{Outcome}
-use Rattle.memory.specs.Memory.{Memory, memory, isRecord}
+use Rattle.memory.specs.Memory.{Memory, memory, over, isRecord}
 use Rattle.mpeg1.specs.Calls.{pictureCount, decodesIn}
-use Rattle.mpeg1.proofs.Answers.{decodes-1, decodes-2, decodes-short, first-set, told, decodes}
+use Rattle.mpeg1.proofs.Answers.{decodes-1, decodes-2, decodes-short, told, decodes}
 use Rattle.mpeg1.proofs.calls.mpeg1_decode.Statement.{statement}
 use Rattle.mpeg1.proofs.calls.mpeg1_decode.Tie as tie
 use Rattle.bits.specs.Bounds.{longestStream}
@@ -80,10 +81,19 @@ module _ (c : tie.After-slice-known9) where
       ≡ decodesIn (now (start .args .stream)) (now (start .args .store)) (lent start) (now (start .args .picture)) (now (start .args .time))
   gives e = rw (← e) (decodes _ _ _ _ _ (roomy (ready .before) .before .if1 .left) (is ready) room (gave .hand-out .ensures))
 
+-- the outcome is a picture, whose numbers are put over the beginning of what is lent
+abbrev answered : tie.After-picture-numbers → tie.After-outcome
+answered v = v .before .before
+
+copy-numbers-requires : tie.Need-copy-numbers-requires
+copy-numbers-requires c κs =
+    let v = c .before .before in let p = answered v .before .before in omega (arith, room p, ap length (v .picture-numbers .ensures))
+
 returns-4 : tie.Need-returns-4
 returns-4 c =
-    let p = c .before .before .before in let h = room p in
-    (rw first-set (gives p (c .before .outcome .given .1)), λ i h q. gave p .hand-out .ensures .holds)
+    let k = c .before .before in let v = k .before .before .before in let o = answered v in let p = o .before .before in
+    let put = k .copy-numbers .ensures ∙ ap (λ z. over z (now (start p .args .picture))) (v .picture-numbers .ensures) in
+    (rw put (gives p (o .outcome .given .1)), λ i h q. gave p .hand-out .ensures .holds)
 
 returns-5 : tie.Need-returns-5
 returns-5 c = let p = c .before .before .before in (gives p (c .before .outcome2 .given .1), λ i h q. gave p .hand-out .ensures .holds)
@@ -91,6 +101,6 @@ returns-5 c = let p = c .before .before .before in (gives p (c .before .outcome2
 pub mpeg1-decode-spec : {M : Type 1} → statement M
 mpeg1-decode-spec =
     tie.close (tie.spec returns returns-2 (λ c κs. search needs) (λ c. search needs) (λ c. search needs) (λ c. search needs) (λ c. search needs)
-    returns-3 (λ c κs. is (asked c)) (λ c. search needs) (λ c. search needs) (λ c. search needs) (λ c. search needs) (λ c. search needs)
-    (λ c. search needs) (λ c. search needs) (λ c. search needs) (λ c. search needs) returns-4 (λ c. search needs) (λ c. search needs)
-    (λ c. search needs) (λ c. search needs) (λ c. search needs) returns-5)
+    returns-3 (λ c κs. is (asked c)) (λ c. search needs) (λ c κs. search needs) (λ c. search needs) copy-numbers-requires (λ c. search needs)
+    (λ c. search needs) (λ c. search needs) (λ c. search needs) (λ c. search needs) (λ c. search needs) (λ c. search needs) returns-4
+    (λ c. search needs) (λ c. search needs) (λ c. search needs) (λ c. search needs) (λ c. search needs) returns-5)
