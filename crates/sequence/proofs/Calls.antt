@@ -21,8 +21,7 @@ use Rattle.decoder.specs.declared.answers.Opening.the-variants as O
 use Rattle.playback.specs.declared.outcome.Shown.{Shown}
 use Rattle.playback.specs.declared.outcome.Outcome.{Outcome}
 use Rattle.playback.specs.declared.outcome.Outcome.the-variants as H
-use Rattle.playback.specs.State.{frames}
-use Rattle.playback.specs.Display.{told}
+use Rattle.playback.specs.State.{frames, told}
 use Rattle.playback.specs.Turns as P
 use Rattle.playback.specs.Turns.{TurnState, Ended, gave, pictureTurn}
 use Rattle.decoder.specs.Record.{Left, left, given, resumed, place}

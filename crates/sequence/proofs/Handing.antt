@@ -22,9 +22,9 @@ use Rattle.standard.proofs.Picture.{Result}
 use Rattle.playback.specs.declared.outcome.Outcome.the-variants as H
 use Rattle.playback.specs.declared.state.State.{State}
 use Rattle.playback.specs.State as State
-use Rattle.playback.specs.State.{pastFrame, heldAs}
+use Rattle.playback.specs.State.{told, pastFrame, heldAs}
 use Rattle.playback.specs.Search.{hasEnded, isFollowed}
-use Rattle.playback.specs.Display.{counted, told}
+use Rattle.playback.specs.Display.{counted}
 use Rattle.playback.specs.Turns.{TurnState, inState, Ended, gave, pictureTurn}
 use Rattle.playback.specs.Cases.{isB, leftBy, countedPast}
 use Rattle.playback.proofs.Cases.{turn-b, turn-held, turn-holds}

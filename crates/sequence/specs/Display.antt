@@ -7,7 +7,7 @@ use lib.ListN.{getD}
 use Rattle.bits.specs.Programs.{if_then_else_}
 use Rattle.standard.specs.Standard.{Decoded}
 use Rattle.playback.specs.declared.outcome.Outcome.the-variants.{Picture, Refused}
-use Rattle.playback.specs.Display.{told}
+use Rattle.playback.specs.State.{told}
 use Rattle.decoder.specs.Run.{Going, call, behind}
 
 -- 2.4.1: a B picture is shown at once; an I or P picture waits for the next one, so that the B pictures between them come first. w is the one that waits
