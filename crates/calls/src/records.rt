@@ -13,10 +13,10 @@ ghost use Rattle.calls.specs.Records.{numbersIn, integersIn, matricesIn,
 // Behind the numbers and the integers.
 const MATRICES_AT: usize = 4 * (NUMBERS + INTEGERS);
 
-pub fn numbers_in(list: &[u8]) -> [usize; 21]
+pub fn numbers_in(list: &[u8]) -> [usize; NUMBERS]
     ensures { λ r. ⌜ r ≡ numbersIn (now (list .entry)) ⌝ }
 {
-    let mut numbers = [0usize; 21];
+    let mut numbers = [0usize; NUMBERS];
     let mut i: usize = 0;
     while i < NUMBERS {
         numbers[i] = number_at(list, 4 * i) as usize;
@@ -25,10 +25,10 @@ pub fn numbers_in(list: &[u8]) -> [usize; 21]
     numbers
 }
 
-pub fn integers_in(list: &[u8]) -> [i32; 73]
+pub fn integers_in(list: &[u8]) -> [i32; INTEGERS]
     ensures { λ r. ⌜ r ≡ integersIn (now (list .entry)) ⌝ }
 {
-    let mut integers = [0i32; 73];
+    let mut integers = [0i32; INTEGERS];
     let mut i: usize = 0;
     while i < INTEGERS {
         integers[i] = signed(number_at(list, 4 * (NUMBERS + i)));
@@ -37,10 +37,10 @@ pub fn integers_in(list: &[u8]) -> [i32; 73]
     integers
 }
 
-pub fn matrices_in(list: &[u8]) -> [u8; 128]
+pub fn matrices_in(list: &[u8]) -> [u8; MATRICES]
     ensures { λ r. ⌜ r ≡ matricesIn (now (list .entry)) ⌝ }
 {
-    let mut matrices = [0u8; 128];
+    let mut matrices = [0u8; MATRICES];
     let mut i: usize = 0;
     while i < MATRICES {
         matrices[i] = byte_at(list, MATRICES_AT + i) as u8;
@@ -49,10 +49,10 @@ pub fn matrices_in(list: &[u8]) -> [u8; 128]
     matrices
 }
 
-pub fn clock_in(list: &[u8]) -> [f64; 4]
+pub fn clock_in(list: &[u8]) -> [f64; CLOCK]
     ensures { λ r. ⌜ r ≡ clockIn (now (list .entry)) ⌝ }
 {
-    let mut clock = [0.0f64; 4];
+    let mut clock = [0.0f64; CLOCK];
     let mut i: usize = 0;
     while i < CLOCK {
         let at = MATRICES_AT + MATRICES + 8 * i;

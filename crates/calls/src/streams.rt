@@ -3,6 +3,10 @@ use crate::room;
 use crate::show::decode;
 use crate::show::open;
 use lists::noise::fill;
+use memory::format::CLOCK;
+use memory::format::INTEGERS;
+use memory::format::MATRICES;
+use memory::format::NUMBERS;
 
 // Hand-outs, until a number other than 5 comes twice.
 fn run(
@@ -28,10 +32,10 @@ fn run(
 pub fn run_stream(stream: &[u8]) {
     let mut store = room::store();
     fill(&mut store, 7);
-    let mut numbers = [0usize; 21];
-    let mut integers = [0i32; 73];
-    let mut matrices = [0u8; 128];
-    let mut clock = [0.0f64; 4];
+    let mut numbers = [0usize; NUMBERS];
+    let mut integers = [0i32; INTEGERS];
+    let mut matrices = [0u8; MATRICES];
+    let mut clock = [0.0f64; CLOCK];
     open(
         stream,
         &mut store,

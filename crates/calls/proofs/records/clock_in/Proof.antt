@@ -4,16 +4,17 @@ use native.Mathlib.Omega.{arith}
 use lib.Ieee.{binary64, ofBits}
 use lib.ListN.{replicate}
 use Rattle.laws.proofs.Lists.{Stored, none-stored, stored-first, all-stored}
+use Rattle.memory.specs.Fields.{clockCount}
 use Rattle.calls.specs.Floats.{fraction}
 use Rattle.calls.specs.Records.{clockIn, floatAt}
 use Rattle.calls.proofs.records.clock_in.Statement.{statement}
 use Rattle.calls.proofs.records.clock_in.Tie as tie
 
 abbrev Inv-loop : tie.InvT-loop
-Inv-loop list clock₀ i₀ clock i = Stored (replicate 4 (ofBits binary64 0)) 0 (floatAt list) 4 clock i
+Inv-loop list clock₀ i₀ clock i = Stored (replicate clockCount (ofBits binary64 0)) 0 (floatAt list) clockCount clock i
 
 abbrev μ-loop : tie.MeasureT-loop
-μ-loop list clock₀ i₀ clock i = 4 - i
+μ-loop list clock₀ i₀ clock i = clockCount - i
 
 loop-again : tie.Need-loop-again Inv-loop μ-loop
 loop-again c =

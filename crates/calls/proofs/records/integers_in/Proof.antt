@@ -7,16 +7,17 @@ use mir.Syntax.{w32}
 use mir.Val.{toZ}
 use Rattle.laws.proofs.Lists.{Stored, none-stored, stored-first, all-stored}
 use Rattle.lists.specs.Numbers.{numberAt}
+use Rattle.memory.specs.Fields.{numberCount, integerCount}
 use Rattle.lists.proofs.Signs.{given}
 use Rattle.calls.specs.Records.{integersIn}
 use Rattle.calls.proofs.records.integers_in.Statement.{statement}
 use Rattle.calls.proofs.records.integers_in.Tie as tie
 
 abbrev Inv-loop : tie.InvT-loop
-Inv-loop list integers₀ i₀ integers i = Stored (replicate 73 (pos 0)) 0 (λ k. toZ w32 (numberAt list (4 * (21 + k)))) 73 integers i
+Inv-loop list integers₀ i₀ integers i = Stored (replicate integerCount (pos 0)) 0 (λ k. toZ w32 (numberAt list (4 * (numberCount + k)))) integerCount integers i
 
 abbrev μ-loop : tie.MeasureT-loop
-μ-loop list integers₀ i₀ integers i = 73 - i
+μ-loop list integers₀ i₀ integers i = integerCount - i
 
 loop-again : tie.Need-loop-again Inv-loop μ-loop
 loop-again c =

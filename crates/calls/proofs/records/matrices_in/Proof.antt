@@ -2,15 +2,16 @@ use Prim.Native.Nat.{_+_, _-_}
 use native.Mathlib.Omega.{arith}
 use lib.ListN.{getD, replicate}
 use Rattle.laws.proofs.Lists.{Stored, none-stored, stored-first, all-stored}
-use Rattle.calls.specs.Records.{matricesIn}
+use Rattle.memory.specs.Fields.{matrixCount}
+use Rattle.calls.specs.Records.{matricesAt, matricesIn}
 use Rattle.calls.proofs.records.matrices_in.Statement.{statement}
 use Rattle.calls.proofs.records.matrices_in.Tie as tie
 
 abbrev Inv-loop : tie.InvT-loop
-Inv-loop list matrices₀ i₀ matrices i = Stored (replicate 128 0) 0 (λ k. getD list (376 + k) 0) 128 matrices i
+Inv-loop list matrices₀ i₀ matrices i = Stored (replicate matrixCount 0) 0 (λ k. getD list (matricesAt + k) 0) matrixCount matrices i
 
 abbrev μ-loop : tie.MeasureT-loop
-μ-loop list matrices₀ i₀ matrices i = 128 - i
+μ-loop list matrices₀ i₀ matrices i = matrixCount - i
 
 loop-again : tie.Need-loop-again Inv-loop μ-loop
 loop-again c = let l = c .before .before in stored-first (l .loop .inv) (c .before .loop-test .taken) (c .byte-at .ensures .0)

@@ -4,15 +4,16 @@ use borrow.Author.Needs.{needs}
 use lib.ListN.{replicate}
 use Rattle.laws.proofs.Lists.{Stored, none-stored, stored-first, all-stored}
 use Rattle.lists.specs.Numbers.{numberAt}
+use Rattle.memory.specs.Fields.{numberCount}
 use Rattle.calls.specs.Records.{numbersIn}
 use Rattle.calls.proofs.records.numbers_in.Statement.{statement}
 use Rattle.calls.proofs.records.numbers_in.Tie as tie
 
 abbrev Inv-loop : tie.InvT-loop
-Inv-loop list numbers₀ i₀ numbers i = Stored (replicate 21 0) 0 (λ k. numberAt list (4 * k)) 21 numbers i
+Inv-loop list numbers₀ i₀ numbers i = Stored (replicate numberCount 0) 0 (λ k. numberAt list (4 * k)) numberCount numbers i
 
 abbrev μ-loop : tie.MeasureT-loop
-μ-loop list numbers₀ i₀ numbers i = 21 - i
+μ-loop list numbers₀ i₀ numbers i = numberCount - i
 
 loop-again : tie.Need-loop-again Inv-loop μ-loop
 loop-again c = let l = c .before .before in stored-first (l .loop .inv) (c .before .loop-test .taken) (c .number-at .ensures)
