@@ -1,16 +1,17 @@
 -- Rows that are read from one part of the store and written into another that is apart from it: what is read was not written before.
-use mathlib.Core.Path.{_≡_, ap, ap₂, _∙_}
-use mathlib.Core.Bool.{Bool, true}
+use mathlib.Core.Path.{_≡_, refl, ap, ap₂, _∙_, subst}
+use mathlib.Core.Bool.{Bool, true, false}
 use mathlib.Core.List.{List}
 use mathlib.Core.Logic.{_⊎_, inl, inr, ⊎-elim}
 use Prim.Native.Nat.{ℕ, zero, suc, _+_, _*_, _≤_, _<_}
 use native.Mathlib.Nat.{mul-le-mul-right}
 use native.Mathlib.Omega.{arith}
+use borrow.Author.Tests.{eqb-true}
 use lib.Dec.{eqb}
 use lib.ListN.{length, getD, set, replicate, length-replicate}
 use Rattle.laws.specs.Stores.{storeRow}
 use Rattle.laws.proofs.Lists.{last-row, row-alike, row-in, rows-alike, rows-out, Stored, none-stored, stored-first, all-stored}
-use Rattle.prediction.specs.Apart.{Apart, paired, sampled, laidAt, laidRows}
+use Rattle.prediction.specs.Apart.{Apart, chosen, sampled, laidAt, laidRows}
 use Rattle.prediction.specs.Samples.{average2, sample, laid}
 use Rattle.prediction.proofs.Lines.{Lines, no-line, line-on, lines-all}
 
@@ -84,35 +85,57 @@ module _ {interpolate : Bool} {f : List ℕ → ℕ → ℕ} {s : List ℕ} {fro
             (reads before s (from + y * dw + x) (λ j low high. kept j (omega arith) (omega arith)))));
       }
 
+-- the same where the size of a row, n, is known to be b
+pub rows-turn : {interpolate : Bool} {f : List ℕ → ℕ → ℕ} {s before now row : List ℕ} {from to dw b n e y x : ℕ} → n ≡ b → Apart (length s) from to dw n e
+    → Rows interpolate f s from to dw n before y → y < n → Reads f e → b ≤ 16 → Making interpolate f before (from + y * dw) (to + y * dw) b e row x
+    → b ≤ x → now ≡ storeRow before (to + y * dw) (λ x. getD row x 0) b → Rows interpolate f s from to dw n now (y + 1)
+rows-turn {interpolate} {f} {s} {before} {now} {row} {from} {to} {dw} {b} {n} {e} {y} {x} is k l q reads =
+    subst
+    (λ (b : ℕ).
+    b ≤ 16
+    → Making interpolate f before (from + y * dw) (to + y * dw) b e row x
+    → b ≤ x
+    → now ≡ storeRow before (to + y * dw) (λ x. getD row x 0) b
+    → Rows interpolate f s from to dw n now (y + 1))
+    is (λ small m all put. rows-on k l q reads small m all put)
+
 -- ---- averages of two and of four
 
-pub two : (other : ℕ) → Reads (paired other) other
-two other s t i h = ap₂ average2 (h i (omega arith) (omega arith)) (h (i + other) (omega arith) (omega arith))
-
-pub four : (dw : ℕ) → Reads (sampled dw true true) (dw + 1)
+pub chosen-reads : (dw other right : ℕ) (four : Bool) → (four ≡ true → (other ≡ dw + 1) × (right ≡ 1)) → Reads (chosen dw other four) other
 unfolding sample
-four dw s t i h =
+chosen-reads dw other right true is s t i h =
+    let e : other ≡ dw + 1 = is refl .0 in
     rw (
       h i (omega arith) (omega arith),
       h (i + 1) (omega arith) (omega arith),
       h (i + dw) (omega arith) (omega arith),
       h (i + dw + 1) (omega arith) (omega arith),
     )
+chosen-reads dw other right false is s t i h = ap₂ average2 (h i (omega arith) (omega arith)) (h (i + other) (omega arith) (omega arith))
 
 -- an average of two, with an offset that is 0, 1 or a row: the sample itself, or averaged with the one to the right or the one below
-of-two : (s : List ℕ) (dw right below i : ℕ) → right ≤ 1 → below ≤ 1 → (below * 2 + right ≡ 3 → ⊥)
-    → paired (below * dw + right) s i ≡ sample s dw (eqb right 1) (eqb below 1) i
+chosen-is : (s : List ℕ) (dw right below i : ℕ) → right ≤ 1 → below ≤ 1
+    → chosen dw (below * dw + right) (eqb (below * 2 + right) 3) s i ≡ sample s dw (eqb right 1) (eqb below 1) i
 unfolding sample
-of-two s dw zero zero i r b n = let e : i + (0 * dw + 0) ≡ i = omega arith in ap (λ (k : ℕ). average2 (getD s i 0) (getD s k 0)) e ∙ omega arith
-of-two s dw zero (suc zero) i r b n = ap (λ (k : ℕ). average2 (getD s i 0) (getD s k 0)) (omega arith)
-of-two s dw (suc zero) zero i r b n = ap (λ (k : ℕ). average2 (getD s i 0) (getD s k 0)) (omega arith)
-of-two s dw (suc zero) (suc zero) i r b n = absurd (n (omega arith))
-of-two s dw (suc (suc k)) below i r b n = absurd (omega arith)
-of-two s dw zero (suc (suc k)) i r b n = absurd (omega arith)
-of-two s dw (suc zero) (suc (suc k)) i r b n = absurd (omega arith)
+chosen-is s dw zero zero i r b = let e : i + (0 * dw + 0) ≡ i = omega arith in ap (λ (k : ℕ). average2 (getD s i 0) (getD s k 0)) e ∙ omega arith
+chosen-is s dw zero (suc zero) i r b = ap (λ (k : ℕ). average2 (getD s i 0) (getD s k 0)) (omega arith)
+chosen-is s dw (suc zero) zero i r b = ap (λ (k : ℕ). average2 (getD s i 0) (getD s k 0)) (omega arith)
+chosen-is s dw (suc zero) (suc zero) i r b = refl
+chosen-is s dw (suc (suc k)) below i r b = absurd (omega arith)
+chosen-is s dw zero (suc (suc k)) i r b = absurd (omega arith)
+chosen-is s dw (suc zero) (suc (suc k)) i r b = absurd (omega arith)
 
-pub pairs-are : (interpolate : Bool) (s : List ℕ) (from to dw b right below : ℕ) → (right ≤ 1) × (below ≤ 1) → (below * 2 + right ≡ 3 → ⊥)
-    → laidRows interpolate (paired (below * dw + right)) s from to dw b ≡ laidRows interpolate (sampled dw (eqb right 1) (eqb below 1)) s from to dw b
-pairs-are interpolate s from to dw b right below h n =
+pub chosen-rows : (interpolate : Bool) (s : List ℕ) (from to dw b right below : ℕ) → (right ≤ 1) × (below ≤ 1)
+    → laidRows interpolate (chosen dw (below * dw + right) (eqb (below * 2 + right) 3)) s from to dw b
+    ≡ laidRows interpolate (sampled dw (eqb right 1) (eqb below 1)) s from to dw b
+chosen-rows interpolate s from to dw b right below h =
     rows-alike s to dw b _ _ b
-    (λ y x q k. ap (laid interpolate (getD s (to + y * dw + x) 0)) (of-two s dw right below (from + y * dw + x) (h .0) (h .1) n))
+    (λ y x q k. ap (laid interpolate (getD s (to + y * dw + x) 0)) (chosen-is s dw right below (from + y * dw + x) (h .0) (h .1)))
+
+-- both are 1 where the average is of four
+pub both-one : (dw right below : ℕ) → (right ≤ 1) × (below ≤ 1) → eqb (below * 2 + right) 3 ≡ true → (below * dw + right ≡ dw + 1) × (right ≡ 1)
+both-one dw right below h e =
+    let three = eqb-true (below * 2 + right) 3 e in
+    let across : right ≡ 1 = omega arith in
+    let down : below ≡ 1 = omega arith in
+    (rw (across, down) (omega arith), across)

@@ -1,5 +1,5 @@
 -- A block that is made row by row, from one part of the store into another that is apart from it: what the rows ask, and what they make.
-use mathlib.Core.Bool.{Bool}
+use mathlib.Core.Bool.{Bool, true, cond}
 use mathlib.Core.List.{List}
 use mathlib.Core.Logic.{_⊎_}
 use Prim.Native.Nat.{ℕ, _+_, _*_, _-_, _≤_}
@@ -21,6 +21,10 @@ paired other s i = average2 (getD s i 0) (getD s (i + other) 0)
 -- RULES 6.7: the same by half samples
 abbrev pub sampled : ℕ → Bool → Bool → List ℕ → ℕ → ℕ
 sampled dw across down s i = sample s dw across down i
+
+-- RULES 6.7: the average of four, or of two
+abbrev pub chosen : ℕ → ℕ → Bool → List ℕ → ℕ → ℕ
+chosen dw other four s i = cond four (sampled dw true true s i) (paired other s i)
 
 -- RULES 6.8: what f makes of the store at i, in place of what stands at o or averaged with it
 abbrev pub laidAt : Bool → (List ℕ → ℕ → ℕ) → List ℕ → ℕ → ℕ → ℕ

@@ -1,7 +1,7 @@
 // A predicted block, row by row, from one part of the store into another that is apart from it (RULES 6.7, 6.8). Each row is made in an array before it is
-// written, so that it is one move of 16 or 8 bytes. The sizes 16 and 8 stand in the texts, with both loops in one function: a loop that becomes one of 8
-// turns by inlining only is unrolled byte by byte. The sample to the right or below stands at an offset that is a parameter: where the compiler sees that
-// it is 1, it loads a row once and shuffles it, which takes longer. An offset of 0 averages a sample with itself: a copy.
+// written, so that it is one move of 16 or 8 bytes. The sizes 16 and 8 stand in the text: a loop that becomes one of 8 turns by inlining only is unrolled
+// byte by byte. The sample to the right or below stands at an offset that is a parameter: where the compiler sees that it is 1, it loads a row once and
+// shuffles it, which takes longer. An offset of 0 averages a sample with itself: a copy.
 use crate::samples::average2;
 use crate::samples::average4;
 use crate::samples::laid;
@@ -12,7 +12,7 @@ ghost use Prim.Native.Nat.{_+_, _*_, _≤_, _<_};
 ghost use lib.Dec.{eqb};
 ghost use lib.ListN.{length, getD};
 ghost use Rattle.laws.specs.Stores.{storeRow};
-ghost use Rattle.prediction.specs.Apart.{Apart, paired, sampled, laidAt, laidRows};
+ghost use Rattle.prediction.specs.Apart.{Apart, paired, chosen, sampled, laidAt, laidRows};
 
 // So many bytes of a row that was made.
 fn put_row(d: &mut [u8], at: usize, row: &[u8; 16], size: usize)
@@ -53,86 +53,25 @@ fn four_at(store: &[u8], i: usize, o: usize, dw: usize, right: usize, interpolat
     )
 }
 
-// 16 rows of 16, by averages of two.
-fn pair_16(store: &mut [u8], from: usize, to: usize, dw: usize, other: usize, interpolate: bool)
-    requires { ⌜ Apart (length (now store)) from to dw 16 other ⌝ }
-    ensures { λ _. ⌜ now (store .exit) ≡ laidRows interpolate (paired other) (now (store .entry)) from to dw 16 ⌝ }
+// The average of four or of two.
+fn laid_at(
+    store: &[u8],
+    i: usize,
+    o: usize,
+    dw: usize,
+    other: usize,
+    right: usize,
+    four: bool,
+    interpolate: bool,
+) -> u8
+    requires { ⌜ (i + other < length (now store)) × (o < length (now store)) ⌝ }
+    requires { ⌜ (four ≡ true → (other ≡ dw + 1) × (right ≡ 1)) ⌝ }
+    ensures { λ r. ⌜ r ≡ laidAt interpolate (chosen dw other four) (now (store .entry)) i o ⌝ }
 {
-    let mut y: usize = 0;
-    while y < 16 {
-        let i = from + y * dw;
-        let o = to + y * dw;
-        let mut row = [0u8; 16];
-        let mut x: usize = 0;
-        while x < 16 {
-            row[x] = pair_at(store, i + x, o + x, other, interpolate);
-            x += 1;
-        }
-        put_row(store, o, &row, 16);
-        y += 1;
+    if four {
+        return four_at(store, i, o, dw, right, interpolate);
     }
-}
-
-// 8 rows of 8, by averages of two.
-fn pair_8(store: &mut [u8], from: usize, to: usize, dw: usize, other: usize, interpolate: bool)
-    requires { ⌜ Apart (length (now store)) from to dw 8 other ⌝ }
-    ensures { λ _. ⌜ now (store .exit) ≡ laidRows interpolate (paired other) (now (store .entry)) from to dw 8 ⌝ }
-{
-    let mut y: usize = 0;
-    while y < 8 {
-        let i = from + y * dw;
-        let o = to + y * dw;
-        let mut row = [0u8; 16];
-        let mut x: usize = 0;
-        while x < 8 {
-            row[x] = pair_at(store, i + x, o + x, other, interpolate);
-            x += 1;
-        }
-        put_row(store, o, &row, 8);
-        y += 1;
-    }
-}
-
-// 16 rows of 16, by averages of four.
-fn four_16(store: &mut [u8], from: usize, to: usize, dw: usize, right: usize, interpolate: bool)
-    requires { ⌜ Apart (length (now store)) from to dw 16 (dw + 1) ⌝ }
-    requires { ⌜ right ≡ 1 ⌝ }
-    ensures { λ _. ⌜ now (store .exit) ≡ laidRows interpolate (sampled dw true true) (now (store .entry)) from to dw 16 ⌝ }
-{
-    let mut y: usize = 0;
-    while y < 16 {
-        let i = from + y * dw;
-        let o = to + y * dw;
-        let mut row = [0u8; 16];
-        let mut x: usize = 0;
-        while x < 16 {
-            row[x] = four_at(store, i + x, o + x, dw, right, interpolate);
-            x += 1;
-        }
-        put_row(store, o, &row, 16);
-        y += 1;
-    }
-}
-
-// 8 rows of 8, by averages of four.
-fn four_8(store: &mut [u8], from: usize, to: usize, dw: usize, right: usize, interpolate: bool)
-    requires { ⌜ Apart (length (now store)) from to dw 8 (dw + 1) ⌝ }
-    requires { ⌜ right ≡ 1 ⌝ }
-    ensures { λ _. ⌜ now (store .exit) ≡ laidRows interpolate (sampled dw true true) (now (store .entry)) from to dw 8 ⌝ }
-{
-    let mut y: usize = 0;
-    while y < 8 {
-        let i = from + y * dw;
-        let o = to + y * dw;
-        let mut row = [0u8; 16];
-        let mut x: usize = 0;
-        while x < 8 {
-            row[x] = four_at(store, i + x, o + x, dw, right, interpolate);
-            x += 1;
-        }
-        put_row(store, o, &row, 8);
-        y += 1;
-    }
+    pair_at(store, i, o, other, interpolate)
 }
 
 // The block of size by size samples that begins at `from`, laid at `to`. right and below are 1 for a half sample across and down, else 0.
@@ -151,18 +90,28 @@ pub fn predict_apart(
     requires { ⌜ Apart (length (now store)) from to dw size (below * dw + right) ⌝ }
     ensures { λ _. ⌜ now (store .exit) ≡ laidRows interpolate (sampled dw (eqb right 1) (eqb below 1)) (now (store .entry)) from to dw size ⌝ }
 {
-    if below * 2 + right == 3 {
-        if size == 16 {
-            four_16(store, from, to, dw, right, interpolate);
-            return;
-        }
-        four_8(store, from, to, dw, right, interpolate);
-        return;
-    }
     let other = below * dw + right;
-    if size == 16 {
-        pair_16(store, from, to, dw, other, interpolate);
-        return;
+    let four = below * 2 + right == 3;
+    let mut y: usize = 0;
+    while y < size {
+        let i = from + y * dw;
+        let o = to + y * dw;
+        let mut row = [0u8; 16];
+        let mut x: usize = 0;
+        if size == 16 {
+            while x < 16 {
+                row[x] = laid_at(store, i + x, o + x, dw, other, right, four, interpolate);
+                x += 1;
+            }
+            put_row(store, o, &row, 16);
+            y += 1;
+        } else {
+            while x < 8 {
+                row[x] = laid_at(store, i + x, o + x, dw, other, right, four, interpolate);
+                x += 1;
+            }
+            put_row(store, o, &row, 8);
+            y += 1;
+        }
     }
-    pair_8(store, from, to, dw, other, interpolate);
 }

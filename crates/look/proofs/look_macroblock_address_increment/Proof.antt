@@ -1,4 +1,4 @@
--- `look_macroblock_address_increment` meets its contract: 128 arms, each of which gives the table's number, and the default arm, which gives that of all others.
+-- `look_macroblock_address_increment` meets its contract, as `look_dct_coeff` does.
 use mathlib.Core.Path.{refl}
 use lib.ListN.{getD}
 use Rattle.laws.specs.Each.{allBelow}

@@ -1,78 +1,89 @@
--- `apart::predict_apart` meets its contract: the average of four where both are 1, else that of two; the size is 16 or 8.
+-- `apart::predict_apart` meets its contract: each turn of an inner loop makes a byte more of a row, each turn of the outer one writes it.
 use mathlib.Core.Path.{_≡_, _∙_}
 use mathlib.Core.Bool.{true}
-use mathlib.Core.List.{List}
 use mathlib.Core.Logic.{⊎-elim}
-use Prim.Native.Nat.{ℕ, _+_, _*_}
+use Prim.Native.Nat.{_+_, _*_, _-_}
 use native.Mathlib.Omega.{arith}
 use borrow.Author.Needs.{needs}
 use denote.Ref.{now}
 use lib.Dec.{eqb}
-use lib.ListN.{length}
-use Rattle.prediction.specs.Apart.{Apart, paired, sampled, laidRows}
-use Rattle.prediction.proofs.Beside.{pairs-are}
+use lib.ListN.{replicate}
+use Rattle.prediction.specs.Apart.{chosen}
+use Rattle.prediction.proofs.Beside.{Reads, Making, make-on, Rows, no-row, none-made, rows-turn, all-rows, chosen-reads, chosen-rows, both-one}
 use Rattle.prediction.proofs.apart.predict_apart.Statement.{statement}
 use Rattle.prediction.proofs.apart.predict_apart.Tie as tie
 
--- ---- for a size that is b
+abbrev Inv-loop2 : tie.InvT-loop2
+Inv-loop2 store from to dw size right below interpolate other four y i o row₀ x₀ row x = Making interpolate (chosen dw other four) store i o 16 other row x
 
-module _ (s : tie.Start) {b : ℕ} (e : s .args .size ≡ b) where
-  abbrev Asked : ℕ → Type 0
-  Asked far = Apart (length (now (s .args .store))) (s .args .from) (s .args .to) (s .args .dw) b far
+abbrev μ-loop2 : tie.MeasureT-loop2
+μ-loop2 store from to dw size right below interpolate other four y i o row₀ x₀ row x = 16 - x
 
-  abbrev Laid : (List ℕ → ℕ → ℕ) → List ℕ → ℕ → Type 0
-  Laid f last size = last ≡ laidRows (s .args .interpolate) f (now (s .args .store)) (s .args .from) (s .args .to) (s .args .dw) size
+abbrev Inv-loop3 : tie.InvT-loop3
+Inv-loop3 store from to dw size right below interpolate other four y i o row₀ x₀ row x = Making interpolate (chosen dw other four) store i o 8 other row x
 
-  abbrev Result : List ℕ → Type 0
-  Result last = Laid (sampled (s .args .dw) (eqb (s .args .right) 1) (eqb (s .args .below) 1)) last (s .args .size)
+abbrev μ-loop3 : tie.MeasureT-loop3
+μ-loop3 store from to dw size right below interpolate other four y i o row₀ x₀ row x = 8 - x
 
-  -- right and below are both 1
-  module _ (h : s .args .below * 2 + s .args .right ≡ 3) where
-    right-is : s .args .right ≡ 1
-    right-is = let p = s .pre .1 .0 in omega arith
+abbrev Inv-loop : tie.InvT-loop
+Inv-loop store₀ from to dw size right below interpolate other four y₀ store y = Rows interpolate (chosen dw other four) store₀ from to dw size store y
 
-    below-is : s .args .below ≡ 1
-    below-is = let p = s .pre .1 .0 in omega arith
+abbrev μ-loop : tie.MeasureT-loop
+μ-loop store₀ from to dw size right below interpolate other four y₀ store y = size - y
 
-    four-asks : Asked (s .args .dw + 1) × (s .args .right ≡ 1)
-    four-asks =
-        let far : s .args .below * s .args .dw + s .args .right ≡ s .args .dw + 1 = rw (right-is, below-is) (omega arith) in
-        (rw (e, far) at (s .pre .1 .1), right-is)
+-- the next row lies in the store
+next : (c : tie.In-loop Inv-loop2 μ-loop2 Inv-loop3 μ-loop3 Inv-loop μ-loop)
+    → let a = c .before .before .before .args in
+    let other = a .below * a .dw + a .right in
+    Making (a .interpolate) (chosen (a .dw) other (eqb (a .below * 2 + a .right) 3)) (c .before .loop .store) (a .from + c .before .loop .y * a .dw)
+    (a .to + c .before .loop .y * a .dw) (a .size) other (replicate 16 0) 0
+next c = none-made (c .before .before .before .pre .1 .1) (c .before .loop .inv) (c .loop-test .taken)
 
-    four-is : {last : List ℕ} → Laid (sampled (s .args .dw) true true) last b → Result last
-    four-is r = rw (e, right-is, below-is) r
+abbrev Begun : Type 0
+Begun = tie.Start Inv-loop2 μ-loop2 Inv-loop3 μ-loop3 Inv-loop μ-loop
 
-  -- or not
-  pair-asks : Asked (s .args .below * s .args .dw + s .args .right)
-  pair-asks = rw e at (s .pre .1 .1)
-
-  pair-is : (s .args .below * 2 + s .args .right ≡ 3 → ⊥) → {last : List ℕ} → Laid (paired (s .args .below * s .args .dw + s .args .right)) last b
-      → Result last
-  pair-is h r =
-      let a = s .args in
-      rw e (r ∙ pairs-are (a .interpolate) (now (a .store)) (a .from) (a .to) (a .dw) b (a .right) (a .below) (s .pre .1 .0) h)
-
-eight : (s : tie.Start) → (s .args .size ≡ 16 → ⊥) → s .args .size ≡ 8
+eight : (s : Begun) → (s .args .size ≡ 16 → ⊥) → s .args .size ≡ 8
 eight s h = ⊎-elim (λ e. e) (λ e. absurd (h e)) (s .pre .0)
+
+-- right and below are 1 where the average is of four
+four-is : (s : Begun)
+    → let a = s .args in eqb (a .below * 2 + a .right) 3 ≡ true → (a .below * a .dw + a .right ≡ a .dw + 1) × (a .right ≡ 1)
+four-is s = both-one (s .args .dw) (s .args .right) (s .args .below) (s .pre .1 .0)
+
+read : (s : Begun)
+    → let a = s .args in
+    let other = a .below * a .dw + a .right in Reads (chosen (a .dw) other (eqb (a .below * 2 + a .right) 3)) other
+read s = chosen-reads (s .args .dw) _ (s .args .right) _ (four-is s)
 
 pub predict-apart-spec : {M : Type 1} → statement M
 predict-apart-spec =
     tie.close
-    (tie.spec (λ c. omega arith) (λ c. omega arith)
-    (λ c κs. let i = c .before in four-asks (i .before .before .before) (i .if2 .taken) (i .before .if1 .taken))
-    (λ c. search needs)
-    (λ c. let r = c .before .before in let i = r .before .before in
-    four-is (i .before .before .before) (i .if2 .taken) (i .before .if1 .taken) (r .four-16 .ensures))
-    (λ c κs. let i = c .before in let s = i .before .before .before in four-asks s (eight s (i .if2 .left)) (i .before .if1 .taken))
-    (λ c. search needs)
-    (λ c. let r = c .before .before in let i = r .before .before in let s = i .before .before .before in
-    four-is s (eight s (i .if2 .left)) (i .before .if1 .taken) (r .four-8 .ensures))
-    (λ c. search needs) (λ c. search needs)
-    (λ c κs. let i = c .before in pair-asks (i .before .before .before) (i .if3 .taken))
-    (λ c. search needs)
-    (λ c. let r = c .before .before in let i = r .before .before in
-    pair-is (i .before .before .before) (i .if3 .taken) (i .before .if1 .left) (r .pair-16 .ensures))
-    (λ c κs. let i = c .before in let s = i .before .before .before in pair-asks s (eight s (i .if3 .left)))
-    (λ c. search needs)
-    (λ c. let r = c .before .before in let i = r .before .before in let s = i .before .before .before in
-    pair-is s (eight s (i .if3 .left)) (i .before .if1 .left) (r .pair-8 .ensures)))
+    (tie.spec Inv-loop2 μ-loop2 Inv-loop3 μ-loop3 Inv-loop μ-loop
+    (λ c. search needs) (λ c. search needs) (λ c. omega arith) (λ c. omega arith) (λ c. no-row (c .before .pre .1 .1))
+    (λ c. omega (arith, next c)) (λ c. omega (arith, next c)) (λ c. omega (arith, next c)) (λ c. omega (arith, next c))
+    (λ c. rw (c .if1 .taken) at (next (c .before))) (λ c. omega arith) (λ c. omega arith)
+    (λ c κs. ((omega arith, omega arith), four-is (c .before .before .before .before .before .before .before)))
+    (λ c. omega arith) (λ c. omega arith) (λ c. omega arith)
+    (λ c. let turn = c .before .before in make-on (turn .before .loop2 .inv) (turn .loop2-test .taken) (c .laid-at .ensures))
+    (λ c κs. (omega arith, omega arith)) (λ c. omega arith) (λ c. omega arith)
+    (λ c.
+    let put = c .before .before in let made = put .before .before .before in let arm = made .before .before in let turn = arm .before in
+    let s = turn .before .before .before in
+    rows-turn (arm .if1 .taken) (s .pre .1 .1) (turn .before .loop .inv) (turn .loop-test .taken) (read s) (omega arith) (made .before .loop2 .inv)
+    (made .loop2-test .left) (put .put-row .ensures))
+    (λ c. rw (eight (c .before .before .before .before) (c .if1 .left)) at (next (c .before))) (λ c. omega arith) (λ c. omega arith)
+    (λ c κs. ((omega arith, omega arith), four-is (c .before .before .before .before .before .before .before)))
+    (λ c. omega arith) (λ c. omega arith) (λ c. omega arith)
+    (λ c. let turn = c .before .before in make-on (turn .before .loop3 .inv) (turn .loop3-test .taken) (c .laid-at2 .ensures))
+    (λ c κs. (omega arith, omega arith)) (λ c. omega arith) (λ c. omega arith)
+    (λ c.
+    let put = c .before .before in let made = put .before .before .before in let arm = made .before .before in let turn = arm .before in
+    let s = turn .before .before .before in
+    rows-turn (eight s (arm .if1 .left)) (s .pre .1 .1) (turn .before .loop .inv) (turn .loop-test .taken) (read s) (omega arith)
+    (made .before .loop3 .inv) (made .loop3-test .left) (put .put-row2 .ensures))
+    (λ c. c .before .loop .inv .lines .long)
+    (λ c.
+    let s = c .before .before .before in
+    let a = s .args in
+    all-rows (c .before .loop .inv) (c .loop-test .left)
+    ∙ chosen-rows (a .interpolate) (now (a .store)) (a .from) (a .to) (a .dw) (a .size) (a .right) (a .below) (s .pre .1 .0)))
