@@ -1,13 +1,15 @@
 -- `apart::predict_apart` meets its contract: each turn of an inner loop makes a byte more of a row, each turn of the outer one writes it.
 use mathlib.Core.Path.{_≡_, _∙_}
 use mathlib.Core.Bool.{true}
+use mathlib.Core.List.{List}
 use mathlib.Core.Logic.{⊎-elim}
-use Prim.Native.Nat.{_+_, _*_, _-_}
+use Prim.Native.Nat.{ℕ, _+_, _*_, _-_, _≤_}
 use native.Mathlib.Omega.{arith}
 use borrow.Author.Needs.{needs}
 use denote.Ref.{now}
 use lib.Dec.{eqb}
-use lib.ListN.{replicate}
+use lib.ListN.{getD, replicate}
+use Rattle.laws.specs.Stores.{storeRow}
 use Rattle.prediction.specs.Apart.{chosen}
 use Rattle.prediction.proofs.Beside.{Reads, Making, make-on, Rows, no-row, none-made, rows-turn, all-rows, chosen-reads, chosen-rows, both-one}
 use Rattle.prediction.proofs.apart.predict_apart.Statement.{statement}
@@ -55,6 +57,18 @@ read : (s : Begun)
     let other = a .below * a .dw + a .right in Reads (chosen (a .dw) other (eqb (a .below * 2 + a .right) 3)) other
 read s = chosen-reads (s .args .dw) _ (s .args .right) _ (four-is s)
 
+-- a row is made, and written
+row-written : {b x : ℕ} {row last : List ℕ} (t : tie.In-loop Inv-loop2 μ-loop2 Inv-loop3 μ-loop3 Inv-loop μ-loop)
+    → let a = t .before .before .before .args in
+    let l = t .before .loop in
+    let other = a .below * a .dw + a .right in
+    let f = chosen (a .dw) other (eqb (a .below * 2 + a .right) 3) in
+    a .size ≡ b → b ≤ 16
+    → Making (a .interpolate) f (l .store) (a .from + l .y * a .dw) (a .to + l .y * a .dw) b other row x → b ≤ x
+    → last ≡ storeRow (l .store) (a .to + l .y * a .dw) (λ x. getD row x 0) b
+    → Rows (a .interpolate) f (now (a .store)) (a .from) (a .to) (a .dw) (a .size) last (l .y + 1)
+row-written t is = let s = t .before .before .before in rows-turn is (s .pre .1 .1) (t .before .loop .inv) (t .loop-test .taken) (read s)
+
 pub predict-apart-spec : {M : Type 1} → statement M
 predict-apart-spec =
     tie.close
@@ -62,25 +76,18 @@ predict-apart-spec =
     (λ c. search needs) (λ c. search needs) (λ c. omega arith) (λ c. omega arith) (λ c. no-row (c .before .pre .1 .1))
     (λ c. omega (arith, next c)) (λ c. omega (arith, next c)) (λ c. omega (arith, next c)) (λ c. omega (arith, next c))
     (λ c. rw (c .if1 .taken) at (next (c .before))) (λ c. omega arith) (λ c. omega arith)
-    (λ c κs. ((omega arith, omega arith), four-is (c .before .before .before .before .before .before .before)))
-    (λ c. omega arith) (λ c. omega arith) (λ c. omega arith)
-    (λ c. let turn = c .before .before in make-on (turn .before .loop2 .inv) (turn .loop2-test .taken) (c .laid-at .ensures))
+    (λ c κs. ((omega arith, omega arith), four-is (c .before .before .before .before .before .before .before))) (λ c. omega arith) (λ c. omega arith)
+    (λ c. omega arith) (λ c. let turn = c .before .before in make-on (turn .before .loop2 .inv) (turn .loop2-test .taken) (c .laid-at .ensures))
     (λ c κs. (omega arith, omega arith)) (λ c. omega arith) (λ c. omega arith)
-    (λ c.
-    let put = c .before .before in let made = put .before .before .before in let arm = made .before .before in let turn = arm .before in
-    let s = turn .before .before .before in
-    rows-turn (arm .if1 .taken) (s .pre .1 .1) (turn .before .loop .inv) (turn .loop-test .taken) (read s) (omega arith) (made .before .loop2 .inv)
-    (made .loop2-test .left) (put .put-row .ensures))
+    (λ c. let put = c .before .before in let made = put .before .before .before in let arm = made .before .before in
+    row-written (arm .before) (arm .if1 .taken) (omega arith) (made .before .loop2 .inv) (made .loop2-test .left) (put .put-row .ensures))
     (λ c. rw (eight (c .before .before .before .before) (c .if1 .left)) at (next (c .before))) (λ c. omega arith) (λ c. omega arith)
-    (λ c κs. ((omega arith, omega arith), four-is (c .before .before .before .before .before .before .before)))
-    (λ c. omega arith) (λ c. omega arith) (λ c. omega arith)
-    (λ c. let turn = c .before .before in make-on (turn .before .loop3 .inv) (turn .loop3-test .taken) (c .laid-at2 .ensures))
+    (λ c κs. ((omega arith, omega arith), four-is (c .before .before .before .before .before .before .before))) (λ c. omega arith) (λ c. omega arith)
+    (λ c. omega arith) (λ c. let turn = c .before .before in make-on (turn .before .loop3 .inv) (turn .loop3-test .taken) (c .laid-at2 .ensures))
     (λ c κs. (omega arith, omega arith)) (λ c. omega arith) (λ c. omega arith)
-    (λ c.
-    let put = c .before .before in let made = put .before .before .before in let arm = made .before .before in let turn = arm .before in
-    let s = turn .before .before .before in
-    rows-turn (eight s (arm .if1 .left)) (s .pre .1 .1) (turn .before .loop .inv) (turn .loop-test .taken) (read s) (omega arith)
-    (made .before .loop3 .inv) (made .loop3-test .left) (put .put-row2 .ensures))
+    (λ c. let put = c .before .before in let made = put .before .before .before in let arm = made .before .before in let t = arm .before in
+    row-written t (eight (t .before .before .before) (arm .if1 .left)) (omega arith) (made .before .loop3 .inv) (made .loop3-test .left)
+    (put .put-row2 .ensures))
     (λ c. c .before .loop .inv .lines .long)
     (λ c.
     let s = c .before .before .before in
