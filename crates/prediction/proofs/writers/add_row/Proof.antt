@@ -1,8 +1,17 @@
 -- `writers::add_row` meets its contract: eight bytes are made and stored.
+use Prim.Native.Nat.{ℕ, _+_, _≤_, _<_}
 use native.Mathlib.Omega.{arith}
+use denote.Ref.{now}
+use lib.ListN.{length}
+use Rattle.laws.specs.Sizes.{Narrow}
 use Rattle.prediction.proofs.Lines.{eight-row}
 use Rattle.prediction.proofs.writers.add_row.Statement.{statement}
 use Rattle.prediction.proofs.writers.add_row.Tie as tie
+
+-- what the byte k asks
+asked : (s : tie.Start) {k : ℕ} → k < 8
+    → ((s .args .at + 8 ≤ length (now (s .args .d))) × (s .args .from + 8 ≤ 64) × (k < 8)) × Narrow (now (s .args .s))
+asked s h = ((s .pre .0, s .pre .1 .0, h), s .pre .1 .1)
 
 returns : tie.Need-returns
 returns c =
@@ -14,8 +23,10 @@ returns c =
 pub add-row-spec : {M : Type 1} → statement M
 add-row-spec =
     tie.close
-    (tie.spec (λ c κs. ((omega arith, omega arith, omega arith), (search))) (λ c κs. ((omega arith, omega arith, omega arith), (search)))
-    (λ c κs. ((omega arith, omega arith, omega arith), (search))) (λ c κs. ((omega arith, omega arith, omega arith), (search)))
-    (λ c κs. ((omega arith, omega arith, omega arith), (search))) (λ c κs. ((omega arith, omega arith, omega arith), (search)))
-    (λ c κs. ((omega arith, omega arith, omega arith), (search))) (λ c κs. ((omega arith, omega arith, omega arith), (search)))
+    (tie.spec (λ c κs. asked (c .before .before) (omega arith)) (λ c κs. asked (c .before .before .before) (omega arith))
+    (λ c κs. asked (c .before .before .before .before) (omega arith)) (λ c κs. asked (c .before .before .before .before .before) (omega arith))
+    (λ c κs. asked (c .before .before .before .before .before .before) (omega arith))
+    (λ c κs. asked (c .before .before .before .before .before .before .before) (omega arith))
+    (λ c κs. asked (c .before .before .before .before .before .before .before .before) (omega arith))
+    (λ c κs. asked (c .before .before .before .before .before .before .before .before .before) (omega arith))
     (λ c κs. omega arith) (λ c. omega arith) returns)
