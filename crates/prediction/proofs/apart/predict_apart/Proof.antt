@@ -5,7 +5,6 @@ use mathlib.Core.List.{List}
 use mathlib.Core.Logic.{⊎-elim}
 use Prim.Native.Nat.{ℕ, _+_, _*_, _-_, _≤_}
 use native.Mathlib.Omega.{arith}
-use borrow.Author.Needs.{needs}
 use denote.Ref.{now}
 use lib.Dec.{eqb}
 use lib.ListN.{getD, replicate}
@@ -73,7 +72,7 @@ pub predict-apart-spec : {M : Type 1} → statement M
 predict-apart-spec =
     tie.close
     (tie.spec Inv-loop2 μ-loop2 Inv-loop3 μ-loop3 Inv-loop μ-loop
-    (λ c. search needs) (λ c. search needs) (λ c. omega arith) (λ c. omega arith) (λ c. no-row (c .before .pre .1 .1))
+    (λ c. omega arith) (λ c. omega arith) (λ c. omega arith) (λ c. omega arith) (λ c. no-row (c .before .pre .1 .1))
     (λ c. omega (arith, next c)) (λ c. omega (arith, next c)) (λ c. omega (arith, next c)) (λ c. omega (arith, next c))
     (λ c. rw (c .if1 .taken) at (next (c .before))) (λ c. omega arith) (λ c. omega arith)
     (λ c κs. ((omega arith, omega arith), four-is (c .before .before .before .before .before .before .before))) (λ c. omega arith) (λ c. omega arith)
