@@ -1,6 +1,7 @@
 pub mod Bits
 pub mod Bounds
 pub mod Codes
+pub mod EnoughFuel
 pub mod Fuel
 pub mod Gives
 pub mod Local

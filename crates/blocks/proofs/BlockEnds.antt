@@ -21,14 +21,15 @@ use Rattle.coefficients.specs.declared.quantiser.Quantiser.{Quantiser}
 use Rattle.coefficients.specs.Blocks.{Filled, Read, block, leftOver}
 use Rattle.coefficients.proofs.block.BlockEnd.{the-type}
 use Rattle.coefficients.proofs.Kept.{Kept, block-gives}
-use Rattle.picture.specs.declared.state.Context.{Context}
-use Rattle.picture.specs.declared.state.Slice.{Slice}
-use Rattle.picture.specs.State.{world}
-use Rattle.picture.specs.Ways.{on, out}
-use Rattle.picture.specs.Blocks.{predictorOf, predictorAs, quantiserOf, written, blockEnd, matrixFor, oneBlock}
-use Rattle.picture.specs.Views.{matricesIn, blockOf, storeAfter, Ready, Went}
-use Rattle.picture.proofs.Ways.{r-plain}
-use Rattle.picture.proofs.Ready.{ready-block, ready-outside}
+use Rattle.picture_state.specs.declared.types.Context.{Context}
+use Rattle.picture_state.specs.declared.types.Slice.{Slice}
+use Rattle.picture_state.specs.State.{world}
+use Rattle.picture_state.specs.Ways.{on, out}
+use Rattle.blocks.specs.Blocks.{predictorOf, predictorAs, quantiserOf, written, blockEnd, matrixFor, oneBlock}
+use Rattle.picture_state.specs.Contracts.{matricesIn, Ready, Went}
+use Rattle.blocks.specs.Contracts.{blockOf, storeAfter}
+use Rattle.picture_state.proofs.Ways.{r-plain}
+use Rattle.blocks.proofs.Ready.{ready-block, ready-outside}
 
 -- a block with an end other than the first of the three is not written, and leaves its coefficients over
 pub not-whole : (g : Context) (q : Quantiser) (number address : ℕ) (f : Filled) (p : ℤ) (e : BlockEnd) (l : List ℕ)

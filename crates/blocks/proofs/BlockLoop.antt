@@ -10,14 +10,14 @@ use Rattle.bits.specs.declared.reader.Reader.{Reader}
 use Rattle.bits.specs.Runs.{Runs}
 use Rattle.bits.specs.Programs.{Prog}
 use Rattle.bits.proofs.Rules.{r-yes, r-no, r-done, r-for}
-use Rattle.picture.specs.State.{World, world}
-use Rattle.picture.specs.Ways.{Way, on, leave, forBelow}
-use Rattle.picture.specs.Heads.{flag}
-use Rattle.picture.specs.Blocks.{oneBlock, patternBlock, blocks}
-use Rattle.picture.specs.declared.state.Slice.{Slice}
-use Rattle.picture.specs.declared.state.Progress.{Progress}
-use Rattle.picture.specs.Views.{matricesIn, Ready, Went}
-use Rattle.picture.proofs.Ways.{r-for-onward, r-for-leave, way-out}
+use Rattle.picture_state.specs.State.{World, world}
+use Rattle.picture_state.specs.Ways.{Way, on, leave, forBelow}
+use Rattle.picture_state.specs.Flags.{flag}
+use Rattle.blocks.specs.Blocks.{oneBlock, patternBlock, blocks}
+use Rattle.picture_state.specs.declared.types.Slice.{Slice}
+use Rattle.picture_state.specs.declared.types.Progress.{Progress}
+use Rattle.picture_state.specs.Contracts.{matricesIn, Ready, Went}
+use Rattle.picture_state.proofs.Ways.{r-for-onward, r-for-leave, way-out}
 use Rattle.blocks.specs.declared.blocks.CodedBlocks.{CodedBlocks}
 
 -- a macroblock's blocks, and the one with this number

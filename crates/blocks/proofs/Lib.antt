@@ -1,4 +1,6 @@
 pub mod BlockEnds
 pub mod BlockLoop
+pub mod Lengths
+pub mod Ready
 pub mod Results
 pub mod Stores

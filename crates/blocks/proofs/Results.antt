@@ -12,7 +12,7 @@ use Rattle.coefficients.specs.declared.quantiser.Quantiser.{Quantiser}
 use Rattle.coefficients.specs.Blocks.{Filled}
 use Rattle.transform.specs.Idct.{idct, dcOnly}
 use Rattle.prediction.specs.Writers.{setConst, overwrite, addConst, addBlock}
-use Rattle.picture.specs.Blocks.{results}
+use Rattle.blocks.specs.Blocks.{results}
 
 module _ (q : Quantiser) (f : Filled) (di dw : ℕ) (d : List ℕ) {r : List ℕ} where
   module _ (one : f .n ≡ 1) {first : ℤ} (is : first ≡ dcOnly (getD (f .coefficients) 0 (pos 0))) where

@@ -16,9 +16,10 @@ use Rattle.prediction.specs.Predict.{macroblockAt}
 use Rattle.prediction.specs.Planes.{macroblocks, planeOf, planeLength, planeStart, storesBytes}
 use Rattle.prediction.specs.Writers.{blockWidth, blockPlace}
 use Rattle.prediction.proofs.Macroblocks.{store-most}
-use Rattle.picture.specs.Blocks.{results, written}
-use Rattle.picture.specs.declared.state.Context.{Context}
-use Rattle.picture.specs.Views.{Held}
+use Rattle.blocks.specs.Blocks.{results, written}
+use Rattle.picture_state.specs.declared.types.Context.{Context}
+use Rattle.picture_state.proofs.Ready.{size-most}
+use Rattle.picture_state.specs.Contracts.{Held}
 
 plane-end : (k n : ℕ) (p : Plane) → k < 3 → planeStart k p n + planeLength p n ≤ storesBytes n
 plane-end k n Y h = omega (arith, store-most k n h)
@@ -26,16 +27,13 @@ plane-end k n Cr h = omega (arith, store-most k n h)
 plane-end k n Cb h = omega (arith, store-most k n h)
 
 module _ {g : Context} {l : List ℕ} (k : Held g l) where
-  pub size-most : g .sizes .«mb_size» ≤ 65536
-  size-most = omega (arith, k .size, mul-le-mul (k .across) (k .down))
-
   -- a plane of the store that is written, as the code has its start and its length
   module _ (p : Plane) {start size : ℕ} (is-start : start ≡ planeStart (g .stores .cur) p (g .sizes .«mb_size»))
       (is-size : size ≡ planeLength p (g .sizes .«mb_size»)) where
     pub plane-most : (start + size ≤ length l) × (start + size ≤ 75497472)
     plane-most =
         let e = plane-end (g .stores .cur) (g .sizes .«mb_size») p (omega (arith, k .stores .cur)) in
-        rw (is-start, is-size) (omega (arith, k .whole), omega (arith, size-most))
+        rw (is-start, is-size) (omega (arith, k .whole), omega (arith, size-most k))
 
     part-length : length (midOf start (start + size - start) l) ≡ planeLength p (g .sizes .«mb_size»)
     part-length = let e : start + size - start ≡ size = omega arith in rw e (length-mid start size l (plane-most .0) ∙ is-size)

@@ -5,16 +5,16 @@ use codes::lent::Tables;
 use coefficients::block::BlockEnd;
 use coefficients::block::read_block;
 use coefficients::quantiser::Quantiser;
-use picture::flags::flag;
-use picture::state::Context;
-use picture::state::Progress;
-use picture::state::Slice;
+use picture_state::flags::flag;
+use picture_state::types::Context;
+use picture_state::types::Progress;
+use picture_state::types::Slice;
 ghost use mathlib.Core.Path.{_≡_};
 ghost use Prim.Native.Nat.{_-_, _^_, _<_};
 ghost use Rattle.codes.specs.Lent.{Lent};
-ghost use Rattle.picture.specs.State.{world};
-ghost use Rattle.picture.specs.Blocks.{predictorOf, predictorAs, quantiserOf, oneBlock, patternBlock, blocks};
-ghost use Rattle.picture.specs.Views.{matricesIn, Ready, Went};
+ghost use Rattle.picture_state.specs.State.{world};
+ghost use Rattle.blocks.specs.Blocks.{predictorOf, predictorAs, quantiserOf, oneBlock, patternBlock, blocks};
+ghost use Rattle.picture_state.specs.Contracts.{matricesIn, Ready, Went};
 
 // What the blocks of a macroblock have in common: the picture's context, whether they are intra, and the pattern that names those there are.
 pub struct CodedBlocks {

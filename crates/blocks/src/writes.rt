@@ -4,7 +4,7 @@ use coefficients::block::BlockEnd;
 use coefficients::block::left_over;
 use coefficients::quantiser::Quantiser;
 use laws::clamp_u8;
-use picture::state::Context;
+use picture_state::types::Context;
 use prediction::place::macroblock_at;
 use prediction::planes::plane_length;
 use prediction::planes::plane_of;
@@ -23,8 +23,9 @@ ghost use lib.IntN.{natAbs};
 ghost use lib.ListN.{length};
 ghost use Rattle.codes.specs.Matrices.{Bounded};
 ghost use Rattle.coefficients.specs.Blocks.{filled, readOf, leftOver};
-ghost use Rattle.picture.specs.Blocks.{results, written};
-ghost use Rattle.picture.specs.Views.{Held, Here, storeAfter};
+ghost use Rattle.blocks.specs.Blocks.{results, written};
+ghost use Rattle.picture_state.specs.Contracts.{Held, Here};
+ghost use Rattle.blocks.specs.Contracts.{storeAfter};
 
 // RULES 4.3, 6.13: the results of coefficients, n places of which are used, in a plane. The coefficients are used up.
 fn results(d: &mut [u8], di: usize, dw: usize, values: &mut [i32; 64], q: Quantiser, n: usize)

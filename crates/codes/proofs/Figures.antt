@@ -7,8 +7,7 @@ use lib.IntN.{ℤ, pos, negsuc}
 use Rattle.codes.specs.Tables.{macroblockAddressIncrementIndex, macroblockTypeIntraIndex, macroblockTypePredictiveIndex, macroblockTypeBIndex}
 use Rattle.codes.specs.Tables.{codeBlockPatternIndex, motionIndex, dctSizeLuminanceIndex, dctSizeChrominanceIndex, dctCoeffIndex}
 use Rattle.codes.specs.Standard.{Code, macroblockAddressIncrementCodes, macroblockTypeIntraCodes, macroblockTypePredictiveCodes}
-use Rattle.codes.specs.Standard.{macroblockTypeBCodes, codeBlockPatternCodes, motionCodes, dctSizeLuminanceCodes, dctSizeChrominanceCodes}
-use Rattle.codes.specs.Standard.{dctCoeffCodes}
+use Rattle.codes.specs.Standard.{macroblockTypeBCodes, codeBlockPatternCodes, motionCodes, dctSizeLuminanceCodes, dctSizeChrominanceCodes, dctCoeffCodes}
 
 pub record Figures : Type 0 where
   pub entries : ℕ

@@ -12,8 +12,7 @@ use Rattle.codes.specs.Tables.{macroblockTypePredictiveIndex, macroblock
 use Rattle.codes.specs.Tables.{codeBlockPatternIndex, codeBlockPatternValue, motionIndex, motionValue, dctSizeLuminanceIndex, dctSizeLuminanceValue}
 use Rattle.codes.specs.Tables.{dctSizeChrominanceIndex, dctSizeChrominanceValue, dctCoeffIndex, dctCoeffValue}
 use Rattle.codes.specs.Standard.{Code, _∈_, macroblockAddressIncrementCodes, macroblockTypeIntraCodes, macroblockTypePredictiveCodes}
-use Rattle.codes.specs.Standard.{macroblockTypeBCodes, codeBlockPatternCodes, motionCodes, dctSizeLuminanceCodes, dctSizeChrominanceCodes}
-use Rattle.codes.specs.Standard.{dctCoeffCodes}
+use Rattle.codes.specs.Standard.{macroblockTypeBCodes, codeBlockPatternCodes, motionCodes, dctSizeLuminanceCodes, dctSizeChrominanceCodes, dctCoeffCodes}
 use Rattle.codes.proofs.Agreement.{Agrees}
 use Rattle.codes.proofs.Tested.{agrees-of}
 use Rattle.codes.proofs.Tree.{passes}

@@ -13,8 +13,8 @@ use Rattle.laws.proofs.Tests.{each}
 use Rattle.bits.specs.Bounds.{longestStream, lastPosition}
 use Rattle.codes.specs.Matrices.{bounded}
 use Rattle.codes.proofs.Bounds.{bounded-of}
-use Rattle.picture.specs.Possible.{possiblePicture}
-use Rattle.picture.proofs.Possible.{picture-of}
+use Rattle.picture_state.specs.Possible.{possiblePicture}
+use Rattle.picture_state.proofs.Possible.{picture-of}
 use Rattle.header.specs.Possible.{possibleSequence}
 use Rattle.header.specs.Sequences.{Size, Rest}
 use Rattle.header.proofs.Sizing.{sized-of, possible-sized}

@@ -4,7 +4,7 @@ use mathlib.Core.Bool.{true}
 use lib.IntN.{negsuc}
 use Rattle.laws.specs.Each.{allBelow}
 use Rattle.codes.specs.Matrices.{premultiplierMatrix, bounded}
-use Rattle.picture.specs.Possible.{possiblePicture}
+use Rattle.picture_state.specs.Possible.{possiblePicture}
 use Rattle.playback.specs.State.{frames, freshState, possibleDisplay}
 use Rattle.playback.proofs.Displays.{fresh-possible}
 use Rattle.decoder.specs.declared.record.Decoder.{Decoder}

@@ -7,7 +7,7 @@ use lib.IntN.{pos, negsuc}
 use lib.ListN.{length}
 use Rattle.bits.specs.Bits.{has}
 use Rattle.bits.specs.Programs.{Out, run, eqZ, if_then_else_}
-use Rattle.picture.specs.State.{storesAs, firstStores}
+use Rattle.picture_state.specs.State.{storesAs, firstStores}
 use Rattle.header.specs.Possible.{sizesOf}
 use Rattle.header.specs.Sequences.{Size, Rest, size, rest, aspectOf, rateOf}
 use Rattle.decoder.specs.declared.record.Decoder.{Decoder}

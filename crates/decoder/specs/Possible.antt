@@ -4,7 +4,7 @@ use mathlib.Core.List.{List}
 use Prim.Native.Nat.{ℕ}
 use lib.Dec.{eqb, leb}
 use Rattle.codes.specs.Matrices.{bounded}
-use Rattle.picture.specs.Possible.{possiblePicture}
+use Rattle.picture_state.specs.Possible.{possiblePicture}
 use Rattle.header.specs.Possible.{possibleSequence}
 use Rattle.decoder.specs.declared.record.Decoder.{Decoder}
 use Rattle.playback.specs.State.{possibleDisplay}

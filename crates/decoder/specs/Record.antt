@@ -2,7 +2,7 @@
 use mathlib.Core.List.{List}
 use Prim.Native.Nat.{ℕ}
 use lib.IntN.{ℤ}
-use Rattle.picture.specs.State.{freshBlock}
+use Rattle.picture_state.specs.State.{freshBlock}
 use Rattle.header.specs.declared.state.Sequence.{Sequence}
 use Rattle.header.specs.State.{freshSequence}
 use Rattle.prediction.specs.Planes.{storesBytes}

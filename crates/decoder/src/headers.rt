@@ -9,7 +9,7 @@ use header::sequences::rate_of;
 use header::sequences::read_rest;
 use header::sequences::read_size;
 use header::state::Sequence;
-use picture::state::Stores;
+use picture_state::types::Stores;
 use playback::search::has_code;
 use playback::search::next_code;
 use playback::state::Clock;

@@ -5,7 +5,7 @@ use crate::record::Decoder;
 use bits::position::LAST_POSITION;
 use codes::matrices::bounded;
 use header::possible::possible_sequence;
-use picture::limits::possible_picture;
+use picture_state::limits::possible_picture;
 use playback::state::possible_display;
 ghost use mathlib.Core.Path.{_≡_};
 ghost use mathlib.Core.Bool.{_&&_};

@@ -9,10 +9,10 @@ use lib.Dec.{eqb, leb}
 use lib.ListN.{length, getD}
 use borrow.Author.Tests.{eqb-true, leb-true, leb-false}
 use Rattle.laws.proofs.Tests.{by-case}
-use Rattle.picture.specs.declared.state.Matrices.{Matrices}
-use Rattle.picture.specs.declared.state.Sizes.{Sizes}
-use Rattle.picture.proofs.Possible.{stores-of, picture-of}
-use Rattle.picture.specs.State.{firstStores}
+use Rattle.picture_state.specs.declared.types.Matrices.{Matrices}
+use Rattle.picture_state.specs.declared.types.Sizes.{Sizes}
+use Rattle.picture_state.proofs.Possible.{stores-of, picture-of}
+use Rattle.picture_state.specs.State.{firstStores}
 use Rattle.header.specs.Store.{cleared}
 use Rattle.header.proofs.Clearing.{cleared-later, cleared-length}
 use Rattle.decoder.specs.declared.record.Decoder.{Decoder}

@@ -26,7 +26,7 @@ use Rattle.prediction.specs.declared.place.Fetch.{Fetch}
 use Rattle.prediction.specs.declared.place.Fetch.the-variants.{Alone, Past, Copied}
 use Rattle.prediction.specs.declared.place.Place.{Place}
 use Rattle.prediction.specs.Predict.{start, maxAddress, reach, fetch}
-use Rattle.picture.specs.declared.state.Sizes.{Sizes}
+use Rattle.picture_state.specs.declared.types.Sizes.{Sizes}
 use Rattle.demands.specs.Causes.{DcOutside, PredictionOutside}
 
 abbrev pub isOutside : BlockEnd → Bool

@@ -10,7 +10,7 @@ use Rattle.laws.specs.Each.{allBelow}
 use Rattle.bits.specs.Bits.{bitAt, bitsAt, got, next, codePrefix, codeFrom, found}
 use Rattle.bits.specs.Programs.{run, bind, loop, findTurn, findStartCode}
 use Rattle.codes.specs.Matrices.{intraQuantMatrix, nonIntraQuantMatrix, premultiplierMatrix, bounded}
-use Rattle.picture.specs.Ways.{leave, onward}
+use Rattle.picture_state.specs.Ways.{leave, onward}
 use Rattle.picture.specs.Pictures as P
 use Rattle.header.specs.Store.{cleared}
 use Rattle.header.specs.Sequences.{matrix, size, rest}

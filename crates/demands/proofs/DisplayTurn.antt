@@ -8,10 +8,10 @@ use lib.IntN.{negsuc}
 use Rattle.laws.specs.Turns.{Turn}
 use Rattle.laws.proofs.Tests.{both}
 use Rattle.bits.specs.Programs.{Out, eqZ}
-use Rattle.picture.specs.declared.state.Matrices.{Matrices}
-use Rattle.picture.specs.declared.state.Sizes.{Sizes}
-use Rattle.picture.specs.declared.state.Stores.{Stores}
-use Rattle.picture.specs.Ways.{Way, on, out}
+use Rattle.picture_state.specs.declared.types.Matrices.{Matrices}
+use Rattle.picture_state.specs.declared.types.Sizes.{Sizes}
+use Rattle.picture_state.specs.declared.types.Stores.{Stores}
+use Rattle.picture_state.specs.Ways.{Way, on, out}
 use Rattle.picture.specs.Pictures as P
 use Rattle.playback.specs.declared.outcome.Shown.{Shown}
 use Rattle.playback.specs.declared.outcome.Outcome.the-variants as H

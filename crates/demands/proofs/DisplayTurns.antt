@@ -4,8 +4,8 @@ use mathlib.Core.List.{List, [], _++_, append-nil}
 use mathlib.Core.Logic.{inl, inr}
 use Prim.Native.Nat.{ℕ}
 use Rattle.laws.specs.Turns.{Turn, again, stop}
-use Rattle.picture.specs.declared.state.Matrices.{Matrices}
-use Rattle.picture.specs.declared.state.Sizes.{Sizes}
+use Rattle.picture_state.specs.declared.types.Matrices.{Matrices}
+use Rattle.picture_state.specs.declared.types.Sizes.{Sizes}
 use Rattle.playback.specs.declared.outcome.Outcome.the-variants as H
 use Rattle.playback.specs.State.{frames}
 use Rattle.playback.specs.Turns.{TurnState, Ended, gave, stopped, atPicture, pictureTurn, pictures}

@@ -19,8 +19,8 @@ use Rattle.decoder.specs.declared.answers.Opening.the-variants as O
 use Rattle.decoder.specs.declared.answers.Opened.{Opened}
 use Rattle.playback.specs.declared.outcome.Outcome.the-variants as H
 use Rattle.decoder.specs.declared.answers.Handed.{Handed}
-use Rattle.picture.specs.declared.state.Matrices.{Matrices}
-use Rattle.picture.specs.declared.state.Sizes.{Sizes}
+use Rattle.picture_state.specs.declared.types.Matrices.{Matrices}
+use Rattle.picture_state.specs.declared.types.Sizes.{Sizes}
 use Rattle.playback.specs.State.{freshState}
 use Rattle.playback.specs.Turns.{TurnState, Ended, atPicture, pictureTurn}
 use Rattle.playback.specs.Cases.{isThere}
@@ -29,8 +29,7 @@ use Rattle.decoder.specs.Possible.{possible}
 use Rattle.demands.specs.Calls.{Opens, Decodes}
 use Rattle.demands.specs.Codes.{SequenceAt}
 use Rattle.demands.specs.Questions as Q
-use Rattle.demands.specs.Questions.{Question, ask, IsFirstNo, this-one, a-later, withHeader, pictureEnd, turnAsks, picturesAsk}
-use Rattle.demands.specs.Questions.{openingAsks}
+use Rattle.demands.specs.Questions.{Question, ask, IsFirstNo, this-one, a-later, withHeader, pictureEnd, turnAsks, picturesAsk, openingAsks}
 use Rattle.demands.proofs.Demand1.{open-says, open-means, decode-means}
 use Rattle.demands.proofs.Order.{Begins, asks-unheaded, says-4}
 use Rattle.demands.proofs.HeaderEdge.{edge-code, edge-bits}

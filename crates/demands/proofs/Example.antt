@@ -28,13 +28,13 @@ use Rattle.prediction.specs.Samples.{sample}
 use Rattle.prediction.specs.Predict.{fetch, predicted}
 use Rattle.prediction.specs.Planes.{follow, next as following, predictedPlanes}
 use Rattle.prediction.specs.Writers.{setConst, overwrite, blockPlace}
-use Rattle.picture.specs.Ways.{also, leave, onward, plain}
-use Rattle.picture.specs.Increments.{incrementTurn, increment}
-use Rattle.picture.specs.Predictions.{unlessRefused, predictFrom, predictBoth, predict, predictSkipped}
-use Rattle.picture.specs.Heads.{macroblockType, scale, vector, forward, backward, vectors, head, pattern}
-use Rattle.picture.specs.Blocks.{results, written, blockEnd, oneBlock, blocks}
-use Rattle.picture.specs.Macroblocks.{skipReset, advance, predictUnlessIntra, body, firstOf, laterOf, macroblock}
-use Rattle.picture.specs.Slices.{extraTurn, extra, pastMacroblock, sliceTurn, slice}
+use Rattle.picture_state.specs.Ways.{also, leave, onward, plain}
+use Rattle.macroblock_head.specs.Increments.{incrementTurn, increment}
+use Rattle.macroblock_head.specs.Predictions.{unlessRefused, predictFrom, predictBoth, predict, predictSkipped}
+use Rattle.macroblock_head.specs.Heads.{macroblockType, scale, vector, forward, backward, vectors, head, pattern}
+use Rattle.blocks.specs.Blocks.{results, written, blockEnd, oneBlock, blocks}
+use Rattle.macroblock.specs.Macroblocks.{skipReset, advance, predictUnlessIntra, body, firstOf, laterOf, macroblock}
+use Rattle.slice.specs.Slices.{extraTurn, extra, pastMacroblock, sliceTurn, slice}
 use Rattle.picture.specs.Pictures as P
 use Rattle.header.specs.Store.{cleared}
 use Rattle.header.specs.Sequences.{matrix, size, rest}

@@ -11,11 +11,11 @@ use borrow.Author.Tests.{eqb-true, leb-true}
 use Rattle.laws.proofs.Tests.{both, each}
 use Rattle.bits.specs.Bounds.{longestStream}
 use Rattle.codes.specs.Matrices.{bounded}
-use Rattle.picture.specs.declared.state.Sizes.{Sizes}
-use Rattle.picture.specs.declared.state.Picture.{Picture}
-use Rattle.picture.specs.State.{startCodeAs}
-use Rattle.picture.specs.Possible.{between, possiblePicture}
-use Rattle.picture.proofs.Possible.{picture-of, picture-by}
+use Rattle.picture_state.specs.declared.types.Sizes.{Sizes}
+use Rattle.picture_state.specs.declared.types.Picture.{Picture}
+use Rattle.picture_state.specs.State.{startCodeAs}
+use Rattle.picture_state.specs.Possible.{between, possiblePicture}
+use Rattle.picture_state.proofs.Possible.{picture-of, picture-by}
 use Rattle.header.specs.declared.state.Sequence.{Sequence}
 use Rattle.header.specs.Possible.{across, sizesOf, sameSizes, possibleSequence}
 use Rattle.prediction.specs.Planes.{storesBytes}

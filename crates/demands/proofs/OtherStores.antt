@@ -25,13 +25,13 @@ use Rattle.prediction.specs.declared.predict.Predicted.the-variants.{Done, Refu
 use Rattle.prediction.specs.Predict.{macroblockAt, blockOf, bytes, fetch, predicted, address, width, chroma}
 use Rattle.prediction.specs.Planes.{After, blockSize, planeOf, planeLength, planeStart, offset, follow, next, predictedPlanes, storesBytes}
 use Rattle.prediction.specs.Writers.{setConst, overwrite, addConst, addBlock, blockWidth, blockPlace}
-use Rattle.picture.specs.declared.state.Context.{Context}
-use Rattle.picture.specs.declared.state.Matrices.{Matrices}
-use Rattle.picture.specs.Blocks.{results, written}
-use Rattle.picture.specs.Heads.{head}
-use Rattle.picture.specs.Increments.{increment}
-use Rattle.picture.specs.Predictions.{unlessRefused}
-use Rattle.picture.proofs.Exits.{Ways}
+use Rattle.picture_state.specs.declared.types.Context.{Context}
+use Rattle.picture_state.specs.declared.types.Matrices.{Matrices}
+use Rattle.blocks.specs.Blocks.{results, written}
+use Rattle.macroblock_head.specs.Heads.{head}
+use Rattle.macroblock_head.specs.Increments.{increment}
+use Rattle.macroblock_head.specs.Predictions.{unlessRefused}
+use Rattle.picture_state.proofs.Exits.{Ways}
 use Rattle.picture.proofs.Walk.{Invariant, Keeps}
 use Rattle.demands.specs.Causes.{Cause, dc, prediction}
 use Rattle.demands.specs.Stores.{SameBut}

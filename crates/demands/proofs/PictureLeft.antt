@@ -9,17 +9,17 @@ use Rattle.bits.specs.Programs.{Prog, run}
 use Rattle.bits.proofs.Programs.{run-bind}
 use Rattle.bits.proofs.Gives.{Gives, g-done, g-as, g-if}
 use Rattle.laws.proofs.Tests.{by-case}
-use Rattle.picture.specs.declared.state.Stores.{Stores}
-use Rattle.picture.specs.declared.state.Sizes.{Sizes}
-use Rattle.picture.specs.declared.state.Matrices.{Matrices}
-use Rattle.picture.specs.declared.state.Picture.{Picture}
-use Rattle.picture.specs.State.{storesAs}
-use Rattle.picture.specs.Ways.{Way, on, out}
+use Rattle.picture_state.specs.declared.types.Stores.{Stores}
+use Rattle.picture_state.specs.declared.types.Sizes.{Sizes}
+use Rattle.picture_state.specs.declared.types.Matrices.{Matrices}
+use Rattle.picture_state.specs.declared.types.Picture.{Picture}
+use Rattle.picture_state.specs.State.{storesAs}
+use Rattle.picture_state.specs.Ways.{Way, on, out}
 use Rattle.picture.specs.Pictures as P
 use Rattle.prediction.specs.Planes.{storesBytes}
 use Rattle.demands.specs.Causes.{Cause}
 use Rattle.demands.specs.Stores.{SameBut}
-use Rattle.picture.proofs.Exits.{Ways, ways-as, onward-ways}
+use Rattle.picture_state.proofs.Exits.{Ways, ways-as, onward-ways}
 use Rattle.picture.proofs.Walk.{Framed, slices-ways}
 use Rattle.demands.proofs.OtherStores.{keeping}
 

@@ -12,9 +12,9 @@ use Rattle.laws.specs.Turns.{Turn, again, stop}
 use Rattle.bits.specs.Bounds.{longestStream}
 use Rattle.bits.specs.Bits.{has}
 use Rattle.bits.specs.Programs.{Out, eqZ}
-use Rattle.picture.specs.declared.state.Matrices.{Matrices}
-use Rattle.picture.specs.declared.state.Sizes.{Sizes}
-use Rattle.picture.specs.Ways.{Way, out}
+use Rattle.picture_state.specs.declared.types.Matrices.{Matrices}
+use Rattle.picture_state.specs.declared.types.Sizes.{Sizes}
+use Rattle.picture_state.specs.Ways.{Way, out}
 use Rattle.picture.specs.Pictures.{Frame}
 use Rattle.picture.proofs.Kept.{Ends, SameLength, picture-leaves}
 use Rattle.conversion.specs.Pictures.{fits}

@@ -12,13 +12,13 @@ use Rattle.laws.specs.Turns.{Turn, again, stop}
 use Rattle.laws.proofs.Tests.{by-case}
 use Rattle.bits.specs.Programs.{Out, run}
 use Rattle.prediction.specs.Planes.{storesBytes}
-use Rattle.picture.specs.declared.state.Matrices.{Matrices}
-use Rattle.picture.specs.declared.state.Sizes.{Sizes}
-use Rattle.picture.specs.declared.state.Stores.{Stores}
-use Rattle.picture.specs.Possible.{PossibleStores}
-use Rattle.picture.specs.Ways.{Way, out}
+use Rattle.picture_state.specs.declared.types.Matrices.{Matrices}
+use Rattle.picture_state.specs.declared.types.Sizes.{Sizes}
+use Rattle.picture_state.specs.declared.types.Stores.{Stores}
+use Rattle.picture_state.specs.Possible.{PossibleStores}
+use Rattle.picture_state.specs.Ways.{Way, out}
 use Rattle.picture.specs.Pictures as P
-use Rattle.picture.proofs.Exits.{Ways}
+use Rattle.picture_state.proofs.Exits.{Ways}
 use Rattle.picture.proofs.Kept.{after-kept}
 use Rattle.playback.specs.declared.outcome.Shown.{Shown}
 use Rattle.playback.specs.declared.outcome.Outcome.the-variants as H

@@ -6,7 +6,7 @@ use mathlib.Core.Logic.{_⊎_, inl, inr, ⊎-elim}
 use Prim.Native.Nat.{ℕ, _<_}
 use native.Mathlib.Omega.{arith}
 use lib.ListN.{length}
-use Rattle.picture.specs.declared.state.Sizes.{Sizes}
+use Rattle.picture_state.specs.declared.types.Sizes.{Sizes}
 use Rattle.decoder.specs.declared.record.Decoder.{Decoder}
 use Rattle.decoder.specs.Record.{fresh, storeBytes}
 use Rattle.decoder.specs.Possible.{possible}

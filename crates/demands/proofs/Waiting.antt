@@ -14,12 +14,12 @@ use Rattle.bits.specs.Programs.{run, bind, eqZ, findStartCode}
 use Rattle.bits.proofs.Bits.{bits-lt}
 use Rattle.bits.proofs.Programs.{run-most}
 use Rattle.laws.proofs.Tests.{by-case}
-use Rattle.picture.specs.declared.state.Sizes.{Sizes}
-use Rattle.picture.specs.declared.state.Picture.{Picture}
-use Rattle.picture.specs.State.{storesAs, firstStores}
+use Rattle.picture_state.specs.declared.types.Sizes.{Sizes}
+use Rattle.picture_state.specs.declared.types.Picture.{Picture}
+use Rattle.picture_state.specs.State.{storesAs, firstStores}
 use Rattle.codes.specs.Matrices.{bounded}
-use Rattle.picture.specs.Possible.{possiblePicture}
-use Rattle.picture.proofs.Possible.{stores-of, picture-of, picture-by}
+use Rattle.picture_state.specs.Possible.{possiblePicture}
+use Rattle.picture_state.proofs.Possible.{stores-of, picture-of, picture-by}
 use Rattle.header.specs.Possible.{across, sizesOf, sameSizes, possibleSequence}
 use Rattle.header.specs.Sequences.{size, rest}
 use Rattle.playback.specs.declared.state.State.{State}

@@ -8,9 +8,9 @@ use lib.IntN.{pos, negsuc}
 use lib.ListN.{length}
 use Rattle.laws.specs.Turns.{again}
 use Rattle.bits.specs.Bits.{bitsAt}
-use Rattle.picture.specs.declared.state.Matrices.{Matrices}
-use Rattle.picture.specs.declared.state.Sizes.{Sizes}
-use Rattle.picture.specs.Ways.{Way, out}
+use Rattle.picture_state.specs.declared.types.Matrices.{Matrices}
+use Rattle.picture_state.specs.declared.types.Sizes.{Sizes}
+use Rattle.picture_state.specs.Ways.{Way, out}
 use Rattle.picture.specs.Pictures.{Frame}
 use Rattle.playback.specs.Turns.{TurnState, atPicture, pictureTurn}
 use Rattle.playback.specs.Cases.{isThere, isFlush}

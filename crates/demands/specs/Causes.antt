@@ -9,7 +9,7 @@ use Rattle.bits.specs.Programs.{run}
 use Rattle.coefficients.specs.Dcs.{dcDifference, dcInside}
 use Rattle.prediction.specs.declared.place.Place.{Place}
 use Rattle.prediction.specs.Predict.{start, maxAddress, reach}
-use Rattle.picture.specs.declared.state.Sizes.{Sizes}
+use Rattle.picture_state.specs.declared.types.Sizes.{Sizes}
 
 -- RULES Q8: a DC value that was read in the stream s, predictor and difference, is outside -256..255
 pub record DcOutside (s : List ℕ) : Type 0 where

@@ -9,9 +9,9 @@ use lib.ListN.{length}
 use Rattle.laws.specs.Turns.{again, stop}
 use Rattle.bits.specs.Bounds.{longestStream}
 use Rattle.bits.specs.Programs.{run, if_then_else_}
-use Rattle.picture.specs.declared.state.Matrices.{Matrices}
-use Rattle.picture.specs.declared.state.Sizes.{Sizes}
-use Rattle.picture.specs.Ways.{Way, on, out}
+use Rattle.picture_state.specs.declared.types.Matrices.{Matrices}
+use Rattle.picture_state.specs.declared.types.Sizes.{Sizes}
+use Rattle.picture_state.specs.Ways.{Way, on, out}
 use Rattle.picture.specs.Pictures.{Frame, pictureHeader, isDecoded}
 use Rattle.playback.specs.State.{place}
 use Rattle.playback.specs.Turns.{TurnState, atPicture, pictureRun, pictureTurn}

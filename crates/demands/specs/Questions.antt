@@ -9,9 +9,9 @@ use lib.ListN.{length}
 use Rattle.laws.specs.Turns.{again, stop}
 use Rattle.bits.specs.Bits.{has}
 use Rattle.bits.specs.Programs.{run, eqZ, if_then_else_}
-use Rattle.picture.specs.Ways.{Way, on, out}
-use Rattle.picture.specs.declared.state.Matrices.{Matrices}
-use Rattle.picture.specs.declared.state.Sizes.{Sizes}
+use Rattle.picture_state.specs.Ways.{Way, on, out}
+use Rattle.picture_state.specs.declared.types.Matrices.{Matrices}
+use Rattle.picture_state.specs.declared.types.Sizes.{Sizes}
 use Rattle.picture.specs.Pictures.{Frame}
 use Rattle.header.specs.Sequences.{size, rest}
 use Rattle.conversion.specs.Pictures.{fits}

@@ -7,7 +7,7 @@ use Prim.Native.Nat.{ℕ, _+_, _*_, _≤_, _<_}
 use lib.IntN.{negsuc}
 use lib.ListN.{length}
 use Rattle.bits.specs.Bits.{bitsAt}
-use Rattle.picture.specs.Ways.{out}
+use Rattle.picture_state.specs.Ways.{out}
 use Rattle.decoder.specs.declared.record.Decoder.{Decoder}
 use Rattle.playback.specs.Turns.{TurnState, atPicture}
 use Rattle.playback.specs.Cases.{isThere, isFlush}

@@ -8,7 +8,7 @@ use native.Mathlib.Omega.{arith}
 use lib.Dec.{leb}
 use borrow.Author.Tests.{eqb-true, leb-true}
 use Rattle.laws.proofs.Tests.{each}
-use Rattle.picture.specs.declared.state.Sizes.{Sizes}
+use Rattle.picture_state.specs.declared.types.Sizes.{Sizes}
 use Rattle.header.specs.declared.state.Sequence.{Sequence}
 use Rattle.header.specs.Possible.{across, sizesOf, sameSizes, possibleSequence}
 

@@ -2,7 +2,7 @@
 use mathlib.Core.Bool.{Bool, cond, _&&_}
 use Prim.Native.Nat.{ℕ, _+_, _*_, _/_}
 use lib.Dec.{eqb, leb}
-use Rattle.picture.specs.declared.state.Sizes.{Sizes}
+use Rattle.picture_state.specs.declared.types.Sizes.{Sizes}
 use Rattle.header.specs.declared.state.Sequence.{Sequence}
 
 -- RULES O.4: macroblocks in a row, and rows of them

@@ -7,7 +7,7 @@ use lib.ListN.{getD, set, replicate}
 use Rattle.bits.specs.Programs.{Prog, done, bind, bits, forBelow, _>>=_, _>>_, if_then_else_}
 use Rattle.codes.specs.Matrices.{zigZag, intraQuantMatrix, nonIntraQuantMatrix}
 use Rattle.codes.specs.Rates.{pixelAspectRatio, pictureRate}
-use Rattle.picture.specs.declared.state.Matrices.{Matrices}
+use Rattle.picture_state.specs.declared.types.Matrices.{Matrices}
 use Rattle.header.specs.declared.sequences.RestRead.{RestRead}
 use Rattle.header.specs.State.{noTime}
 

@@ -1,6 +1,6 @@
 // RULES Q2: are width, height and the sizes possible? The tests that need no other to be asked first are joined by `&`.
 use crate::state::Sequence;
-use picture::state::Sizes;
+use picture_state::types::Sizes;
 ghost use mathlib.Core.Path.{_≡_};
 ghost use Prim.Native.Nat.{_≤_};
 ghost use Rattle.header.specs.Possible.{sizesOf, sameSizes, possibleSequence};

@@ -5,7 +5,7 @@ use codes::matrices::non_intra_quant_matrix;
 use codes::matrices::zig_zag;
 use codes::rates::picture_rate;
 use codes::rates::pixel_aspect_ratio;
-use picture::state::Matrices;
+use picture_state::types::Matrices;
 ghost use mathlib.Core.Path.{_≡_};
 ghost use Prim.Native.Nat.{_≤_, _<_};
 ghost use Rattle.bits.specs.Runs.{Inside, Reading};

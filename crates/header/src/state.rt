@@ -1,6 +1,6 @@
 // What a sequence header sets, by value, and the state of it in a fresh record.
-use picture::state::Matrices;
-use picture::state::Sizes;
+use picture_state::types::Matrices;
+use picture_state::types::Sizes;
 ghost use mathlib.Core.Path.{_≡_};
 ghost use Rattle.header.specs.State.{freshSequence};
 

@@ -8,7 +8,7 @@ use lib.ListN.{replicate, take}
 use Rattle.laws.specs.Signed.{clamp255, odd}
 use Rattle.laws.specs.Stores.{storeRow, storeRows}
 use Rattle.bits.specs.Bits.{bitAt, bitsAt, got, next, codePrefix, codeFrom, found}
-use Rattle.bits.specs.Programs.{run, bind, forBelow, loop}
+use Rattle.bits.specs.Programs.{run, bind, forBelow, loop, Out}
 use Rattle.codes.specs.Tables.{macroblockAddressIncrementIndex, macroblockAddressIncrementValue, macroblockTypeIntraIndex, macroblockTypeIntraValue}
 use Rattle.codes.specs.Tables.{macroblockTypePredictiveIndex, macroblockTypePredictiveValue, motionIndex, motionValue, dctSizeLuminanceIndex}
 use Rattle.codes.specs.Tables.{dctSizeLuminanceValue, dctSizeChrominanceIndex, dctSizeChrominanceValue, dctCoeffIndex, dctCoeffValue}
@@ -27,21 +27,19 @@ use Rattle.transform.specs.Idct.{columns, rows, idct, dcOnly}
 use Rattle.prediction.specs.Predict.{fetch}
 use Rattle.prediction.specs.Planes.{follow, next as following, predictedPlanes}
 use Rattle.prediction.specs.Writers.{setConst, overwrite, blockPlace}
-use Rattle.picture.specs.Ways.{leave, onward, plain}
-use Rattle.picture.specs.Increments.{incrementTurn, increment}
-use Rattle.picture.specs.Predictions.{unlessRefused, predictFrom, predict}
-use Rattle.picture.specs.Heads.{macroblockType, scale, vector, forward, backward, vectors, head, pattern}
-use Rattle.picture.specs.Blocks.{results, written, blockEnd, oneBlock, blocks}
-use Rattle.picture.specs.Macroblocks.{advance, predictUnlessIntra, body, firstOf, laterOf, macroblock}
-use Rattle.picture.specs.Slices.{extraTurn, extra, pastMacroblock, sliceTurn, slice}
+use Rattle.picture_state.specs.Ways.{leave, onward, plain, Way, on, out}
+use Rattle.macroblock_head.specs.Increments.{incrementTurn, increment}
+use Rattle.macroblock_head.specs.Predictions.{unlessRefused, predictFrom, predict}
+use Rattle.macroblock_head.specs.Heads.{macroblockType, scale, vector, forward, backward, vectors, head, pattern}
+use Rattle.blocks.specs.Blocks.{results, written, blockEnd, oneBlock, blocks}
+use Rattle.macroblock.specs.Macroblocks.{advance, predictUnlessIntra, body, firstOf, laterOf, macroblock}
+use Rattle.slice.specs.Slices.{extraTurn, extra, pastMacroblock, sliceTurn, slice}
 use Rattle.picture.specs.Pictures as P
 use mathlib.Core.Bool.{false}
-use Rattle.bits.specs.Programs.{Out}
-use Rattle.picture.specs.declared.state.Motion.{Motion}
-use Rattle.picture.specs.declared.state.Sizes.{Sizes}
-use Rattle.picture.specs.declared.state.Matrices.{Matrices}
-use Rattle.picture.specs.declared.state.Picture.{Picture}
-use Rattle.picture.specs.Ways.{Way, on, out}
+use Rattle.picture_state.specs.declared.types.Motion.{Motion}
+use Rattle.picture_state.specs.declared.types.Sizes.{Sizes}
+use Rattle.picture_state.specs.declared.types.Matrices.{Matrices}
+use Rattle.picture_state.specs.declared.types.Picture.{Picture}
 
 abbrev still : Motion
 still = record { «full_px» = false; «is_set» = false; «r_size» = 0; h = pos 0; v = pos 0 }

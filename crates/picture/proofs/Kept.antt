@@ -1,49 +1,47 @@
 -- RULES Q8, Q9, QG: what a picture leaves. It leaves early with no number but 8 and 9, the store stays as long as it was, and a possible state stays
 -- possible. Assumes nothing.
-use mathlib.Core.Path.{_≡_, refl, sym, ap, _∙_, subst}
-use mathlib.Core.Bool.{Bool, true, false}
+use mathlib.Core.Path.{_≡_, refl, sym, _∙_}
+use mathlib.Core.Bool.{true}
 use mathlib.Core.List.{List}
 use mathlib.Core.Logic.{_⊎_, inl, inr}
 use Prim.Native.Nat.{ℕ, _+_, _-_, _*_, _≤_, _<_}
-use native.Mathlib.Decide.{decLt}
 use native.Mathlib.Nat.{mul-le-mul}
 use native.Mathlib.Omega.{arith}
-use borrow.Author.Tests.{eqb-true, eqb-false}
 use lib.Dec.{eqb}
-use lib.IntN.{ℤ, pos, negsuc, _+ℤ_}
-use lib.ListN.{length, getD, set}
-use lib.Seq.{set-out, getD-set-same, getD-set-other}
-use lib.Signed.{leZ}
+use lib.IntN.{pos, negsuc, _+ℤ_}
+use lib.ListN.{length, getD}
 use Rattle.laws.proofs.Ints.{up, dn, v, lit, _⊕_, _⊖_, le-no}
 use Rattle.laws.proofs.Tests.{by-case}
 use Rattle.bits.specs.Bounds.{longestStream}
 use Rattle.bits.specs.Programs.{run}
 use Rattle.bits.proofs.Gives.{Gives, g-done, g-bind, g-if, g-start, g-as, g-when}
 use Rattle.codes.specs.Matrices.{Bounded}
-use Rattle.coefficients.specs.Dcs.{dcInside}
 use Rattle.coefficients.proofs.Kept.{block-gives, left-bounded}
 use Rattle.prediction.specs.declared.predict.Predicted.{Predicted}
 use Rattle.prediction.specs.declared.predict.Predicted.the-variants.{Done, Refused}
 use Rattle.prediction.specs.Planes.{After}
-use Rattle.picture.specs.declared.state.Context.{Context}
-use Rattle.picture.specs.declared.state.Stores.{Stores}
-use Rattle.picture.specs.declared.state.Sizes.{Sizes}
-use Rattle.picture.specs.declared.state.Matrices.{Matrices}
-use Rattle.picture.specs.declared.state.Slice.{Slice}
-use Rattle.picture.specs.declared.state.Picture.{Picture}
-use Rattle.picture.specs.State.{storesAs, addressAs}
-use Rattle.picture.specs.Possible.{between, possiblePicture, PossibleStores, PossibleSlice, PossiblePicture}
-use Rattle.picture.specs.Ways.{Way, on, out}
-use Rattle.picture.specs.Predictions.{unlessRefused}
-use Rattle.picture.specs.Blocks.{predictorOf}
-use Rattle.picture.specs.Macroblocks.{skipReset}
-use Rattle.picture.specs.Slices.{sliceStart}
+use Rattle.picture_state.specs.declared.types.Context.{Context}
+use Rattle.picture_state.specs.declared.types.Stores.{Stores}
+use Rattle.picture_state.specs.declared.types.Sizes.{Sizes}
+use Rattle.picture_state.specs.declared.types.Matrices.{Matrices}
+use Rattle.picture_state.specs.declared.types.Slice.{Slice}
+use Rattle.picture_state.specs.declared.types.Picture.{Picture}
+use Rattle.picture_state.specs.State.{storesAs, addressAs}
+use Rattle.picture_state.specs.Possible.{between, possiblePicture, PossibleStores, PossibleSlice, PossiblePicture}
+use Rattle.picture_state.specs.Ways.{Way, on, out}
+use Rattle.macroblock_head.specs.Predictions.{unlessRefused}
+use Rattle.blocks.specs.Blocks.{predictorOf}
+use Rattle.macroblock.specs.Macroblocks.{skipReset}
+use Rattle.slice.specs.Slices.{sliceStart}
 use Rattle.picture.specs.Pictures as P
-use Rattle.picture.proofs.Increments.{increment-most}
-use Rattle.picture.proofs.Lengths.{planes-length, written-length}
-use Rattle.picture.proofs.Possible.{between-of, between-by, picture-of, picture-by}
-use Rattle.picture.proofs.Syntax.{motions-kept, predictors-kept, still-kept, reset-kept, predictors-reset, head-gives, header-fits, headed-possible}
-use Rattle.picture.proofs.Exits.{Ways, ways-as, onward-ways}
+use Rattle.macroblock_head.proofs.IncrementBound.{increment-most}
+use Rattle.macroblock_head.proofs.Lengths.{planes-length}
+use Rattle.blocks.proofs.Lengths.{written-length}
+use Rattle.picture_state.proofs.Possible.{between-of, between-by, picture-of, picture-by}
+use Rattle.picture_state.proofs.Kept.{motions-kept, predictors-kept, reset-kept, predictors-reset, predictors-set}
+use Rattle.macroblock_head.proofs.Kept.{still-kept, head-gives}
+use Rattle.picture.proofs.Header.{header-fits, headed-possible}
+use Rattle.picture_state.proofs.Exits.{Ways, ways-as, onward-ways}
 use Rattle.picture.proofs.Walk.{Invariant, Keeps, Framed, slices-ways}
 
 -- a picture leaves early with 8 or 9 and a store of n numbers
@@ -55,16 +53,6 @@ abbrev pub Ends : {A : Type 0} → ℕ → (A → Type 0) → Way A → Type 0
 Ends n P = Ways P (Leaves n)
 
 -- ---- the steps
-
--- a DC predictor is put in its place
-pub predictors-set : (d : List ℤ) (j : ℕ) (x : ℤ) → ((i : ℕ) → i < 3 → dcInside (getD d i (pos 0)) ≡ true) → dcInside x ≡ true → (i : ℕ)
-    → i < 3 → dcInside (getD (set d j x) i (pos 0)) ≡ true
-predictors-set d j x h e i l = go (eqb i j) refl (decLt j (length d))
-  where
-    go : (t : Bool) → eqb i j ≡ t → Dec (j < length d) → dcInside (getD (set d j x) i (pos 0)) ≡ true
-    go true q (yes k) = ap dcInside (ap (λ (m : ℕ). getD (set d j x) m (pos 0)) (eqb-true i j q) ∙ getD-set-same d j x (pos 0) k) ∙ e
-    go true q (no k) = ap (λ (c : List ℤ). dcInside (getD c i (pos 0))) (set-out d j x (omega arith)) ∙ h i l
-    go false q k = ap dcInside (getD-set-other d j i x (pos 0) (eqb-false i j q)) ∙ h i l
 
 -- the address goes on by i
 moved : (i : ℕ) (x : Slice) → PossibleSlice x → up (x .«macroblock_address») + i ≤ dn (x .«macroblock_address») + 402700000

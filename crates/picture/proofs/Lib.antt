@@ -1,13 +1,8 @@
 pub mod Example
-pub mod Exits
-pub mod Walk
 pub mod Fuel
-pub mod Increments
+pub mod Header
+pub mod Walk
 pub mod Kept
-pub mod Lengths
 pub mod Places
-pub mod Possible
-pub mod Ready
-pub mod Signed
-pub mod Syntax
-pub mod Ways
+pub mod PictureLoop
+pub mod Turning

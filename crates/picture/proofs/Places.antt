@@ -14,14 +14,14 @@ use Rattle.bits.specs.Programs.{Prog, done, bind, bits, loop, many, run, turn}
 use Rattle.bits.proofs.Start.{isCode, Searched, first, none, found-is-first}
 use Rattle.bits.proofs.Programs.{run-bind, run-on, served-next}
 use Rattle.laws.proofs.Tests.{by-case}
-use Rattle.picture.specs.declared.state.Stores.{Stores}
-use Rattle.picture.specs.declared.state.Sizes.{Sizes}
-use Rattle.picture.specs.declared.state.Matrices.{Matrices}
-use Rattle.picture.specs.declared.state.Picture.{Picture}
-use Rattle.picture.specs.declared.state.Context.{Context}
-use Rattle.picture.specs.State.{World, world, startCodeAs, storesAs}
-use Rattle.picture.specs.Ways.{Way, on, out, leave, onward, give}
-use Rattle.picture.specs.Slices.{isLast, slice}
+use Rattle.picture_state.specs.declared.types.Stores.{Stores}
+use Rattle.picture_state.specs.declared.types.Sizes.{Sizes}
+use Rattle.picture_state.specs.declared.types.Matrices.{Matrices}
+use Rattle.picture_state.specs.declared.types.Picture.{Picture}
+use Rattle.picture_state.specs.declared.types.Context.{Context}
+use Rattle.picture_state.specs.State.{World, world, startCodeAs, storesAs}
+use Rattle.picture_state.specs.Ways.{Way, on, out, leave, onward, give}
+use Rattle.slice.specs.Slices.{isLast, slice}
 use Rattle.picture.specs.Pictures as P
 
 -- ---- programs that take at most n bits

@@ -18,21 +18,22 @@ use Rattle.coefficients.specs.declared.block.BlockEnd.{BlockEnd}
 use Rattle.coefficients.specs.declared.block.BlockEnd.the-variants.{Whole, Dropped, Outside}
 use Rattle.prediction.specs.Predict.{macroblockAt}
 use Rattle.prediction.specs.Planes.{predictedPlanes}
-use Rattle.picture.specs.declared.state.Context.{Context}
-use Rattle.picture.specs.declared.state.Matrices.{Matrices}
-use Rattle.picture.specs.declared.state.Motion.{Motion}
-use Rattle.picture.specs.declared.state.Slice.{Slice}
-use Rattle.picture.specs.declared.state.Picture.{Picture}
-use Rattle.picture.specs.State.{World, world, inSlice, startCodeAs, sliceAs, addressAs}
-use Rattle.picture.specs.Ways.{Way, on, out}
-use Rattle.picture.specs.Predictions.{unlessRefused, predictFrom, predictBoth, predict, predictSkipped}
-use Rattle.picture.specs.Heads.{flag, isIntra, macroblockType, head, pattern}
-use Rattle.picture.specs.Blocks.{predictorOf, predictorAs, quantiserOf, matrixFor, written, blockEnd, oneBlock, patternBlock, blocks}
-use Rattle.picture.specs.Increments.{increment}
-use Rattle.picture.specs.Macroblocks.{nowhere, further, skipReset, advance, predictUnlessIntra, body, firstOf, laterOf, macroblock}
-use Rattle.picture.specs.Slices.{Slicing, slicing, sliceStart, isLast, extra, pastMacroblock, sliceTurn, slice}
+use Rattle.picture_state.specs.declared.types.Context.{Context}
+use Rattle.picture_state.specs.declared.types.Matrices.{Matrices}
+use Rattle.picture_state.specs.declared.types.Motion.{Motion}
+use Rattle.picture_state.specs.declared.types.Slice.{Slice}
+use Rattle.picture_state.specs.declared.types.Picture.{Picture}
+use Rattle.picture_state.specs.State.{World, world, inSlice, startCodeAs, sliceAs, addressAs}
+use Rattle.picture_state.specs.Ways.{Way, on, out}
+use Rattle.macroblock_head.specs.Predictions.{unlessRefused, predictFrom, predictBoth, predict, predictSkipped}
+use Rattle.picture_state.specs.Flags.{flag, isIntra}
+use Rattle.macroblock_head.specs.Heads.{macroblockType, head, pattern}
+use Rattle.blocks.specs.Blocks.{predictorOf, predictorAs, quantiserOf, matrixFor, written, blockEnd, oneBlock, patternBlock, blocks}
+use Rattle.macroblock_head.specs.Increments.{increment}
+use Rattle.macroblock.specs.Macroblocks.{nowhere, further, skipReset, advance, predictUnlessIntra, body, firstOf, laterOf, macroblock}
+use Rattle.slice.specs.Slices.{Slicing, slicing, sliceStart, isLast, extra, pastMacroblock, sliceTurn, slice}
 use Rattle.picture.specs.Pictures as P
-use Rattle.picture.proofs.Exits.{Ways, also-ways, onward-ways, plain-ways, for-ways}
+use Rattle.picture_state.proofs.Exits.{Ways, also-ways, onward-ways, plain-ways, for-ways}
 
 -- what is to hold: of the state at the beginning of a slice and later in it, of the left-over coefficients, of the store, of the start code, and of
 -- number and store where a picture leaves early

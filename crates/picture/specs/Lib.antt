@@ -1,11 +1,3 @@
-pub mod State
-pub mod Possible
-pub mod Ways
-pub mod Increments
-pub mod Predictions
-pub mod Heads
-pub mod Blocks
-pub mod Macroblocks
-pub mod Slices
 pub mod Pictures
-pub mod Views
+pub mod Contracts
+pub mod Behind

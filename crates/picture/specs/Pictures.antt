@@ -7,15 +7,15 @@ use lib.IntN.{ℤ, pos, natAbs}
 use lib.Signed.{leZ}
 use Rattle.laws.specs.Turns.{Turn, again, stop}
 use Rattle.bits.specs.Programs.{Prog, done, bind, bits, nextStartCode, eqZ, loop, many, _>>=_, _>>_, if_then_else_}
-use Rattle.picture.specs.declared.state.Context.{Context}
-use Rattle.picture.specs.declared.state.Motion.{Motion}
-use Rattle.picture.specs.declared.state.Stores.{Stores}
-use Rattle.picture.specs.declared.state.Sizes.{Sizes}
-use Rattle.picture.specs.declared.state.Matrices.{Matrices}
-use Rattle.picture.specs.declared.state.Picture.{Picture}
-use Rattle.picture.specs.State.{World, world, fullPxAs, rSizeAs, motionsAs, startCodeAs, typeAs, storesAs, sliceAs}
-use Rattle.picture.specs.Ways.{Way, on, out, leave, onward, give}
-use Rattle.picture.specs.Slices.{isLast, slice}
+use Rattle.picture_state.specs.declared.types.Context.{Context}
+use Rattle.picture_state.specs.declared.types.Motion.{Motion}
+use Rattle.picture_state.specs.declared.types.Stores.{Stores}
+use Rattle.picture_state.specs.declared.types.Sizes.{Sizes}
+use Rattle.picture_state.specs.declared.types.Matrices.{Matrices}
+use Rattle.picture_state.specs.declared.types.Picture.{Picture}
+use Rattle.picture_state.specs.State.{World, world, fullPxAs, rSizeAs, motionsAs, startCodeAs, typeAs, storesAs, sliceAs}
+use Rattle.picture_state.specs.Ways.{Way, on, out, leave, onward, give}
+use Rattle.slice.specs.Slices.{isLast, slice}
 
 -- what a picture changes: its state, the left-over coefficients and the store
 pub record Frame : Type 0 where

@@ -1,5 +1,5 @@
-// Macroblocks, slices and pictures (RULES part 7).
-pub mod flags;
-pub mod fresh;
-pub mod limits;
-pub mod state;
+// RULES 7.1 to 7.4: a picture, from behind its start code on: its header, its slices, and the turn of the stores.
+pub mod headers;
+pub mod pictures;
+pub mod turns;
+pub mod whole;

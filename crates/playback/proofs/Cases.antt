@@ -8,9 +8,9 @@ use borrow.Author.Tests.{not-true}
 use Rattle.laws.specs.Turns.{Turn, again, stop}
 use Rattle.laws.proofs.Tests.{both}
 use Rattle.bits.specs.Programs.{eqZ}
-use Rattle.picture.specs.declared.state.Matrices.{Matrices}
-use Rattle.picture.specs.declared.state.Sizes.{Sizes}
-use Rattle.picture.specs.Ways.{Way, on, out}
+use Rattle.picture_state.specs.declared.types.Matrices.{Matrices}
+use Rattle.picture_state.specs.declared.types.Sizes.{Sizes}
+use Rattle.picture_state.specs.Ways.{Way, on, out}
 use Rattle.picture.specs.Pictures.{Frame}
 use Rattle.playback.specs.declared.outcome.Outcome.the-variants.{Picture, Refused}
 use Rattle.playback.specs.declared.state.State.{State}

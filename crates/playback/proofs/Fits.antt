@@ -10,12 +10,12 @@ use Rattle.laws.proofs.Tests.{by-case}
 use Rattle.bits.specs.Bounds.{longestStream, lastPosition}
 use Rattle.bits.specs.Programs.{Out, run, eqZ, findStartCode}
 use Rattle.bits.proofs.Programs.{run-most}
-use Rattle.picture.specs.declared.state.Matrices.{Matrices}
-use Rattle.picture.specs.declared.state.Sizes.{Sizes}
-use Rattle.picture.specs.Possible.{between}
-use Rattle.picture.specs.Ways.{Way}
+use Rattle.picture_state.specs.declared.types.Matrices.{Matrices}
+use Rattle.picture_state.specs.declared.types.Sizes.{Sizes}
+use Rattle.picture_state.specs.Possible.{between}
+use Rattle.picture_state.specs.Ways.{Way}
 use Rattle.picture.specs.Pictures.{Frame, picture}
-use Rattle.picture.proofs.Possible.{picture-of, picture-by}
+use Rattle.picture_state.proofs.Possible.{picture-of, picture-by}
 use Rattle.picture.proofs.Kept.{Ends, StaysPossible, picture-kept}
 use Rattle.playback.specs.declared.state.State.{State}
 use Rattle.playback.specs.State.{place, startCode, searchedAs}

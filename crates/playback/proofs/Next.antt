@@ -10,7 +10,7 @@ use Rattle.laws.proofs.Tests.{by-case}
 use Rattle.bits.specs.Bounds.{longestStream}
 use Rattle.bits.specs.Programs.{Out, run, eqZ, findStartCode}
 use Rattle.bits.proofs.Programs.{run-on, run-most}
-use Rattle.picture.specs.declared.state.Stores.{Stores}
+use Rattle.picture_state.specs.declared.types.Stores.{Stores}
 use Rattle.playback.specs.declared.state.State.{State}
 use Rattle.playback.specs.State.{place, startCode, frames, searchedAs}
 use Rattle.playback.specs.Search.{nextCode, nextPicture}

@@ -9,11 +9,11 @@ use Rattle.laws.proofs.Loops.{turns-again, turns-stop}
 use Rattle.bits.specs.Programs.{run, eqZ}
 use Rattle.bits.specs.Runs.{Runs, placeOf, readerAt}
 use Rattle.bits.specs.declared.reader.Reader.{Reader}
-use Rattle.picture.specs.declared.state.Matrices.{Matrices}
-use Rattle.picture.specs.declared.state.Picture.{Picture}
-use Rattle.picture.specs.declared.state.Sizes.{Sizes}
+use Rattle.picture_state.specs.declared.types.Matrices.{Matrices}
+use Rattle.picture_state.specs.declared.types.Picture.{Picture}
+use Rattle.picture_state.specs.declared.types.Sizes.{Sizes}
 use Rattle.picture.specs.Pictures.{frame, picture}
-use Rattle.picture.specs.Views.{way}
+use Rattle.picture_state.specs.Contracts.{way}
 use Rattle.playback.specs.declared.outcome.Outcome.the-variants.{Refused}
 use Rattle.playback.specs.declared.outcome.Turned.{Turned}
 use Rattle.playback.specs.declared.state.State.{State}

@@ -6,9 +6,9 @@ use Prim.Native.Nat.{ℕ, _*_, _≤_}
 use lib.IntN.{ℤ}
 use Rattle.bits.specs.Bounds.{lastPosition}
 use Rattle.codes.specs.Matrices.{Bounded}
-use Rattle.picture.specs.declared.state.Picture.{Picture}
-use Rattle.picture.specs.declared.state.Sizes.{Sizes}
-use Rattle.picture.specs.Possible.{PossiblePicture}
+use Rattle.picture_state.specs.declared.types.Picture.{Picture}
+use Rattle.picture_state.specs.declared.types.Sizes.{Sizes}
+use Rattle.picture_state.specs.Possible.{PossiblePicture}
 use Rattle.playback.specs.declared.state.Display.{Display}
 use Rattle.playback.specs.declared.state.State.{State}
 use Rattle.playback.specs.State.{place, possibleDisplay}

@@ -4,7 +4,7 @@ use Prim.Native.Nat.{ℕ}
 use lib.Dec.{leb}
 use lib.Ieee.{Float}
 use lib.IntN.{ℤ}
-use Rattle.picture.specs.State.{startCodeAs, freshPicture}
+use Rattle.picture_state.specs.State.{startCodeAs, freshPicture}
 use Rattle.picture.specs.Pictures.{Frame}
 use Rattle.header.specs.State.{noTime}
 use Rattle.playback.specs.declared.outcome.Shown.{Shown}

@@ -1,7 +1,7 @@
 // RULES Q3, 8.2, 8.3: the searches for a start code.
 use crate::state::State;
 use bits::reader::Reader;
-use picture::state::Picture;
+use picture_state::types::Picture;
 ghost use mathlib.Core.Path.{_≡_};
 ghost use Prim.Native.Nat.{_≤_};
 ghost use lib.IntN.{natAbs};

@@ -1,7 +1,7 @@
 // What hand-outs change of the record, by value. The left-over coefficients and the store are lent beside it, so that no picture copies them.
 use bits::position::BitPosition;
-use picture::fresh::fresh_picture;
-use picture::state::Picture;
+use picture_state::fresh::fresh_picture;
+use picture_state::types::Picture;
 ghost use mathlib.Core.Path.{_≡_};
 ghost use Rattle.playback.specs.State.{freshState, possibleDisplay};
 

@@ -10,10 +10,10 @@ use Rattle.laws.specs.Turns.{turns}
 use Rattle.laws.proofs.Loops.{turns-again, turns-stop}
 use Rattle.bits.specs.Bounds.{longestStream}
 use Rattle.bits.specs.Programs.{many}
-use Rattle.picture.specs.declared.state.Sizes.{Sizes}
-use Rattle.picture.specs.declared.state.Matrices.{Matrices}
-use Rattle.picture.specs.Ways.{on}
-use Rattle.picture.proofs.Possible.{stores-of}
+use Rattle.picture_state.specs.declared.types.Sizes.{Sizes}
+use Rattle.picture_state.specs.declared.types.Matrices.{Matrices}
+use Rattle.picture_state.specs.Ways.{on}
+use Rattle.picture_state.proofs.Possible.{stores-of}
 use Rattle.standard.specs.Standard as S
 use Rattle.standard.proofs.Related.{Rule}
 use Rattle.decoder.specs.declared.record.Decoder.{Decoder}

@@ -26,9 +26,9 @@ use Rattle.transform.specs.Butterfly.{butterfly}
 use Rattle.transform.specs.Idct.{columns, rows as rowPass, idct}
 use Rattle.prediction.specs.Standard.{formed}
 use Rattle.prediction.specs.Writers.{overwrite, addBlock, blockPlace}
-use Rattle.picture.specs.Ways.{Way, on, out, also, leave, onward, plain}
-use Rattle.picture.specs.Heads.{macroblockType}
-use Rattle.picture.specs.Slices.{extraTurn, extra}
+use Rattle.picture_state.specs.Ways.{Way, on, out, also, leave, onward, plain}
+use Rattle.macroblock_head.specs.Heads.{macroblockType}
+use Rattle.slice.specs.Slices.{extraTurn, extra}
 use Rattle.standard.specs.Rules.{rust}
 use Rattle.standard.specs.Standard as S
 use Rattle.standard.specs.Standard.Words as Words

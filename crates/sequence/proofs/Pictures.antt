@@ -7,9 +7,9 @@ use lib.Dec.{eqb}
 use lib.IntN.{pos}
 use Rattle.bits.specs.Bits.{Found}
 use Rattle.bits.specs.Programs.{Out, run, eqZ}
-use Rattle.picture.specs.declared.state.Sizes.{Sizes}
-use Rattle.picture.specs.declared.state.Matrices.{Matrices}
-use Rattle.picture.specs.Ways.{Way, on, out, also}
+use Rattle.picture_state.specs.declared.types.Sizes.{Sizes}
+use Rattle.picture_state.specs.declared.types.Matrices.{Matrices}
+use Rattle.picture_state.specs.Ways.{Way, on, out, also}
 use Rattle.standard.specs.Standard.Words.{conforms, forbidden}
 use Rattle.standard.specs.Standard as S
 use Rattle.standard.proofs.Related.{Rule}

@@ -15,8 +15,8 @@ use Rattle.bits.specs.Bounds.{longestStream}
 use Rattle.bits.specs.Bits.{Found, boundary, codePrefix, found}
 use Rattle.bits.specs.Programs.{Out, done, run, bind, eqZ, loop, turn, many, findTurn, findStartCode}
 use Rattle.bits.proofs.Start.{Searched, first, none, found-on, found-is-first}
-use Rattle.picture.specs.declared.state.Matrices.{Matrices}
-use Rattle.picture.specs.Ways.{Way, on, out}
+use Rattle.picture_state.specs.declared.types.Matrices.{Matrices}
+use Rattle.picture_state.specs.Ways.{Way, on, out}
 use Rattle.standard.specs.Standard.Words.{forbidden, conforms}
 use Rattle.sequence.specs.Sequence.{isPassed, followTurn, following}
 

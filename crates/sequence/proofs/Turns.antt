@@ -9,11 +9,11 @@ use Rattle.laws.specs.Turns.{stop}
 use Rattle.bits.specs.Bounds.{longestStream}
 use Rattle.bits.specs.Bits.{Found}
 use Rattle.bits.specs.Programs.{Out, run, eqZ, many, findStartCode}
-use Rattle.picture.specs.declared.state.Stores.{Stores}
-use Rattle.picture.specs.declared.state.Sizes.{Sizes}
-use Rattle.picture.specs.declared.state.Matrices.{Matrices}
-use Rattle.picture.specs.State.{freshBlock}
-use Rattle.picture.specs.Ways.{Way, on}
+use Rattle.picture_state.specs.declared.types.Stores.{Stores}
+use Rattle.picture_state.specs.declared.types.Sizes.{Sizes}
+use Rattle.picture_state.specs.declared.types.Matrices.{Matrices}
+use Rattle.picture_state.specs.State.{freshBlock}
+use Rattle.picture_state.specs.Ways.{Way, on}
 use Rattle.picture.specs.Pictures.{Frame}
 use Rattle.standard.specs.Standard as S
 use Rattle.standard.proofs.Agreement.{agreed}

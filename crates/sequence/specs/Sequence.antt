@@ -8,10 +8,10 @@ use lib.IntN.{pos, negsuc}
 use Rattle.laws.specs.Turns.{Turn, again, stop, turns}
 use Rattle.bits.specs.Bits.{Found, got, found}
 use Rattle.bits.specs.Programs.{run, eqZ, many, findStartCode, if_then_else_}
-use Rattle.picture.specs.declared.state.Stores.{Stores}
-use Rattle.picture.specs.declared.state.Sizes.{Sizes}
-use Rattle.picture.specs.declared.state.Matrices.{Matrices}
-use Rattle.picture.specs.Ways.{Way, on, also}
+use Rattle.picture_state.specs.declared.types.Stores.{Stores}
+use Rattle.picture_state.specs.declared.types.Sizes.{Sizes}
+use Rattle.picture_state.specs.declared.types.Matrices.{Matrices}
+use Rattle.picture_state.specs.Ways.{Way, on, also}
 use Rattle.standard.specs.Standard.Words.{forbidden}
 use Rattle.standard.specs.Standard.State.{Direction, Rules}
 use Rattle.standard.specs.Standard.{Decoded, picture}

@@ -9,7 +9,7 @@ use Rattle.laws.specs.Turns.{Turn, again, stop}
 use Rattle.bits.specs.Programs.{Prog, Out, done, run, bind, loop, turn}
 use Rattle.bits.specs.Programs as Programs
 use Rattle.bits.proofs.Programs.{run-bind}
-use Rattle.picture.specs.Ways.{Way, on, out, leave, onward, plain, step, give, forBelow}
+use Rattle.picture_state.specs.Ways.{Way, on, out, leave, onward, plain, step, give, forBelow}
 use Rattle.standard.specs.Standard.Words.{forbidden, conforms, shall}
 
 -- of what steps that read nothing give

@@ -33,12 +33,12 @@ use Rattle.transform.proofs.LoneDc.{lone-dc}
 use Rattle.prediction.specs.Predict.{macroblockAt}
 use Rattle.prediction.specs.Planes.{planeOf, planeLength, planeStart}
 use Rattle.prediction.specs.Writers.{setConst, overwrite, addConst, addBlock, blockWidth, blockPlace}
-use Rattle.picture.specs.declared.state.Context.{Context}
-use Rattle.picture.specs.declared.state.Matrices.{Matrices}
-use Rattle.picture.specs.State.{World, world, predictorsAs, freshBlock}
-use Rattle.picture.specs.Ways.{Way, on, out, leave, onward, plain, step, give}
-use Rattle.picture.specs.Heads.{flag}
-use Rattle.picture.specs.Blocks as O
+use Rattle.picture_state.specs.declared.types.Context.{Context}
+use Rattle.picture_state.specs.declared.types.Matrices.{Matrices}
+use Rattle.picture_state.specs.State.{World, world, predictorsAs, freshBlock}
+use Rattle.picture_state.specs.Ways.{Way, on, out, leave, onward, plain, step, give}
+use Rattle.picture_state.specs.Flags.{flag}
+use Rattle.blocks.specs.Blocks as O
 use Rattle.standard.specs.Standard as S
 use Rattle.standard.proofs.Agreement.{WayIs, Agree, a-same, a-give, a-plain, a-onward, a-shall, a-for, plain-bind, plain-bind-on}
 use Rattle.standard.proofs.Related.{Own, own, sliceOf, eights, Rule, coding}

@@ -25,11 +25,11 @@ use Rattle.transform.specs.Butterfly.{butterfly}
 use Rattle.transform.specs.Idct.{columns, rows, idct}
 use Rattle.prediction.specs.Standard.{formed}
 use Rattle.prediction.specs.Writers.{overwrite, addBlock, blockPlace}
-use Rattle.picture.specs.declared.state.Context.{Context}
-use Rattle.picture.specs.declared.state.Matrices.{Matrices}
-use Rattle.picture.specs.Ways.{Way, on, out, also, leave, onward, plain}
-use Rattle.picture.specs.Heads.{macroblockType}
-use Rattle.picture.specs.Slices.{extraTurn, extra}
+use Rattle.picture_state.specs.declared.types.Context.{Context}
+use Rattle.picture_state.specs.declared.types.Matrices.{Matrices}
+use Rattle.picture_state.specs.Ways.{Way, on, out, also, leave, onward, plain}
+use Rattle.macroblock_head.specs.Heads.{macroblockType}
+use Rattle.slice.specs.Slices.{extraTurn, extra}
 use Rattle.standard.specs.Standard as S
 use Rattle.standard.specs.Rules.{rust, printed}
 

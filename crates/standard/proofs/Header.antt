@@ -7,9 +7,9 @@ use lib.Dec.{eqb}
 use borrow.Author.Tests.{eqb-true}
 use Rattle.bits.specs.Bits.{has, got, next, found}
 use Rattle.bits.specs.Programs.{Prog, done, skip, run, bind, bits}
-use Rattle.picture.specs.declared.state.Motion.{Motion}
-use Rattle.picture.specs.declared.state.Picture.{Picture}
-use Rattle.picture.specs.Ways.{Way, on, leave, onward, plain, give}
+use Rattle.picture_state.specs.declared.types.Motion.{Motion}
+use Rattle.picture_state.specs.declared.types.Picture.{Picture}
+use Rattle.picture_state.specs.Ways.{Way, on, leave, onward, plain, give}
 use Rattle.picture.specs.Pictures as P
 use Rattle.standard.specs.Standard as S
 use Rattle.standard.proofs.Agreement.{Meets, Agree, a-same, a-give, a-onward, a-shall, plain-bind}

@@ -16,12 +16,12 @@ use Rattle.motion.specs.Vector.{displacement, motionVector}
 use Rattle.motion.proofs.Correction.{corrected-in}
 use Rattle.motion.proofs.OneStep.{displacement-most, step-is}
 use Rattle.motion.proofs.Standard.{standard-step}
-use Rattle.picture.specs.declared.state.Motion.{Motion}
-use Rattle.picture.specs.declared.state.Slice.{Slice}
-use Rattle.picture.specs.State.{scaleAs, motionsAs, dcReset}
-use Rattle.picture.specs.Ways.{Way, leave, onward, plain, give}
-use Rattle.picture.specs.Heads as O
-use Rattle.picture.specs.Heads.{flag}
+use Rattle.picture_state.specs.declared.types.Motion.{Motion}
+use Rattle.picture_state.specs.declared.types.Slice.{Slice}
+use Rattle.picture_state.specs.State.{scaleAs, motionsAs, dcReset}
+use Rattle.picture_state.specs.Ways.{Way, leave, onward, plain, give}
+use Rattle.macroblock_head.specs.Heads as O
+use Rattle.picture_state.specs.Flags.{flag}
 use Rattle.standard.specs.Standard as S
 use Rattle.standard.proofs.Agreement.{Agree, a-same, a-give, a-plain, a-onward, a-as, plain-bind, plain-bind-on}
 use Rattle.standard.proofs.Related.{In, motionOf, Own, own, sliceOf}

@@ -17,10 +17,10 @@ use Rattle.bits.proofs.Rules.{loop-suc}
 use Rattle.codes.specs.Codes.{macroblockAddressIncrement}
 use Rattle.codes.specs.Standard.{code, macroblockAddressIncrementCodes}
 use Rattle.codes.proofs.Standard.{agrees-macroblock-address-increment}
-use Rattle.picture.specs.Ways.{Way, on, leave, onward, plain, give}
-use Rattle.picture.specs.Increments as O
+use Rattle.picture_state.specs.Ways.{Way, on, leave, onward, plain, give}
+use Rattle.macroblock_head.specs.Increments as O
 use Rattle.standard.specs.Standard as S
-use Rattle.picture.proofs.Fuel.{increment-fuel}
+use Rattle.macroblock_head.proofs.Fuel.{increment-fuel}
 use Rattle.standard.proofs.Agreement.{Meets, Agree, run-plain, a-by, a-same}
 
 mem-at : {A : Type 0} (d : A) (xs : List A) (k : ℕ) → k < length xs → List·Memᴰ (getD xs k d) xs

@@ -13,16 +13,17 @@ use Rattle.laws.proofs.Ints.{v, lit, _⊕_, _⊖_, le-yes, yes-le, yes-lt, no-l
 use Rattle.bits.specs.Bounds.{longestStream}
 use Rattle.bits.specs.Programs.{Prog, done, run, bind}
 use Rattle.codes.specs.Codes.{codeBlockPattern}
-use Rattle.picture.specs.declared.state.Context.{Context}
-use Rattle.picture.specs.declared.state.Matrices.{Matrices}
-use Rattle.picture.specs.declared.state.Slice.{Slice}
-use Rattle.picture.specs.State.{World, world, freshBlock}
-use Rattle.picture.specs.Ways.{Way, on, out, leave, onward, plain, step, give}
-use Rattle.picture.specs.Heads as H
-use Rattle.picture.specs.Heads.{flag, macroblockType}
-use Rattle.picture.specs.Predictions as P
-use Rattle.picture.specs.Blocks as O
-use Rattle.picture.specs.Macroblocks as M
+use Rattle.picture_state.specs.declared.types.Context.{Context}
+use Rattle.picture_state.specs.declared.types.Matrices.{Matrices}
+use Rattle.picture_state.specs.declared.types.Slice.{Slice}
+use Rattle.picture_state.specs.State.{World, world, freshBlock}
+use Rattle.picture_state.specs.Ways.{Way, on, out, leave, onward, plain, step, give}
+use Rattle.macroblock_head.specs.Heads as H
+use Rattle.picture_state.specs.Flags.{flag}
+use Rattle.macroblock_head.specs.Heads.{macroblockType}
+use Rattle.macroblock_head.specs.Predictions as P
+use Rattle.blocks.specs.Blocks as O
+use Rattle.macroblock.specs.Macroblocks as M
 use Rattle.standard.specs.Standard as S
 use Rattle.standard.proofs.Agreement.{Meets, Agree, a-give, a-step, a-plain, a-onward, a-shall, a-after}
 use Rattle.standard.proofs.Related.{In, Own, own, sliceOf, eights, pastStart, forNext, backNext, Related, Rule, coding}

@@ -11,12 +11,12 @@ use Rattle.bits.specs.Bounds.{longestStream}
 use Rattle.bits.specs.Bits.{next}
 use Rattle.bits.specs.Programs.{Prog, run, bind, eqZ}
 use Rattle.bits.proofs.Programs.{run-bind}
-use Rattle.picture.specs.declared.state.Sizes.{Sizes}
-use Rattle.picture.specs.declared.state.Matrices.{Matrices}
-use Rattle.picture.specs.declared.state.Stores.{Stores}
-use Rattle.picture.specs.declared.state.Picture.{Picture}
-use Rattle.picture.specs.State.{storesAs, freshBlock}
-use Rattle.picture.specs.Ways.{Way, on, out, leave, onward, plain, give}
+use Rattle.picture_state.specs.declared.types.Sizes.{Sizes}
+use Rattle.picture_state.specs.declared.types.Matrices.{Matrices}
+use Rattle.picture_state.specs.declared.types.Stores.{Stores}
+use Rattle.picture_state.specs.declared.types.Picture.{Picture}
+use Rattle.picture_state.specs.State.{storesAs, freshBlock}
+use Rattle.picture_state.specs.Ways.{Way, on, out, leave, onward, plain, give}
 use Rattle.picture.specs.Pictures as P
 use Rattle.standard.specs.Standard as S
 use Rattle.standard.proofs.Agreement.{Agree, run-plain, a-same, a-give, a-onward, a-after, left-forbidden}

@@ -24,8 +24,8 @@ use Rattle.prediction.specs.Planes.{After, blockSize, macroblocks, planeStart, 
 use Rattle.prediction.specs.Samples.{sample, laid}
 use Rattle.prediction.specs.Standard.{whole, chrominance, pel, bothWays, InPicture}
 use Rattle.prediction.proofs.Standard as L
-use Rattle.picture.specs.Ways.{Way, on, out, also}
-use Rattle.picture.specs.Predictions as P
+use Rattle.picture_state.specs.Ways.{Way, on, out, also}
+use Rattle.macroblock_head.specs.Predictions as P
 use Rattle.standard.specs.Standard as S
 use Rattle.standard.proofs.Agreement.{WayMeets}
 use Rattle.standard.proofs.Related.{motionOf}

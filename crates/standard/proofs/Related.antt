@@ -11,12 +11,12 @@ use lib.Signed.{ltZ, leZ}
 use Rattle.coefficients.specs.Dequantise.{quantiser, dequantised}
 use Rattle.coefficients.specs.Standard.{dctRecon}
 use Rattle.motion.specs.Displacement.{InRange}
-use Rattle.picture.specs.declared.state.Context.{Context}
-use Rattle.picture.specs.declared.state.Matrices.{Matrices}
-use Rattle.picture.specs.declared.state.Motion.{Motion}
-use Rattle.picture.specs.declared.state.Slice.{Slice}
-use Rattle.picture.specs.State.{World, world, freshBlock}
-use Rattle.picture.specs.Heads.{flag}
+use Rattle.picture_state.specs.declared.types.Context.{Context}
+use Rattle.picture_state.specs.declared.types.Matrices.{Matrices}
+use Rattle.picture_state.specs.declared.types.Motion.{Motion}
+use Rattle.picture_state.specs.declared.types.Slice.{Slice}
+use Rattle.picture_state.specs.State.{World, world, freshBlock}
+use Rattle.picture_state.specs.Flags.{flag}
 use Rattle.standard.specs.Standard as S
 use Rattle.standard.specs.Standard.{Direction, Vector, Coding, Pasts, pasts, Variables, far}
 use Rattle.standard.specs.Rules as R

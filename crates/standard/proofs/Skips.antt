@@ -10,11 +10,11 @@ use lib.IntN.{ℤ, pos, natAbs, _+ℤ_}
 use lib.Signed.{ltZ, leZ}
 use Rattle.laws.proofs.Tests.{both}
 use Rattle.laws.proofs.Ints.{v, lit, _⊕_, _⊖_, le-yes, lt-yes, yes-lt}
-use Rattle.picture.specs.State.{World, world, freshBlock}
-use Rattle.picture.specs.Ways.{Way, on, out, also}
-use Rattle.picture.specs.Predictions as P
-use Rattle.picture.specs.Macroblocks as M
-use Rattle.picture.specs.Heads.{flag}
+use Rattle.picture_state.specs.State.{World, world, freshBlock}
+use Rattle.picture_state.specs.Ways.{Way, on, out, also}
+use Rattle.macroblock_head.specs.Predictions as P
+use Rattle.macroblock.specs.Macroblocks as M
+use Rattle.picture_state.specs.Flags.{flag}
 use Rattle.standard.specs.Standard as S
 use Rattle.standard.proofs.Agreement.{WayMeets}
 use Rattle.standard.proofs.Related.{In, motionOf, Own, own, sliceOf, eights, pastStart, forNext, backNext, Related}

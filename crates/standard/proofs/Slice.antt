@@ -14,13 +14,13 @@ use Rattle.bits.specs.Bounds.{longestStream}
 use Rattle.bits.specs.Bits.{has, got}
 use Rattle.bits.specs.Programs.{Prog, Out, done, run, bind, bits, nonZero, many}
 use Rattle.bits.proofs.Programs.{run-bind}
-use Rattle.picture.specs.declared.state.Context.{Context}
-use Rattle.picture.specs.declared.state.Matrices.{Matrices}
-use Rattle.picture.specs.declared.state.Slice.{Slice}
-use Rattle.picture.specs.State.{World, inSlice, freshBlock}
-use Rattle.picture.specs.Ways.{Way, on, out}
-use Rattle.picture.specs.Macroblocks as M
-use Rattle.picture.specs.Slices as O
+use Rattle.picture_state.specs.declared.types.Context.{Context}
+use Rattle.picture_state.specs.declared.types.Matrices.{Matrices}
+use Rattle.picture_state.specs.declared.types.Slice.{Slice}
+use Rattle.picture_state.specs.State.{World, inSlice, freshBlock}
+use Rattle.picture_state.specs.Ways.{Way, on, out}
+use Rattle.macroblock.specs.Macroblocks as M
+use Rattle.slice.specs.Slices as O
 use Rattle.standard.specs.Standard as S
 use Rattle.standard.proofs.Agreement.{Meets, TurnMeets, Agree, run-plain, a-by, a-loop}
 use Rattle.standard.proofs.Related.{motionOf, own, Related, Rule, coding}

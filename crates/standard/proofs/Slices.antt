@@ -14,13 +14,13 @@ use Rattle.bits.specs.Bounds.{longestStream}
 use Rattle.bits.specs.Bits.{has, found}
 use Rattle.bits.specs.Programs.{Out, done, run, bind, many, eqZ}
 use Rattle.bits.proofs.Programs.{run-bind}
-use Rattle.picture.specs.declared.state.Context.{Context}
-use Rattle.picture.specs.declared.state.Matrices.{Matrices}
-use Rattle.picture.specs.declared.state.Stores.{Stores}
-use Rattle.picture.specs.declared.state.Picture.{Picture}
-use Rattle.picture.specs.State.{World, world, startCodeAs, sliceAs, freshBlock}
-use Rattle.picture.specs.Ways.{Way, on, out, leave}
-use Rattle.picture.specs.Slices as O
+use Rattle.picture_state.specs.declared.types.Context.{Context}
+use Rattle.picture_state.specs.declared.types.Matrices.{Matrices}
+use Rattle.picture_state.specs.declared.types.Stores.{Stores}
+use Rattle.picture_state.specs.declared.types.Picture.{Picture}
+use Rattle.picture_state.specs.State.{World, world, startCodeAs, sliceAs, freshBlock}
+use Rattle.picture_state.specs.Ways.{Way, on, out, leave}
+use Rattle.slice.specs.Slices as O
 use Rattle.picture.specs.Pictures as P
 use Rattle.standard.specs.Standard as S
 use Rattle.standard.proofs.Agreement.{Meets, TurnMeets, Agree, a-loop}

@@ -23,10 +23,10 @@ use Rattle.prediction.specs.declared.planes.Plane.the-variants.{Y, Cr, Cb}
 use Rattle.prediction.specs.Predict.{macroblockAt, blockOf, bytes, address, width}
 use Rattle.prediction.specs.Planes.{blockSize, macroblocks, planeOf, planeLength, planeStart}
 use Rattle.prediction.specs.Writers.{overwrite, addBlock, blockPlace, blockWidth}
-use Rattle.picture.specs.declared.state.Stores.{Stores}
-use Rattle.picture.specs.declared.state.Sizes.{Sizes}
-use Rattle.picture.specs.declared.state.Matrices.{Matrices}
-use Rattle.picture.specs.Ways.{Way, on, out, also, leave, onward, forBelow}
+use Rattle.picture_state.specs.declared.types.Stores.{Stores}
+use Rattle.picture_state.specs.declared.types.Sizes.{Sizes}
+use Rattle.picture_state.specs.declared.types.Matrices.{Matrices}
+use Rattle.picture_state.specs.Ways.{Way, on, out, also, leave, onward, forBelow}
 use Rattle.standard.specs.Standard as S
 use Rattle.standard.proofs.Agreement.{WayIs}
 

@@ -7,7 +7,7 @@ use borrow.Author.Tests.{eqb-true}
 use lib.Dec.{eqb}
 use Rattle.laws.proofs.Tests.{both}
 use Rattle.codes.specs.Standard.{Code, macroblockTypeIntraCodes, macroblockTypePredictiveCodes, macroblockTypeBCodes}
-use Rattle.picture.specs.Heads.{flag}
+use Rattle.picture_state.specs.Flags.{flag}
 use Rattle.standard.specs.Standard as S
 
 -- a test that every row passes

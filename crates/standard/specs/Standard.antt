@@ -9,8 +9,9 @@ unfoldable pub use State.*
 unfoldable pub use Prediction.*
 unfoldable pub use Block.*
 use Rattle.codes.specs.Codes.{macroblockAddressIncrement, codeBlockPattern}
-use Rattle.picture.specs.{declared.state.Stores.Stores, declared.state.Sizes.Sizes}
-use Rattle.picture.specs.{Heads.macroblockType, Slices.extra}
+use Rattle.picture_state.specs.{declared.types.Stores.Stores, declared.types.Sizes.Sizes}
+use Rattle.macroblock_head.specs.Heads.{macroblockType}
+use Rattle.slice.specs.Slices.{extra}
 
 -- 2.4.2.7: macroblock_stuffing, macroblock_escape (each adds 33), macroblock_address_increment (Table B.1)
 unfoldable pub increment : Prog (Way ℕ)

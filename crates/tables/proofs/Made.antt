@@ -23,8 +23,7 @@ use Rattle.codes.specs.Matrices.{zigZag, downFrom, diagonals, intraQuantMatrix,
 use Rattle.codes.specs.Tables.{macroblockAddressIncrementIndex, macroblockAddressIncrementValue, macroblockTypeIntraIndex, macroblockTypeIntraValue}
 use Rattle.codes.specs.Tables.{macroblockTypePredictiveIndex, macroblockTypePredictiveValue, macroblockTypeBIndex, macroblockTypeBValue}
 use Rattle.codes.specs.Tables.{codeBlockPatternIndex, codeBlockPatternValue, motionIndex, motionValue}
-use Rattle.codes.specs.Tables.{dctSizeLuminanceIndex, dctSizeLuminanceValue, dctSizeChrominanceIndex, dctSizeChrominanceValue, dctCoeffIndex}
-use Rattle.codes.specs.Tables.{dctCoeffValue}
+use Rattle.codes.specs.Tables.{dctSizeLuminanceIndex, dctSizeLuminanceValue, dctSizeChrominanceIndex, dctSizeChrominanceValue, dctCoeffIndex, dctCoeffValue}
 use Rattle.codes.proofs.Entries.{natural, above}
 use Rattle.codes.proofs.Joined.{all-at, Short}
 use Rattle.codes.specs.Lent.{intraMatrixAt, otherMatrixAt, tablesLength}

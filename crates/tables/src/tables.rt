@@ -41,8 +41,7 @@ ghost use lib.Dec.{T};
 ghost use lib.IntN.{natAbs};
 ghost use lib.ListN.{length, drop};
 ghost use lib.Seq.{paste};
-ghost use Rattle.codes.specs.Lent.{joined, all, near, isByte, short, macroblockCodes, blockCodes, tablesWith, intraMatrixAt, otherMatrixAt};
-ghost use Rattle.codes.specs.Lent.{tablesLength};
+ghost use Rattle.codes.specs.Lent.{joined, all, near, isByte, short, macroblockCodes, blockCodes, tablesWith, intraMatrixAt, otherMatrixAt, tablesLength};
 
 fn put(tables: &mut [u16], at: usize, table: &[i32])
     requires { ⌜ at + length (now table) ≤ length (now tables) ⌝ }

@@ -3,7 +3,7 @@ use Rattle.codes.specs.Matrices.{zigZag}
 use Rattle.coefficients.specs.declared.block.BlockEnd.the-variants.{Whole, Dropped, Outside}
 use Rattle.coefficients.specs.{Dcs.dcSize, Standard.dctZZ0, Syntax.Pair, Syntax.Ended, Syntax.pairs}
 use Rattle.prediction.specs.{Planes.planeOf, Planes.planeLength, Writers.overwrite, Writers.addBlock, Writers.blockWidth, Writers.blockPlace}
-use Rattle.picture.specs.Blocks.{matrixFor}
+use Rattle.blocks.specs.Blocks.{matrixFor}
 use Rattle.standard.specs.Standard.Words.{Bool, true, false, _&&_, _||_, List, [], _∷_, ℕ, _+_, _-_, _^_, eqb, ltb, ℤ, pos, negℤ, _+ℤ_}
 use Rattle.standard.specs.Standard.Words.{_-ℤ_, _*ℤ_, getD, set, replicate, ltZ, leZ, midOf, putMid, Prog, bits, if_then_else_, macroblockAt, planeStart}
 use Rattle.standard.specs.Standard.Words.{Way, on, plain, step, give, forBelow, _>>=_, _>>_, flag, forbidden, shall}

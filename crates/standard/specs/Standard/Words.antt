@@ -7,8 +7,8 @@ pub use lib.{Dec.eqb, Dec.ltb, Dec.leb, ListN.getD, ListN.set, ListN.replicate, 
 pub use Rattle.laws.specs.Turns.{Turn, again, stop}
 pub use Rattle.bits.specs.Programs.{Prog, done, look, skip, bind, bits, nextStartCode, loop, many, eqZ, if_then_else_}
 pub use Rattle.prediction.specs.{Predict.macroblockAt, Planes.planeStart}
-pub use Rattle.picture.specs.Ways.{Way, on, out, also, plain, step, give, forBelow, _>>=_, _>>_}
-pub use Rattle.picture.specs.{declared.state.Context.Context, declared.state.Matrices.Matrices, Heads.flag}
+pub use Rattle.picture_state.specs.Ways.{Way, on, out, also, plain, step, give, forBelow, _>>=_, _>>_}
+pub use Rattle.picture_state.specs.{declared.types.Context.Context, declared.types.Matrices.Matrices, Flags.flag}
 
 -- the stream breaks a rule that a decoder relies on: nothing more is said of it
 abbrev pub forbidden : {A : Type 0} → Way A

@@ -5,7 +5,7 @@ use Prim.Native.Nat.{_-_, _^_}
 use borrow.Author.Needs.{needs}
 use borrow.Author.Tests.{not-true, not-false}
 use lib.Pow.{pow-pos}
-use Rattle.picture.specs.Heads.{flag}
+use Rattle.picture_state.specs.Flags.{flag}
 use Rattle.blocks.proofs.BlockLoop.{bit-no, bit-yes}
 use Rattle.blocks.proofs.blocks.block_of_pattern.Statement.{statement}
 use Rattle.blocks.proofs.blocks.block_of_pattern.Tie as tie

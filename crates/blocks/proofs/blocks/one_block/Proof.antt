@@ -12,8 +12,8 @@ use mir.Val.{toZ, ofZ}
 use Rattle.coefficients.specs.Dcs.{dcInside}
 use Rattle.coefficients.specs.Blocks.{readOf}
 use Rattle.coefficients.proofs.Kept.{Kept}
-use Rattle.picture.specs.Blocks.{predictorOf, quantiserOf}
-use Rattle.picture.proofs.Signed.{inside-read, address-read}
+use Rattle.blocks.specs.Blocks.{predictorOf, quantiserOf}
+use Rattle.picture_state.proofs.Signed.{inside-read, address-read}
 use Rattle.blocks.proofs.BlockEnds.{kept, block-out, block-on}
 use Rattle.blocks.proofs.blocks.one_block.Statement.{statement}
 use Rattle.blocks.proofs.blocks.one_block.Tie as tie

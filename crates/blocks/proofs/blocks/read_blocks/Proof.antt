@@ -1,7 +1,7 @@
 -- `blocks::read_blocks` meets its contract: `AtBlock` holds at each turn.
 use Prim.Native.Nat.{_-_}
 use native.Mathlib.Omega.{arith}
-use Rattle.picture.specs.State.{world}
+use Rattle.picture_state.specs.State.{world}
 use Rattle.blocks.proofs.BlockLoop.{AtBlock, at-first, at-next, at-stop, at-end}
 use Rattle.blocks.proofs.blocks.read_blocks.Statement.{statement}
 use Rattle.blocks.proofs.blocks.read_blocks.Tie as tie

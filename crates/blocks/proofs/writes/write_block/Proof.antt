@@ -4,7 +4,7 @@ use mir.Facts.{toZ-ofZ}
 use borrow.Author.Needs.{needs}
 use lib.IntN.{natAbs}
 use Rattle.coefficients.specs.Blocks.{filled, leftOver}
-use Rattle.picture.specs.Views.{storeAfter}
+use Rattle.blocks.specs.Contracts.{storeAfter}
 use Rattle.blocks.proofs.BlockEnds.{not-whole}
 use Rattle.blocks.proofs.writes.write_block.Statement.{statement}
 use Rattle.blocks.proofs.writes.write_block.Tie as tie

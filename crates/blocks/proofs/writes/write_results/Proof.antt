@@ -9,7 +9,8 @@ use lib.IntN.{ℤ, natAbs}
 use Rattle.coefficients.specs.Blocks.{filled}
 use Rattle.prediction.specs.Planes.{planeOf, planeLength, planeStart}
 use Rattle.prediction.specs.Predict.{macroblockAt}
-use Rattle.blocks.proofs.Stores.{size-most, plane-most, block-in-part, in-store}
+use Rattle.picture_state.proofs.Ready.{size-most}
+use Rattle.blocks.proofs.Stores.{plane-most, block-in-part, in-store}
 use Rattle.blocks.proofs.writes.write_results.Statement.{statement}
 use Rattle.blocks.proofs.writes.write_results.Tie as tie
 

@@ -2,7 +2,7 @@
 use denote.Ref.{now}
 use mathlib.Core.Path.{_∙_}
 use borrow.Author.Needs.{needs}
-use Rattle.picture.specs.Views.{matrices}
+use Rattle.picture_state.specs.Contracts.{matrices}
 use Rattle.playback.specs.Turns.{turnState}
 use Rattle.bits.proofs.Rules.{from-reader}
 use Rattle.playback.proofs.Showing.{turn-of}

@@ -4,8 +4,8 @@ use mathlib.Core.Path.{refl, sym, _∙_}
 use lib.IntN.{pos}
 use borrow.Author.Tests.{not-true, not-false}
 use borrow.Author.Needs.{needs}
-use Rattle.picture.specs.declared.state.Matrices.{Matrices}
-use Rattle.picture.specs.Views.{matrices}
+use Rattle.picture_state.specs.declared.types.Matrices.{Matrices}
+use Rattle.picture_state.specs.Contracts.{matrices}
 use Rattle.playback.specs.Turns.{TurnState, turnState}
 use Rattle.playback.specs.Fit.{FitState}
 use Rattle.playback.proofs.Fits.{next-fits}

@@ -2,8 +2,8 @@
 use denote.Ref.{now}
 use native.Mathlib.Omega.{arith}
 use borrow.Author.Needs.{needs}
-use Rattle.picture.specs.declared.state.Matrices.{Matrices}
-use Rattle.picture.specs.Views.{matrices}
+use Rattle.picture_state.specs.declared.types.Matrices.{Matrices}
+use Rattle.picture_state.specs.Contracts.{matrices}
 use Rattle.playback.specs.Turns.{TurnState, turnState}
 use Rattle.playback.proofs.Fits.{turn-fits}
 use Rattle.playback.proofs.Turning.{turn-again, pictures-first, pictures-second}

@@ -2,8 +2,7 @@ use mathlib.Core.List.{List}
 use mir.Syntax.{w32}
 use Rattle.laws.proofs.Exprs.{var, cst, _⊹_, _∸_, _×̇_, neg, Input, need, value}
 use Rattle.transform.specs.Bounds.{inputSize}
-use Rattle.transform.proofs.Steps.{more, b3, b4, tmp1, tmp2, b6, b7, x4, x0, x1, x2, x3, y3, y4, y5, y6, y7}
-use Rattle.transform.proofs.Steps.{out, inputs, step-is}
+use Rattle.transform.proofs.Steps.{more, b3, b4, tmp1, tmp2, b6, b7, x4, x0, x1, x2, x3, y3, y4, y5, y6, y7, out, inputs, step-is}
 use Rattle.transform.proofs.butterfly.butterfly.Statement.{statement}
 use Rattle.transform.proofs.butterfly.butterfly.Tie as tie
 

@@ -1,0 +1,82 @@
+-- RULES 7.16, 6.12, 6.13: the blocks of a macroblock, read and written.
+use mathlib.Core.Bool.{Bool}
+use mathlib.Core.List.{List}
+use Prim.Native.Nat.{ℕ, _-_, _^_}
+use borrow.Rule.Slice.PartMut.{midOf, putMid}
+use lib.Dec.{ltb}
+use lib.IntN.{ℤ, pos, natAbs}
+use lib.ListN.{getD, set}
+use Rattle.laws.specs.Signed.{clamp255}
+use Rattle.bits.specs.Programs.{Prog, if_then_else_}
+use Rattle.coefficients.specs.declared.quantiser.Quantiser.{Quantiser}
+use Rattle.coefficients.specs.Dequantise.{quantiser}
+use Rattle.coefficients.specs.Blocks.{Filled, Read, block, leftOver, firstOnly}
+use Rattle.coefficients.specs.declared.block.BlockEnd.the-variants.{Whole, Dropped, Outside}
+use Rattle.transform.specs.Idct.{idct, dcOnly}
+use Rattle.prediction.specs.Predict.{macroblockAt}
+use Rattle.prediction.specs.Planes.{planeOf, planeLength, planeStart}
+use Rattle.prediction.specs.Writers.{setConst, overwrite, addConst, addBlock, blockWidth, blockPlace}
+use Rattle.picture_state.specs.declared.types.Context.{Context}
+use Rattle.picture_state.specs.declared.types.Matrices.{Matrices}
+use Rattle.picture_state.specs.declared.types.Slice.{Slice}
+use Rattle.picture_state.specs.State.{World, world, predictorsAs}
+use Rattle.picture_state.specs.Ways.{Way, on, out, leave, onward, plain, step, give, forBelow, _>>=_, _>>_}
+use Rattle.picture_state.specs.Flags.{flag}
+
+-- RULES 3.1: the place of a block's DC predictor: 0 for Y, 1 for Cb, 2 for Cr
+abbrev pub predictorOf : ℕ → ℕ
+predictorOf number = number - 3
+
+-- RULES 4.3, 6.13: the results in a plane: with the first coefficient alone one number everywhere, else the transform; intra replaces, non-intra adds
+unfoldable pub results : Quantiser → Filled → ℕ → ℕ → List ℕ → List ℕ
+results q f di dw d =
+    let first = dcOnly (getD (f .coefficients) 0 (pos 0)) in
+    if firstOnly q f then (if q .intra then setConst d di dw (clamp255 first) else addConst d di dw first)
+    else if q .intra then overwrite d di dw (idct (f .coefficients)) else addBlock d di dw (idct (f .coefficients))
+
+-- RULES 6.12, 6.13: the store with the results of a block that was read whole
+unfoldable pub written : Context → Quantiser → ℕ → ℕ → Filled → List ℕ → List ℕ
+written g q number address f l =
+    let m = macroblockAt (g .sizes .«mb_width») (g .sizes .«mb_height») address in
+    let p = planeOf number in
+    let start = planeStart (g .stores .cur) p (g .sizes .«mb_size») in
+    let size = planeLength p (g .sizes .«mb_size») in
+    putMid start size l (results q f (blockPlace m number) (blockWidth m number) (midOf start size l))
+
+-- RULES 3.3: the predictor behind the block with this number
+abbrev pub predictorAs : ℕ → ℤ → Slice → Slice
+predictorAs number p s = predictorsAs (set (s .«dc_predictor») (predictorOf number) p) s
+
+-- RULES Q8, 3.3, 3.9, 3.12: predictor, left-over coefficients and store behind a block. A DC value outside ends the call with 8; a dropped block
+-- writes nothing
+unfoldable pub blockEnd : Context → Quantiser → ℕ → World → Read → Way World
+blockEnd g q number w r = elim (r .end) [
+  | Whole ↦ on (world (predictorAs number (r .predictor) (w .slice)) (leftOver q r)
+      (written g q number (natAbs (w .slice .«macroblock_address»)) (r .filled) (w .store)))
+  | Dropped ↦ on (world (predictorAs number (r .predictor) (w .slice)) (leftOver q r) (w .store))
+  | Outside ↦ out 8 (w .store)
+]
+
+-- RULES 3.8: the matrix of blocks that are intra or not
+abbrev pub matrixFor : Matrices → Bool → List ℕ
+matrixFor m intra = if intra then m .«intra_quant_matrix» else m .«non_intra_quant_matrix»
+
+-- RULES 3.8: what makes coefficients of the levels of such blocks
+abbrev pub quantiserOf : Context → Bool → Slice → Quantiser
+quantiserOf g intra s = quantiser intra (s .«quantizer_scale»)
+
+-- the block with this number
+unfoldable pub oneBlock : Context → Matrices → Bool → ℕ → World → Prog (Way World)
+oneBlock g m intra number w = do
+  let q = quantiserOf g intra (w .slice)
+  let predictor = getD (w .slice .«dc_predictor») (predictorOf number) (pos 0)
+  r ← plain (block q (matrixFor m intra) (ltb number 4) predictor (w .«block_data»))
+  step (blockEnd g q number w r)
+
+-- RULES 7.16: the block with this number, if the pattern has its bit: that of block 0 weighs 32, that of block 5 weighs 1
+abbrev pub patternBlock : Context → Matrices → Bool → ℕ → ℕ → World → Prog (Way World)
+patternBlock g m intra pattern number w = if flag pattern (2 ^ (5 - number)) then oneBlock g m intra number w else give w
+
+-- RULES 7.16 (11172-2, 2.4.2.7): the blocks that the pattern names, 0 to 5 in this order
+unfoldable pub blocks : Context → Matrices → Bool → ℕ → World → Prog (Way World)
+blocks g m intra pattern w = forBelow 6 (patternBlock g m intra pattern) w

@@ -1,0 +1,73 @@
+-- The first macroblock of a slice, as the code goes to it. Assumes nothing.
+use mathlib.Core.Path.{_≡_, refl, sym, _∙_}
+use mathlib.Core.Bool.{Bool, true, false, _||_}
+use mathlib.Core.List.{List}
+use Prim.Native.Nat.{ℕ, _≤_}
+use native.Mathlib.Omega.{arith}
+use lib.IntN.{ℤ, pos, _+ℤ_}
+use lib.Signed.{ltZ, leZ}
+use mir.Syntax.{w64}
+use Rattle.laws.proofs.Ints.{up, dn, v, lit, neg, _⊕_, lt-no, le-no, le-yes, cast-by, cast-is}
+use Rattle.bits.specs.declared.reader.Reader.{Reader}
+use Rattle.bits.proofs.Rules.{r-yes, r-no, r-done}
+use Rattle.picture_state.specs.declared.types.Context.{Context}
+use Rattle.picture_state.specs.declared.types.Matrices.{Matrices}
+use Rattle.picture_state.specs.declared.types.Slice.{Slice}
+use Rattle.picture_state.specs.declared.types.Progress.{Progress}
+use Rattle.picture_state.specs.Possible.{PossibleSlice}
+use Rattle.macroblock.specs.Macroblocks.{body, firstOf}
+use Rattle.picture_state.specs.State.{world, addressAs}
+use Rattle.picture_state.specs.Contracts.{Held, Here, Reads, Ready, Went, Passed}
+use Rattle.macroblock.specs.Contracts.{Begun}
+use Rattle.picture_state.proofs.Possible.{between-by}
+use Rattle.picture_state.proofs.Ready.{size-most}
+
+-- neither before the first nor past the last
+here-by : {g : Context} {store : List ℕ} (a : ℤ) → Held g store → (ltZ a (pos 0) || leZ (pos (g .sizes .«mb_size»)) a) ≡ false → Here g a
+here-by {g} a k e = go (ltZ a (pos 0)) refl e
+  where
+    go : (t : Bool) → ltZ a (pos 0) ≡ t → (t || leZ (pos (g .sizes .«mb_size»)) a) ≡ false → Here g a
+    go true p q = absurd (let z : _≡_ {A = ℕ} 0 1 = cc in omega arith)
+    go false p q =
+        let low : dn a ≤ up a = omega (arith, lt-no (v a) (lit 0) p) in
+        let high = le-no (lit (g .sizes .«mb_size»)) (v a) q in
+        record {
+          natural = cast-by {w = w64} (v a) low (omega (arith, high, size-most k)) .0;
+          below = omega (arith, cast-is (v a) low, high, k .size);
+        }
+
+module _ {g : Context} {x y : Slice} {n : ℕ} {left : List ℤ} {store s : List ℕ} {reader : Reader}
+    (k : Begun g s reader x n left store) (is : y ≡ addressAs (x .«macroblock_address» +ℤ pos n) x) where
+  pub further-possible : PossibleSlice y
+  further-possible =
+      let p = k .reads .slice in
+      let a = x .«macroblock_address» in
+      rw is
+      (record {
+        scale = p .scale;
+        address = between-by 1 402700000 (v a ⊕ lit n) (omega (arith, le-yes (neg (lit 1)) (v a) (k .reaches .from)))
+            (omega (arith, le-yes (v a ⊕ lit n) (lit 402700000) (k .reaches .to)));
+        forward = p .forward;
+        backward = p .backward;
+        predictors = p .predictors;
+      })
+
+  further-reads : Reads s reader y left
+  further-reads = record { inside = k .reads .inside; slice = further-possible; block = k .reads .block }
+
+  module _ {t : Bool} (at : t ≡ (ltZ (y .«macroblock_address») (pos 0) || leZ (pos (g .sizes .«mb_size»)) (y .«macroblock_address»))) where
+    pub first-nowhere : (m : Matrices) → t ≡ true
+        → Passed (firstOf g m n (world x left store)) g s reader (record { reader = reader; state = y; stop = 0 }) left store
+    unfolding firstOf
+    first-nowhere m e = let q = rw is at (sym at ∙ e) in record { runs = rw is (r-yes _ q r-done); reads = further-reads; held = k .held }
+
+    pub first-ready : t ≡ false → Ready g s reader y left store
+    first-ready e = record { reads = further-reads; held = k .held; here = here-by (y .«macroblock_address») (k .held) (sym at ∙ e) }
+
+    pub first-body : (m : Matrices) → t ≡ false → {r : Progress} {left₁ : List ℤ} {store₁ : List ℕ}
+        → Went (body g m (world y left store)) g s reader r left₁ store₁
+        → Passed (firstOf g m n (world x left store)) g s reader r left₁ store₁
+    unfolding firstOf
+    first-body m e w =
+        let q = rw is at (sym at ∙ e) in
+        record { runs = r-no _ q (rw is at (w .runs)); reads = w .ready .reads; held = w .ready .held }

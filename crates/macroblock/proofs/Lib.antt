@@ -1,0 +1,5 @@
+pub mod Reached
+pub mod Advancing
+pub mod Bodies
+pub mod Firsts
+pub mod Laters

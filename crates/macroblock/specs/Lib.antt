@@ -1,0 +1,2 @@
+pub mod Macroblocks
+pub mod Contracts

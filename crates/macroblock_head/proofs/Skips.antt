@@ -1,0 +1,42 @@
+-- The loop over skipped macroblocks: its invariant and its turns. Assumes nothing.
+use mathlib.Core.Path.{_≡_, refl, _∙_}
+use mathlib.Core.List.{List}
+use Prim.Native.Nat.{ℕ, suc, _+_, _-_, _≤_, _<_}
+use native.Mathlib.Omega.{arith}
+use lib.ListN.{length}
+use Rattle.prediction.specs.declared.predict.Predicted.{Predicted}
+use Rattle.prediction.specs.declared.predict.Predicted.the-variants.{Done, Refused}
+use Rattle.picture_state.specs.Ways.{also}
+use Rattle.macroblock_head.specs.Predictions.{predict, predictSkipped}
+use Rattle.picture_state.specs.declared.types.Context.{Context}
+use Rattle.picture_state.specs.declared.types.Slice.{Slice}
+use Rattle.macroblock_head.specs.Contracts.{Foretold}
+
+-- before the macroblock k of the n that are skipped from this address on
+pub record AtSkip (g : Context) (x : Slice) (address n : ℕ) (l₀ l : List ℕ) (k : ℕ) : Type 0 where
+  pub few : k ≤ n
+  pub long : length l ≡ length l₀
+  pub rest : predictSkipped g x address n l₀ ≡ predictSkipped g x (address + k) (n - k) l
+
+pub at-skip : {g : Context} {x : Slice} {address n : ℕ} {l : List ℕ} → AtSkip g x address n l l 0
+at-skip {g} {x} {address} {n} {l} =
+    let a : address + 0 ≡ address = omega arith in
+    let m : n - 0 ≡ n = omega arith in
+    record { few = omega arith; long = refl; rest = rw (a, m) }
+
+module _ {g : Context} {x : Slice} {address n : ℕ} {l₀ l : List ℕ} {k : ℕ} (i : AtSkip g x address n l₀ l k) where
+  pub skip-end : n ≤ k → Foretold (predictSkipped g x address n l₀) Done l
+  unfolding predictSkipped
+  skip-end h = let e : n - k ≡ 0 = omega arith in record { is = rw e at (i .rest) }
+
+  module _ (h : k < n) {r : Predicted} {l₁ : List ℕ} (t : Foretold (predict g (address + k) x l) r l₁) where
+    pub skip-refused : r ≡ Refused → Foretold (predictSkipped g x address n l₀) Refused l₁
+    unfolding predictSkipped also
+    skip-refused e = let m : n - k ≡ suc (n - (k + 1)) = omega arith in record { is = rw (m, t .is, e) at (i .rest) }
+
+    pub skip-on : r ≡ Done → length l₁ ≡ length l → AtSkip g x address n l₀ l₁ (k + 1)
+    unfolding predictSkipped also
+    skip-on e q =
+        let m : n - k ≡ suc (n - (k + 1)) = omega arith in
+        let a : address + (k + 1) ≡ address + k + 1 = omega arith in
+        record { few = omega arith; long = q ∙ i .long; rest = rw a (rw (m, t .is, e) at (i .rest)) }

@@ -1,0 +1,30 @@
+-- What the functions of a macroblock's head and prediction ask and say.
+use mathlib.Core.Path.{_≡_}
+use mathlib.Core.Bool.{Bool, true, false}
+use mathlib.Core.List.{List}
+use Prim.Native.Nat.{ℕ}
+use Rattle.laws.specs.Turns.{Turn, again, stop}
+use Rattle.prediction.specs.declared.predict.Predicted.{Predicted}
+use Rattle.prediction.specs.declared.predict.Predicted.the-variants.{Done, Refused}
+use Rattle.picture_state.specs.declared.types.Slice.{Slice}
+use Rattle.picture_state.specs.Possible.{PossibleMotion}
+use Rattle.picture_state.specs.Ways.{Way, on, out}
+
+-- a prediction's answer, RULES Q9
+abbrev pub answered : Predicted → List ℕ → Way (List ℕ)
+answered Done l = on l
+answered Refused l = out 9 l
+
+-- whether to go on, and with which number
+abbrev pub turnOf : Bool → ℕ → Turn ℕ ℕ
+turnOf true n = again n
+turnOf false n = stop n
+
+-- RULES Q2: both vectors of a state
+pub record PossibleMotions (x : Slice) : Type 0 where
+  pub forward : PossibleMotion (x .«motion_forward»)
+  pub backward : PossibleMotion (x .«motion_backward»)
+
+-- a step that reads nothing goes as the answer and the store say
+pub record Foretold (w : Way (List ℕ)) (r : Predicted) (store : List ℕ) : Type 0 where
+  pub is : w ≡ answered r store

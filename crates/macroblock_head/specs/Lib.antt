@@ -1,0 +1,4 @@
+pub mod Increments
+pub mod Predictions
+pub mod Heads
+pub mod Contracts

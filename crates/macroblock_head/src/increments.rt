@@ -1,0 +1,79 @@
+// RULES 7.7: the address increment.
+use bits::reader::Reader;
+use codes::codes::read_macroblock_address_increment;
+use codes::lent::Tables;
+ghost use Prim.Native.Nat.{_≤_};
+ghost use Rattle.bits.specs.Runs.{Inside, Reading};
+ghost use Rattle.codes.specs.Lent.{Lent};
+ghost use Rattle.macroblock_head.specs.Increments.{incrementTurn, increment};
+ghost use Rattle.macroblock_head.specs.Contracts.{turnOf};
+
+pub struct Increment {
+    pub reader: Reader,
+    pub sum: usize,
+}
+
+// `again`: another code follows.
+struct IncrementTurn {
+    pub reader: Reader,
+    pub sum: usize,
+    pub again: bool,
+}
+
+// A code of 34 (stuffing) is dropped where no 35 (escape) came before it; a 35 adds 33 and goes on; any other is added and is the last.
+fn increment_turn(s: &[u8], reader: Reader, tables: &Tables, sum: usize) -> IncrementTurn
+    requires { ⌜ Inside (now s) reader ⌝ }
+    requires { ⌜ Lent (now tables) ⌝ }
+    requires { ⌜ sum ≤ 402653249 ⌝ }
+    ensures { λ r. ⌜ Reading (incrementTurn sum) (now (s .entry)) reader (turnOf (r .again) (r .sum)) (r .reader) ⌝ }
+{
+    let code = read_macroblock_address_increment(s, reader, tables);
+    let after = code.reader;
+    let c = code.value as usize;
+    if c == 35 {
+        let more = sum + 33;
+        return IncrementTurn {
+            reader: after,
+            sum: more,
+            again: true,
+        };
+    }
+    let all = sum + c;
+    if c != 34 {
+        return IncrementTurn {
+            reader: after,
+            sum: all,
+            again: false,
+        };
+    }
+    if sum == 0 {
+        return IncrementTurn {
+            reader: after,
+            sum: 0,
+            again: true,
+        };
+    }
+    IncrementTurn {
+        reader: after,
+        sum: all,
+        again: false,
+    }
+}
+
+// The sum of the codes.
+pub fn read_increment(s: &[u8], reader: Reader, tables: &Tables) -> Increment
+    requires { ⌜ Inside (now s) reader ⌝ }
+    requires { ⌜ Lent (now tables) ⌝ }
+    ensures { λ r. ⌜ Reading increment (now (s .entry)) reader (r .sum) (r .reader) ⌝ }
+{
+    let mut from = reader;
+    let mut sum: usize = 0;
+    loop {
+        let t = increment_turn(s, from, tables, sum);
+        from = t.reader;
+        sum = t.sum;
+        if !t.again {
+            return Increment { reader: from, sum };
+        }
+    }
+}

@@ -1,4 +1,0 @@
-pub mod Advancing
-pub mod Bodies
-pub mod Firsts
-pub mod Laters

@@ -1,0 +1,169 @@
+-- The slices of a picture: a turn, and the loop. Assumes nothing.
+use mathlib.Core.Path.{_≡_, refl, ap, sym, _∙_}
+use mathlib.Core.Bool.{Bool, true, false, not, _&&_}
+use mathlib.Core.List.{List}
+use Prim.Native.Nat.{ℕ, zero, suc, _+_, _≤_, _<_}
+use native.Mathlib.Omega.{arith}
+use borrow.Author.Tests.{eqb-true, eqb-false, eq-eqb, ne-eqb}
+use lib.Dec.{T, eqb}
+use lib.IntN.{ℤ, pos, natAbs, _+ℤ_}
+use lib.ListN.{length}
+use lib.Signed.{nonNeg, ltZ, leZ}
+use mir.Syntax.{w32, w64}
+use mir.Val.{Fits, SFits, toZ, ofZ}
+use mir.Facts.{toZ-ofZ}
+use Rattle.laws.specs.Turns.{again, stop}
+use Rattle.laws.proofs.Ints.{up, dn, v, lit, le-yes, yes-le, no-le, lt-yes, lt-no, fits-by, cast-by, cast-is, same-bits}
+use Rattle.laws.proofs.Tests.{both}
+use Rattle.bits.specs.declared.reader.Reader.{Reader}
+use Rattle.bits.specs.Programs.{many, done, nextStartCode, eqZ, if_then_else_}
+use Rattle.bits.specs.Runs.{Runs, Reading, bitsLeft}
+use Rattle.bits.proofs.Codes.{eqZ-yes, eqZ-no, code-fits}
+use Rattle.bits.proofs.Rules.{Loops, loop-start, loop-on, loop-end, takes-less, r-call, r-yes, r-no, r-done}
+use Rattle.picture_state.specs.declared.types.Picture.{Picture}
+use Rattle.picture_state.specs.Possible.{PossiblePicture}
+use Rattle.picture_state.proofs.Possible.{between-of}
+use Rattle.picture_state.specs.State.{world}
+use Rattle.picture_state.specs.Ways.{on}
+use Rattle.slice.specs.Slices.{slice}
+use Rattle.picture.specs.Pictures as P
+use Rattle.picture.proofs.Fuel.{slices-take}
+use Rattle.picture_state.specs.declared.types.Context.{Context}
+use Rattle.picture_state.specs.declared.types.Matrices.{Matrices}
+use Rattle.picture_state.specs.declared.types.Slice.{Slice}
+use Rattle.picture_state.specs.declared.types.Progress.{Progress}
+use Rattle.picture_state.specs.declared.types.SlicesProgress.{SlicesProgress}
+use Rattle.picture_state.specs.Contracts.{way, Held, Reads, Passed}
+use Rattle.picture.specs.Contracts.{frameOf, slicesOn, Turned, Pictured}
+use Rattle.picture.specs.Behind.{pastOf}
+
+-- ---- a start code
+
+pub code-read : {c : ℤ} → natAbs c ≤ 255 → toZ w32 (ofZ w32 c) ≡ c
+code-read {c} h = toZ-ofZ (code-fits c h)
+
+pub start-read : {p : Picture} → PossiblePicture p → toZ w32 (ofZ w32 (p .«start_code»)) ≡ p .«start_code»
+start-read {p} k =
+    let c = p .«start_code» in
+    let b = between-of 1 255 (v c) (k .code) in
+    toZ-ofZ (fits-by {w = w32} (v c) (omega arith) (omega arith))
+
+-- a comparison, as the code makes it
+pub is-code : (c : ℤ) (k : ℕ) → SFits w32 c → k ≤ 255 → ofZ w32 (pos k) ≡ k → eqb (ofZ w32 c) k ≡ eqZ c (pos k)
+is-code c k f h e = go (eqb (ofZ w32 c) k) refl
+  where
+    go : (t : Bool) → eqb (ofZ w32 c) k ≡ t → t ≡ eqZ c (pos k)
+    go true q = sym (eqZ-yes c (pos k) (same-bits w32 f (code-fits (pos k) h) (eqb-true (ofZ w32 c) k q ∙ sym e)))
+    go false q = sym (eqZ-no c (pos k) (λ i. eqb-false (ofZ w32 c) k q (ap (ofZ w32) i ∙ e)))
+
+pub below-first : (c : ℤ) → ltZ c (pos 1) ≡ true → P.isSlice c ≡ false
+below-first c e = let l : leZ (pos 1) c ≡ false = no-le (lit 1) (v c) (omega (arith, lt-yes (v c) (lit 1) e)) in rw l
+
+pub from-first : (c : ℤ) → ltZ c (pos 1) ≡ false → leZ c (pos 175) ≡ P.isSlice c
+from-first c e = let l : leZ (pos 1) c ≡ true = yes-le (lit 1) (v c) (omega (arith, lt-no (v c) (lit 1) e)) in rw l
+
+module _ (c : ℤ) (e : P.isSlice c ≡ true) where
+  sides : (dn c + 1 ≤ up c) × (up c ≤ dn c + 175)
+  sides = let b = both (leZ (pos 1) c) (leZ c (pos 175)) e in (omega (arith, le-yes (lit 1) (v c) (b .0)), omega (arith, le-yes (v c) (lit 175) (b .1)))
+
+  pub slice-cast : T (nonNeg c) × Fits w64 (natAbs c)
+  slice-cast = cast-by {w = w64} (v c) (omega (arith, sides)) (omega (arith, sides))
+
+  pub slice-number : (1 ≤ natAbs c) × (natAbs c ≤ 175)
+  slice-number = let i = cast-is (v c) (omega (arith, sides)) in (omega (arith, sides), omega (arith, sides))
+
+-- ---- behind a slice
+
+abbrev ended : ℤ → Progress → Bool → SlicesProgress
+ended code w t = record { reader = w .reader; code = code; state = w .state; begun = true; again = t; stop = w .stop }
+
+module _ (g : Context) (w : Progress) {c code : ℤ} (e : c ≡ code) where
+  abbrev last : Bool
+  last = leZ (pos (g .sizes .«mb_size»)) (w .state .«macroblock_address» +ℤ pos 1)
+
+  pub past-stop : (w .stop ≡ 0 → ⊥) → ended c w false ≡ pastOf g code w
+  past-stop h = rw e (ap (λ (t : Bool). ended code w (t && not last)) (sym (ne-eqb (w .stop) 0 h)))
+
+  pub past-on : w .stop ≡ 0 → {t : Bool} → t ≡ last → ended c w (not t) ≡ pastOf g code w
+  past-on h q =
+      rw e (ap (λ (t : Bool). ended code w (not t)) q ∙ ap (λ (t : Bool). ended code w (t && not last)) (sym (eq-eqb (w .stop) 0 h)))
+
+-- ---- a turn
+
+module _ {g : Context} {s : List ℕ} {reader : Reader} {x : Slice} {left : List ℤ} {store : List ℕ} (k : Reads s reader x left)
+    (held : Held g store) (m : Matrices) (begun : Bool) {code : ℤ} {after : Reader} (found : Reading nextStartCode s reader code after)
+    (few : natAbs code ≤ 255) where
+  -- a slice that ended with the number n, and behind which the picture ends or not
+  behind : (y : Slice) (left₁ : List ℤ) (store₁ : List ℕ) (to : Reader) (n : ℕ) (last : Bool)
+      → leZ (pos (g .sizes .«mb_size»)) (y .«macroblock_address» +ℤ pos 1) ≡ last
+      → Runs (P.pastSlice g (frameOf g code x left store .picture) (way n (world y left₁ store₁) store₁)) s to
+      (slicesOn (eqb n 0 && not last) true n (frameOf g code y left₁ store₁)) to
+  unfolding P.pastSlice
+  behind y left₁ store₁ to zero true q = r-yes _ q r-done
+  behind y left₁ store₁ to zero false q = r-no _ q r-done
+  behind y left₁ store₁ to (suc n) last q = let z : eqb (suc n) 0 ≡ false = ne-eqb (suc n) 0 (λ e. omega (arith, e)) in rw z r-done
+
+  pub turned-slice : P.isSlice code ≡ true → (w : Progress) {left₁ : List ℤ} {store₁ : List ℕ}
+      → Passed (slice g m (natAbs code) (world x left store)) g s after w left₁ store₁
+      → Turned g m s reader begun x left store (pastOf g code w) left₁ store₁
+  unfolding P.slicesTurn
+  turned-slice e w {left₁} {store₁} p = record {
+    runs = λ before. r-call _ (found .runs) (r-yes _ e (r-call _ (p .runs) (behind (w .state) left₁ store₁ (w .reader) (w .stop) _ refl)));
+    reads = p .reads;
+    held = p .held;
+    few = few;
+  }
+
+  pub turned-other : P.isSlice code ≡ false → (t : Bool) → t ≡ (P.isExtra code && not begun)
+      → Turned g m s reader begun x left store
+      (record { reader = after; code = code; state = x; begun = false; again = t; stop = 0 }) left store
+  unfolding P.slicesTurn
+  turned-other e t q = record {
+    runs = λ before. r-call _ (found .runs) (r-no _ e (picked before t (sym q)));
+    reads = record { inside = found .inside; slice = k .slice; block = k .block };
+    held = held;
+    few = few;
+  }
+    where
+      picked : (before : ℤ) (t : Bool) → (P.isExtra code && not begun) ≡ t
+          → Runs (if P.isExtra code && not begun then done (again (P.slicesOf false (frameOf g code x left store)))
+          else done (stop (on (frameOf g code x left store)))) s after
+          (slicesOn t false 0 (frameOf g code x left store)) after
+      picked before true q = r-yes _ q r-done
+      picked before false q = r-no _ q r-done
+
+-- ---- the loop
+
+-- before a start code, at `from`; the code that came before does not matter
+pub record AtSlices (g : Context) (m : Matrices) (s : List ℕ) (from₀ : Reader) (f₀ : P.Frame) (begun : Bool) (from : Reader)
+    (x : Slice) (left : List ℤ) (store : List ℕ) : Type 0 where
+  pub code : ℤ
+  pub reads : Reads s from x left
+  pub held : Held g store
+  pub long : length store ≡ length (f₀ .store)
+  pub rest : Loops many (P.slicesTurn g m) (on f₀) (P.slicesOf false f₀) s from₀
+      (P.slicesOf begun (frameOf g code x left store)) from (bitsLeft s from)
+
+pub at-slices : {g : Context} {m : Matrices} {s : List ℕ} {from : Reader} {x : Slice} {left : List ℤ} {store : List ℕ} (code : ℤ)
+    → Reads s from x left → Held g store → AtSlices g m s from (frameOf g code x left store) false from x left store
+at-slices code k h = record { code = code; reads = k; held = h; long = refl; rest = loop-start (omega (arith, k .inside .stream)) }
+
+module _ {g : Context} {m : Matrices} {s : List ℕ} {from₀ : Reader} {f₀ : P.Frame} {begun : Bool} {from : Reader} {x : Slice}
+    {left : List ℤ} {store : List ℕ} (i : AtSlices g m s from₀ f₀ begun from x left store)
+    {r : SlicesProgress} {left₁ : List ℤ} {store₁ : List ℕ} (t : Turned g m s from begun x left store r left₁ store₁) where
+  pub slices-end : r .again ≡ false → Pictured (P.slices g m f₀) g s from₀ r left₁ store₁
+  unfolding P.slices
+  slices-end e = record { runs = loop-end (i .rest) (rw e at (t .runs (i .code))); reads = t .reads; held = t .held; few = t .few }
+
+  pub slices-less : r .again ≡ true → bitsLeft s (r .reader) < bitsLeft s from
+  slices-less e = takes-less (P.slicesTurn g m) (slices-take g m s) (rw e at (t .runs (i .code)))
+
+  pub slices-on : r .again ≡ true → length store₁ ≡ length store
+      → AtSlices g m s from₀ f₀ (r .begun) (r .reader) (r .state) left₁ store₁
+  slices-on e l = record {
+    code = r .code;
+    reads = t .reads;
+    held = t .held;
+    long = l ∙ i .long;
+    rest = loop-on (i .rest) (rw e at (t .runs (i .code))) (slices-less e);
+  }

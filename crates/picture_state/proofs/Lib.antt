@@ -1,0 +1,6 @@
+pub mod Possible
+pub mod Kept
+pub mod Signed
+pub mod Exits
+pub mod Ways
+pub mod Ready

@@ -1,0 +1,82 @@
+-- What the functions of a picture ask and say, from a macroblock to a slice.
+use mathlib.Core.Path.{_≡_}
+use mathlib.Core.Bool.{true, false}
+use mathlib.Core.List.{List}
+use Prim.Native.Nat.{ℕ, zero, suc, _*_, _≤_, _<_}
+use lib.Dec.{T}
+use lib.IntN.{ℤ, natAbs}
+use lib.ListN.{length}
+use lib.Signed.{nonNeg}
+use Rattle.laws.specs.Turns.{stop}
+use Rattle.bits.specs.declared.reader.Reader.{Reader}
+use Rattle.bits.specs.Programs.{Prog}
+use Rattle.bits.specs.Runs.{Runs, Inside}
+use Rattle.codes.specs.Lent.{matrixOf}
+use Rattle.codes.specs.Matrices.{Bounded}
+use Rattle.coefficients.specs.Blocks.{block}
+use Rattle.prediction.specs.Planes.{storesBytes}
+use Rattle.picture_state.specs.declared.types.Context.{Context}
+use Rattle.picture_state.specs.declared.types.Matrices.{Matrices}
+use Rattle.picture_state.specs.declared.types.Progress.{Progress}
+use Rattle.picture_state.specs.declared.types.Slice.{Slice}
+use Rattle.picture_state.specs.declared.types.Stores.{Stores}
+use Rattle.picture_state.specs.State.{World, world}
+use Rattle.picture_state.specs.Possible.{PossibleSlice}
+use Rattle.picture_state.specs.Ways.{Way, on, out}
+
+-- the two matrices, lent one by one
+abbrev pub matrices : List ℕ → List ℕ → Matrices
+matrices intra other = record { «intra_quant_matrix» = intra; «non_intra_quant_matrix» = other }
+
+-- those among the tables t
+abbrev pub matricesIn : List ℕ → Matrices
+matricesIn t = matrices (matrixOf t true) (matrixOf t false)
+
+-- 0 goes on, and any other number leaves with the store
+abbrev pub way : {A : Type 0} → ℕ → A → List ℕ → Way A
+way zero x l = on x
+way (suc n) x l = out (suc n) l
+
+-- the numbers of the stores. None is predicted from itself; RULES 7.2 lets fwd and bwd be the same while an I or P picture is read
+pub record Three (t : Stores) : Type 0 where
+  pub cur : t .cur ≤ 2
+  pub fwd : t .fwd ≤ 2
+  pub bwd : t .bwd ≤ 2
+  pub cur-fwd : t .cur ≡ t .fwd → ⊥
+  pub cur-bwd : t .cur ≡ t .bwd → ⊥
+
+-- sizes and stores, and memory for the three
+pub record Held (g : Context) (store : List ℕ) : Type 0 where
+  pub across : g .sizes .«mb_width» ≤ 256
+  pub down : g .sizes .«mb_height» ≤ 256
+  pub size : g .sizes .«mb_size» ≡ g .sizes .«mb_width» * g .sizes .«mb_height»
+  pub stores : Three (g .stores)
+  pub whole : storesBytes (g .sizes .«mb_size») ≤ length store
+
+-- the address is that of a macroblock
+pub record Here (g : Context) (address : ℤ) : Type 0 where
+  pub natural : T (nonNeg address)
+  pub below : natAbs address < g .sizes .«mb_width» * g .sizes .«mb_height»
+
+-- what reads a part of a macroblock
+pub record Reads (s : List ℕ) (reader : Reader) (x : Slice) (left : List ℤ) : Type 0 where
+  pub inside : Inside s reader
+  pub slice : PossibleSlice x
+  pub block : Bounded left
+
+-- all of it, for what works at a macroblock
+pub record Ready (g : Context) (s : List ℕ) (reader : Reader) (x : Slice) (left : List ℤ) (store : List ℕ) : Type 0 where
+  pub reads : Reads s reader x left
+  pub held : Held g store
+  pub here : Here g (x .«macroblock_address»)
+
+-- p, from the reader on, goes where r says, with these coefficients left over and this store; and what works at a macroblock can go on from there
+pub record Went (p : Prog (Way World)) (g : Context) (s : List ℕ) (reader : Reader) (r : Progress) (left : List ℤ) (store : List ℕ) : Type 0 where
+  pub runs : Runs p s reader (way (r .stop) (world (r .state) left store) store) (r .reader)
+  pub ready : Ready g s (r .reader) (r .state) left store
+
+-- the same where no macroblock need have the address in the end
+pub record Passed (p : Prog (Way World)) (g : Context) (s : List ℕ) (reader : Reader) (r : Progress) (left : List ℤ) (store : List ℕ) : Type 0 where
+  pub runs : Runs p s reader (way (r .stop) (world (r .state) left store) store) (r .reader)
+  pub reads : Reads s (r .reader) (r .state) left
+  pub held : Held g store

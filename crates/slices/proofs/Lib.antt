@@ -1,3 +1,0 @@
-pub mod PictureLoop
-pub mod SliceLoop
-pub mod Turning

@@ -1,6 +1,0 @@
-// RULES 7.1 to 7.6: a picture, from behind its start code on: its header, its slices, and the turn of the stores.
-pub mod headers;
-pub mod pictures;
-pub mod slices;
-pub mod turns;
-pub mod whole;
