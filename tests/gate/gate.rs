@@ -1,4 +1,4 @@
-// The material of crates/calls, by the Rust: records made by hand, and what each call is to print.
+// The material of crates/conformance, by the Rust: records made by hand, and what each call is to print.
 // usage: gate records STREAMS CHANGES OUT      writes the records
 //        gate answers STREAMS RECORDS          prints the answers
 mod calls;

@@ -1,11 +1,11 @@
-// What crates/calls is to print.
+// What crates/conformance is to print.
 use crate::calls::{convert, decode, open, Answer};
 use crate::cases;
 use crate::record::Record;
 use crate::records::{case, Case};
 use std::fmt::Write;
 
-// The checksum that crates/calls has, too: of numbers below 2^32.
+// The checksum that crates/conformance has, too: of numbers below 2^32.
 fn sum(before: u64, numbers: impl IntoIterator<Item = u32>) -> u64 {
     numbers.into_iter().fold(before, |sum, n| (sum * 2_654_435_761 + n as u64) % 4_294_967_311)
 }
@@ -32,7 +32,7 @@ fn sum_record(record: &Record) -> u64 {
     sum(1, numbers.chain(integers).chain(matrices).chain(record.clock.into_iter().flat_map(|x| halves(bits(x)))))
 }
 
-// What a store is filled with before a case: crates/lists has the same rule.
+// What a store is filled with before a case: crates/answer_lists has the same rule.
 fn filled(length: usize) -> Vec<u8> {
     (0..length).map(|place| { let x = (place % 65536 + 7) as u64; (x * x * 40503 / 4096 % 256) as u8 }).collect()
 }

@@ -1,5 +1,5 @@
 #!/usr/bin/env python3
-"""Writes the streams that crates/calls runs: streams.py VIDEO.RS FILE. VIDEO.RS is the reference's video.rs, whose code tables are taken.
+"""Writes the streams that crates/conformance runs: streams.py VIDEO.RS FILE. VIDEO.RS is the reference's video.rs, whose code tables are taken.
 Each stream is named after the rules of docs/RULES.md that it is for. Its seed is the CRC of its name, so a stream can come or go without changing the
 others. The file has an empty text, the number of streams, and for each two texts, its name and the stream. A text is its length and its bytes; a number is
 four bytes, highest first."""

@@ -91,15 +91,15 @@ fn run(given: &[Value], stream: &Value) -> Value {
     let [sizes, matrices, frame] = given else { panic!("a picture has sizes, matrices and a frame") };
     let (stores, left, at) = picture(sizes, matrices, frame, &stream.bytes());
     let stores = bytes(&stores);
-    let value = if left == 0 { made("on", [record([("store", stores)])]) } else { made("out", [number(left), stores]) };
+    let value = if left == 0 { made("ok", [record([("store", stores)])]) } else { made("error", [number(left), stores]) };
     record([("value", value), ("at", number(at))])
 }
 
 fn store_of(way: &Value) -> Value {
     match way {
-        Value::Made(name, given) if name == "on" => given[0].field("store").clone(),
+        Value::Made(name, given) if name == "ok" => given[0].field("store").clone(),
         Value::Made(_, given) => given[1].clone(),
-        _ => panic!("{way:?} is a way"),
+        _ => panic!("{way:?} is a result"),
     }
 }
 
@@ -113,16 +113,16 @@ fn meaning(name: &str, given: Vec<Value>) -> Value {
         ("div", [_, x, y]) => float(float_of(x) / float_of(y)),
         ("intraQuantMatrix", []) => bytes(&intra_quant_matrix()),
         ("opening", [stream, store]) => left(stream, 0, store),
-        ("handOut", [Value::Made(_, calls), stream, store]) => hand_out(&calls[0], stream, store),
-        ("openingSays" | "outcomeSays", [answer]) => answer.clone(),
+        ("decode", [Value::Made(_, calls), stream, store]) => hand_out(&calls[0], stream, store),
+        ("openingAnswer" | "decodeAnswer", [answer]) => answer.clone(),
         ("listing", [stream]) => listing(stream),
         ("Ready", []) => made("success", []),
         ("types", [Value::Made(_, given)]) => types(&given[0]),
         ("rows", [Value::Made(_, given)]) => rows(&given[0]),
         ("run", [Value::Made(_, given), stream, Value::Number(0)]) => run(given, stream),
         ("storeOf", [way]) => store_of(way),
-        ("P.frame", [picture, left, store]) => record([("picture", picture.clone()), ("block_data", left.clone()), ("store", store.clone())]),
-        ("binary64" | "true" | "false" | "success" | "picture" | "number" | "line" | "out" | "P.picture" | "decoded", _) => made(name, given),
+        ("P.pictureState", [picture, left, store]) => record([("picture", picture.clone()), ("block_data", left.clone()), ("store", store.clone())]),
+        ("binary64" | "true" | "false" | "success" | "picture" | "number" | "line" | "error" | "P.picture" | "decoded", _) => made(name, given),
         _ => panic!("no meaning is known of {name}, applied to {} values", given.len()),
     }
 }

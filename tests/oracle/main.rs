@@ -1,4 +1,4 @@
-// Writes the list of the Rust's answers that crates/replay runs our reader on, into the folder that is named.
+// Writes the list of the Rust's answers that crates/reader_conformance runs our reader on, into the folder that is named.
 // The Rust is compiled as it stands in docs/src.
 mod list;
 #[allow(dead_code)]

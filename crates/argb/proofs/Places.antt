@@ -3,7 +3,7 @@ use Prim.Native.Nat.{ℕ, _+_, _*_, _/_, _≤_, _<_}
 use native.Mathlib.Nat.{mul-le-mul, mul-le-mul-right, div-lt-iff-lt-mul}
 use native.Mathlib.Omega.{arith}
 use lib.ListN.{length}
-use Rattle.argb.specs.Scaled.{Picture, Whole}
+use Rattle.argb.specs.Scaled.{Picture, PlanesFit}
 
 -- the product of two sizes
 pub product-most : (m n : ℕ) → m ≤ 4096 → n ≤ 4096 → m * n ≤ 16777216
@@ -16,8 +16,8 @@ nearest-below x w n h k =
     div-lt-iff-lt-mul p .1 (omega (arith, mul-le-mul-right n h))
 
 -- a row and a column inside give a place inside
-pub place-below : (row column rows columns : ℕ) → row < rows → column < columns → row * columns + column < rows * columns
-place-below row column rows columns h k = omega (arith, mul-le-mul-right columns h)
+pub position-below : (row column rows columns : ℕ) → row < rows → column < columns → row * columns + column < rows * columns
+position-below row column rows columns h k = omega (arith, mul-le-mul-right columns h)
 
 -- the places of the sample at column sx and row sy
 pub record Inside (p : Picture) (sx sy : ℕ) : Type 0 where
@@ -26,8 +26,8 @@ pub record Inside (p : Picture) (sx sy : ℕ) : Type 0 where
   pub cb-place : sy / 2 * (p .lumaWidth / 2) + sx / 2 < length (p .cb)
 
 -- one of a row that is shown is there
-pub sample-inside : {p : Picture} → Whole p → (sx sy : ℕ) → sx < p .lumaWidth → sy < p .height → Inside p sx sy
+pub sample-inside : {p : Picture} → PlanesFit p → (sx sy : ℕ) → sx < p .lumaWidth → sy < p .height → Inside p sx sy
 sample-inside {p} whole sx sy column row =
-    let luma = place-below sy sx (p .height) (p .lumaWidth) row column in
-    let chroma = place-below (sy / 2) (sx / 2) ((p .height + 1) / 2) (p .lumaWidth / 2) (omega arith) (omega arith) in
+    let luma = position-below sy sx (p .height) (p .lumaWidth) row column in
+    let chroma = position-below (sy / 2) (sx / 2) ((p .height + 1) / 2) (p .lumaWidth / 2) (omega arith) (omega arith) in
     record { y-place = omega arith; cr-place = omega arith; cb-place = omega arith }

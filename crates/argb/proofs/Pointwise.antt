@@ -10,7 +10,7 @@ use Rattle.laws.specs.Stores.{storeRow}
 use Rattle.laws.proofs.Lists.{row-in, row-out}
 use Rattle.argb.specs.Pixel.{argb}
 use Rattle.argb.specs.Scaled.{Picture, samplePixel, outputPixel, pixelAt, scaled}
-use Rattle.argb.proofs.Places.{place-below}
+use Rattle.argb.proofs.Places.{position-below}
 use Rattle.argb.proofs.Rows.{pixel-row}
 
 module _ (p : Picture) (w h : ℕ) (area : List ℕ) where
@@ -22,7 +22,7 @@ module _ (p : Picture) (w h : ℕ) (area : List ℕ) where
       getD (scaled p w h area) (y * w + x) 0 ≡ argb (getD (p .y) (sy * p .lumaWidth + sx) 0) (getD (p .cr) c 0) (getD (p .cb) c 0)
   unfolding scaled outputPixel samplePixel
   scaled-inside fit x y q r =
-      row-in area 0 (pixelAt p w h) (w * h) (y * w + x) (y * w + x) 0 (omega arith) (omega (arith, place-below y x h w r q)) (omega arith)
+      row-in area 0 (pixelAt p w h) (w * h) (y * w + x) (y * w + x) 0 (omega arith) (omega (arith, position-below y x h w r q)) (omega arith)
       ∙ sym (pixel-row p w h y x q)
 
   -- a number from w × h on is as before

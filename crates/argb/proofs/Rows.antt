@@ -8,7 +8,7 @@ use native.Mathlib.Omega.{arith}
 use lib.ListN.{length, getD}
 use Rattle.laws.specs.Stores.{storeRow}
 use Rattle.laws.proofs.Lists.{length-row, row-join, row-alike, row-in, Stored, none-stored, all-stored}
-use Rattle.argb.specs.Scaled.{Picture, Whole, samplePixel, outputPixel, pixelAt, scaled}
+use Rattle.argb.specs.Scaled.{Picture, PlanesFit, samplePixel, outputPixel, pixelAt, scaled}
 use Rattle.argb.proofs.Places.{nearest-below}
 
 module _ (p : Picture) (w h y : ℕ) where
@@ -86,7 +86,7 @@ pub row-made : (p : Picture) (w h y : ℕ) (before : List ℕ) {now : List ℕ}
 unfolding outputPixel
 row-made p w h y before e = e
 
-module _ {p : Picture} (whole : Whole p) (w h y : ℕ) where
+module _ {p : Picture} (whole : PlanesFit p) (w h y : ℕ) where
   -- of the colours of a row of samples, spread
   pub row-spread : (row before : List ℕ) {colours now : List ℕ} → length row ≡ 4096
       → colours ≡ storeRow row 0 (λ x. samplePixel p x (y * p .height / h)) (p .lumaWidth)

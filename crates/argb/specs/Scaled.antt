@@ -20,7 +20,7 @@ abbrev pub picture : ℕ → ℕ → ℕ → List ℕ → List ℕ → List ℕ 
 picture width height lumaWidth y cr cb = record { width = width; height = height; lumaWidth = lumaWidth; y = y; cr = cr; cb = cb }
 
 -- the planes hold samples for all of the display size, as those of a store do (RULES Q2, O.4, 6.11)
-pub record Whole (p : Picture) : Type 0 where
+pub record PlanesFit (p : Picture) : Type 0 where
   pub wide : (1 ≤ p .width) × (p .width ≤ p .lumaWidth) × (p .lumaWidth ≤ 4096)
   pub high : (1 ≤ p .height) × (p .height ≤ 4096)
   pub even : p .lumaWidth % 2 ≡ 0

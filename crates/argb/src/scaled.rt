@@ -4,7 +4,7 @@ ghost use mathlib.Core.Path.{_≡_};
 ghost use Prim.Native.Nat.{_+_, _*_, _-_, _/_, _≤_, _<_};
 ghost use lib.ListN.{length, getD};
 ghost use Rattle.laws.specs.Stores.{storeRow};
-ghost use Rattle.argb.specs.Scaled.{picture, Whole, samplePixel, scaled};
+ghost use Rattle.argb.specs.Scaled.{picture, PlanesFit, samplePixel, scaled};
 
 // The size that is shown, and the width of plane Y.
 pub struct Display {
@@ -47,7 +47,7 @@ fn write_row(
     dst_w: usize,
     to: usize,
 )
-    requires { ⌜ Whole (picture (size .width) (size .height) (size .«luma_width») (now y) (now cr) (now cb)) ⌝ }
+    requires { ⌜ PlanesFit (picture (size .width) (size .height) (size .«luma_width») (now y) (now cr) (now cb)) ⌝ }
     requires { ⌜ (sy < size .height) × (1 ≤ «dst_w») × («dst_w» ≤ 4096) ⌝ }
     requires { ⌜ to + «dst_w» ≤ length (now dst) ⌝ }
     ensures { λ r. ⌜ now (dst .exit) ≡ storeRow (now (dst .entry)) to
@@ -74,7 +74,7 @@ fn write_row(
 
 // The colours of the row sy of the samples, two for each place of Cr and Cb: vectors, since nothing is scaled yet.
 fn colour_row(y: &[u8], cr: &[u8], cb: &[u8], size: Display, sy: usize, row: &mut [u32; 4096])
-    requires { ⌜ Whole (picture (size .width) (size .height) (size .«luma_width») (now y) (now cr) (now cb)) ⌝ }
+    requires { ⌜ PlanesFit (picture (size .width) (size .height) (size .«luma_width») (now y) (now cr) (now cb)) ⌝ }
     requires { ⌜ sy < size .height ⌝ }
     ensures { λ r. ⌜ now (row .exit) ≡ storeRow (now (row .entry)) 0
         (λ x. samplePixel (picture (size .width) (size .height) (size .«luma_width») (now (y .entry)) (now (cr .entry)) (now (cb .entry))) x sy)
@@ -137,7 +137,7 @@ pub fn write_rgb_scaled(
     dst_w: usize,
     dst_h: usize,
 )
-    requires { ⌜ Whole (picture (size .width) (size .height) (size .«luma_width») (now y) (now cr) (now cb)) ⌝ }
+    requires { ⌜ PlanesFit (picture (size .width) (size .height) (size .«luma_width») (now y) (now cr) (now cb)) ⌝ }
     requires { ⌜ («dst_w» ≤ 4096) × («dst_h» ≤ 4096) ⌝ }
     requires { ⌜ «dst_w» * «dst_h» ≤ length (now dst) ⌝ }
     ensures { λ r. ⌜ now (dst .exit) ≡ scaled

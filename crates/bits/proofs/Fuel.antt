@@ -4,40 +4,40 @@ use mathlib.Core.Bool.{true}
 use mathlib.Core.List.{List}
 use Prim.Native.Nat.{ℕ, zero, suc, _≤_, _<_}
 use native.Mathlib.Omega.{arith}
-use Rattle.laws.specs.Turns.{Turn, again, stop, turns, stops}
+use Rattle.laws.specs.Loops.{Step, continue, finish, iterate, finishes}
 use Rattle.laws.proofs.Loops.{more-fuel, enough-fuel}
-use Rattle.bits.specs.Programs.{Prog, Out, run, turn, loop}
+use Rattle.bits.specs.Programs.{Prog, Out, run, continueWith, loop}
 use Rattle.bits.specs.Runs.{RunsAt}
 use Rattle.bits.proofs.Programs.{run-bind}
 
 -- what a turn of the program did, on its state and place
-abbrev turned : {S A : Type 0} → Turn S A → ℕ → Turn (Out S) (Out A)
-turned (again x) e = again (record { value = x; at = e })
-turned (stop v) e = stop (record { value = v; at = e })
+abbrev turned : {S A : Type 0} → Step S A → ℕ → Step (Out S) (Out A)
+turned (continue x) e = continue (record { value = x; at = e })
+turned (finish v) e = finish (record { value = v; at = e })
 
-module _ {S A : Type 0} (f : S → Prog (Turn S A)) (s : List ℕ) where
-  abbrev step : Out S → Turn (Out S) (Out A)
+module _ {S A : Type 0} (f : S → Prog (Step S A)) (s : List ℕ) where
+  abbrev step : Out S → Step (Out S) (Out A)
   step w = turned (run (f (w .value)) s (w .at) .value) (run (f (w .value)) s (w .at) .at)
 
-  run-loop : (n : ℕ) (d : A) (x : S) (a : ℕ) → run (loop n f d x) s a ≡ turns n step (λ w. record { value = d; at = w .at })
+  run-loop : (n : ℕ) (d : A) (x : S) (a : ℕ) → run (loop n f d x) s a ≡ iterate n step (λ w. record { value = d; at = w .at })
       (record { value = x; at = a })
-  unfolding run loop turns
+  unfolding run loop iterate
   run-loop zero d x a = refl
-  run-loop (suc n) d x a = run-bind (f x) (turn (loop n f d)) s a ∙ go (run (f x) s a .value) (run (f x) s a .at) (λ y e. run-loop n d y e)
+  run-loop (suc n) d x a = run-bind (f x) (continueWith (loop n f d)) s a ∙ go (run (f x) s a .value) (run (f x) s a .at) (λ y e. run-loop n d y e)
     where
-      go : (t : Turn S A) (e : ℕ)
-          → ((y : S) (e : ℕ) → run (loop n f d y) s e ≡ turns n step (λ w. record { value = d; at = w .at }) (record { value = y; at = e }))
-          → run (turn (loop n f d) t) s e ≡ elim (turned t e) [ again y ↦ turns n step (λ w. record { value = d; at = w .at }) y | stop v ↦ v ]
-      go (again y) e k = k y e
-      go (stop v) e k = refl
+      go : (t : Step S A) (e : ℕ)
+          → ((y : S) (e : ℕ) → run (loop n f d y) s e ≡ iterate n step (λ w. record { value = d; at = w .at }) (record { value = y; at = e }))
+          → run (continueWith (loop n f d) t) s e ≡ elim (turned t e) [ continue y ↦ iterate n step (λ w. record { value = d; at = w .at }) y | finish v ↦ v ]
+      go (continue y) e k = k y e
+      go (finish v) e k = refl
 
   -- a loop one of whose first n turns stops gives the same with more fuel
-  pub loop-more-fuel : (n m : ℕ) (d e : A) (x : S) (a : ℕ) → n ≤ m → stops n step (record { value = x; at = a }) ≡ true
+  pub loop-more-fuel : (n m : ℕ) (d e : A) (x : S) (a : ℕ) → n ≤ m → finishes n step (record { value = x; at = a }) ≡ true
       → run (loop n f d x) s a ≡ run (loop m f e x) s a
   loop-more-fuel n m d e x a h p = run-loop n d x a ∙ more-fuel step n m _ _ (record { value = x; at = a }) h p ∙ sym (run-loop m e x a)
 
   -- a measure of state and place that each turn that goes on brings down: any fuel above it gives the same
-  pub loop-enough-fuel : (μ : S → ℕ → ℕ) → ((x y : S) (a e : ℕ) → RunsAt (f x) s a (again y) e → μ y e < μ x a)
+  pub loop-enough-fuel : (μ : S → ℕ → ℕ) → ((x y : S) (a e : ℕ) → RunsAt (f x) s a (continue y) e → μ y e < μ x a)
       → (n m : ℕ) (d e : A) (x : S) (a : ℕ) → μ x a < n → μ x a < m → run (loop n f d x) s a ≡ run (loop m f e x) s a
   loop-enough-fuel μ falls n m d e x a h k =
       run-loop n d x a
@@ -45,16 +45,16 @@ module _ {S A : Type 0} (f : S → Prog (Turn S A)) (s : List ℕ) where
       (record { value = x; at = a }) tt h k
       ∙ sym (run-loop m e x a)
     where
-      state : Out S → Turn (Out S) (Out A) → Out S
-      state w (again u) = u
-      state w (stop v) = w
+      state : Out S → Step (Out S) (Out A) → Out S
+      state w (continue u) = u
+      state w (finish v) = w
 
-      less : (w u : Out S) (t : Turn S A) → run (f (w .value)) s (w .at) .value ≡ t → turned t (run (f (w .value)) s (w .at) .at) ≡ again u
+      less : (w u : Out S) (t : Step S A) → run (f (w .value)) s (w .at) .value ≡ t → turned t (run (f (w .value)) s (w .at) .at) ≡ continue u
           → μ (u .value) (u .at) < μ (w .value) (w .at)
-      less w u (again y) r q =
+      less w u (continue y) r q =
           subst (λ (o : Out S). μ (o .value) (o .at) < μ (w .value) (w .at)) (ap (state w) q)
           (falls (w .value) y (w .at) (run (f (w .value)) s (w .at) .at) (record { is = λ i. record { value = r i; at = run (f (w .value)) s (w .at) .at } }))
-      less w u (stop v) r q =
+      less w u (finish v) r q =
           let z : _≡_ {A = ℕ} 0 1 = cc q in
           let no : ⊥ = omega arith in
           absurd no

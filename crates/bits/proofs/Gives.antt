@@ -10,11 +10,11 @@ use lib.IntN.{pos, negsuc}
 use lib.Pow.{pow-pos}
 use lib.Signed.{leZ}
 use borrow.Author.Tests.{le-leb}
-use Rattle.laws.specs.Turns.{Turn, again, stop}
+use Rattle.laws.specs.Loops.{Step, continue, finish}
 use Rattle.laws.proofs.Tests.{by-case}
-use Rattle.bits.specs.Bits.{Found, has, got, found, boundary}
-use Rattle.bits.specs.Programs.{Prog, Out, done, run, bind, bits, reads, nextStartCode, forBelow, turn, loop}
-use Rattle.bits.specs.Runs.{Runs, placeOf}
+use Rattle.bits.specs.Bits.{Found, has, readAt, found, boundary}
+use Rattle.bits.specs.Programs.{Prog, Out, done, run, bind, bits, reads, nextStartCode, forBelow, continueWith, loop}
+use Rattle.bits.specs.Runs.{Runs, positionOf}
 use Rattle.bits.specs.declared.reader.Reader.{Reader}
 use Rattle.bits.proofs.Bits.{bits-lt}
 use Rattle.bits.proofs.Programs.{run-bind}
@@ -26,35 +26,35 @@ pub record Gives {A : Type 0} (s : List ℕ) (P : A → Type 0) (p : Prog A) : T
 
 -- so it holds of the value of each run
 pub given-by : {A : Type 0} {s : List ℕ} {P : A → Type 0} {p : Prog A} {from to : Reader} {v : A} → Gives s P p → Runs p s from v to → P v
-given-by {A} {P = P} {from = from} g r = subst (λ (o : Out A). P (o .value)) (r .is) (g .value (placeOf from))
+given-by {A} {P = P} {from = from} g r = subst (λ (o : Out A). P (o .value)) (r .is) (g .value (positionOf from))
 
 -- what a turn that ended at the place e leaves: I of its state, or P of its answer
-abbrev pub Leaves : {S A : Type 0} → (S → ℕ → Type 0) → (A → Type 0) → Turn S A → ℕ → Type 0
-Leaves I P (again x) e = I x e
-Leaves I P (stop v) e = P v
+abbrev pub Leaves : {S A : Type 0} → (S → ℕ → Type 0) → (A → Type 0) → Step S A → ℕ → Type 0
+Leaves I P (continue x) e = I x e
+Leaves I P (finish v) e = P v
 
 -- the same with no regard to the place
-abbrev pub Turned : {S A : Type 0} → (S → Type 0) → (A → Type 0) → Turn S A → Type 0
-Turned I P (again x) = I x
-Turned I P (stop v) = P v
+abbrev pub OnStep : {S A : Type 0} → (S → Type 0) → (A → Type 0) → Step S A → Type 0
+OnStep I P (continue x) = I x
+OnStep I P (finish v) = P v
 
 -- a loop keeps an invariant of state and place
-module _ {S A : Type 0} (s : List ℕ) (I : S → ℕ → Type 0) (P : A → Type 0) (f : S → Prog (Turn S A)) (d : A)
+module _ {S A : Type 0} (s : List ℕ) (I : S → ℕ → Type 0) (P : A → Type 0) (f : S → Prog (Step S A)) (d : A)
     (keeps : (x : S) (a : ℕ) → I x a → Leaves I P (run (f x) s a .value) (run (f x) s a .at)) (last : P d) where
   pub loop-value : (n : ℕ) (x : S) (a : ℕ) → I x a → P (run (loop n f d x) s a .value)
   unfolding run loop
   loop-value zero x a i = last
   loop-value (suc n) x a i =
-      rw (run-bind (f x) (turn (loop n f d)) s a) (go (run (f x) s a .value) (run (f x) s a .at) (keeps x a i) (λ y e. loop-value n y e))
+      rw (run-bind (f x) (continueWith (loop n f d)) s a) (go (run (f x) s a .value) (run (f x) s a .at) (keeps x a i) (λ y e. loop-value n y e))
     where
-      go : (t : Turn S A) (e : ℕ) → Leaves I P t e → ((y : S) (e : ℕ) → I y e → P (run (loop n f d y) s e .value))
-          → P (run (turn (loop n f d) t) s e .value)
-      go (again y) e h k = k y e h
-      go (stop v) e h k = h
+      go : (t : Step S A) (e : ℕ) → Leaves I P t e → ((y : S) (e : ℕ) → I y e → P (run (loop n f d y) s e .value))
+          → P (run (continueWith (loop n f d) t) s e .value)
+      go (continue y) e h k = k y e h
+      go (finish v) e h k = h
 
 -- n bits, and the 0 of a read that is refused
-pub got-lt : (s : List ℕ) (a n : ℕ) → got s a n < 2 ^ n
-unfolding got
+pub got-lt : (s : List ℕ) (a n : ℕ) → readAt s a n < 2 ^ n
+unfolding readAt
 got-lt s a n = by-case (λ v. v < 2 ^ n) (has s a n) (λ e. bits-lt s a n) (λ e. pow-pos n)
 
 module _ {s : List ℕ} where
@@ -86,14 +86,14 @@ module _ {s : List ℕ} where
   g-for zero f keeps h = g-done h
   g-for (suc n) f keeps h = g-bind (f n) (g-for n f (λ i k. keeps i (omega arith)) h) (keeps n (omega arith))
 
-  pub g-loop : {S A : Type 0} {P : A → Type 0} (I : S → Type 0) (n : ℕ) (f : S → Prog (Turn S A)) (d : A)
-      → ((x : S) → I x → Gives s (Turned I P) (f x)) → P d → (x : S) → I x → Gives s P (loop n f d x)
+  pub g-loop : {S A : Type 0} {P : A → Type 0} (I : S → Type 0) (n : ℕ) (f : S → Prog (Step S A)) (d : A)
+      → ((x : S) → I x → Gives s (OnStep I P) (f x)) → P d → (x : S) → I x → Gives s P (loop n f d x)
   g-loop {S} {A} {P} I n f d keeps last x i =
       record { value = λ a. loop-value s (λ y e. I y) P f d (λ y e j. go (run (f y) s e .value) (run (f y) s e .at) (keeps y j .value e)) last n x a i }
     where
-      go : (t : Turn S A) (e : ℕ) → Turned I P t → Leaves (λ y e. I y) P t e
-      go (again y) e h = h
-      go (stop v) e h = h
+      go : (t : Step S A) (e : ℕ) → OnStep I P t → Leaves (λ y e. I y) P t e
+      go (continue y) e h = h
+      go (finish v) e h = h
 
   pub g-bits : (n : ℕ) → Gives s (λ v. v < 2 ^ n) (bits n)
   unfolding run

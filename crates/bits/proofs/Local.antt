@@ -9,7 +9,7 @@ use native.Mathlib.Nat.{add-assoc, zero-add}
 use lib.ListN.{length, getD, length-append}
 use lib.Seq.{getD-append-add}
 use borrow.Author.Tests.{leb-true}
-use Rattle.bits.specs.Bits.{Found, bitAt, bitsAt, has, got, next, codePrefix, codeFrom, found, boundary}
+use Rattle.bits.specs.Bits.{Found, bitAt, bitsAt, has, readAt, afterRead, codePrefix, codeFrom, found, boundary}
 use Rattle.bits.specs.Programs.{Prog, done, read, skip, look, start, Out, run, short}
 use Rattle.bits.proofs.Programs.{next-le, served-has, served-next, served-got}
 use Rattle.bits.proofs.Start.{isCode, found-on, codeFrom-past}
@@ -21,17 +21,17 @@ saw s f = cond (isCode (f .code)) (f .at + 8) (length s * 8 + 8)
 -- the furthest place that a run looks at, by a read, a skip, a peek or a search
 unfoldable pub far : {A : Type 0} → Prog A → List ℕ → ℕ → ℕ
 far (done x) s a = a
-far (read n k) s a = far (k (got s a n)) s (next s a n)
-far (skip n p) s a = far p s (next s a n)
-far (look n k) s a = max (a + n) (far (k (has s a n) (got s a n)) s a)
+far (read n k) s a = far (k (readAt s a n)) s (afterRead s a n)
+far (skip n p) s a = far p s (afterRead s a n)
+far (look n k) s a = max (a + n) (far (k (has s a n) (readAt s a n)) s a)
 far (start k) s a = max (saw s (found s a)) (far (k (found s a .code)) s (found s a .at))
 
 far-on : {A : Type 0} (p : Prog A) (s : List ℕ) (a : ℕ) → a ≤ far p s a
 unfolding far
 far-on (done x) s a = omega arith
-far-on (read n k) s a = omega (arith, next-le s a n, far-on (k (got s a n)) s (next s a n))
-far-on (skip n p) s a = omega (arith, next-le s a n, far-on p s (next s a n))
-far-on (look n k) s a = omega (arith, far-on (k (has s a n) (got s a n)) s a)
+far-on (read n k) s a = omega (arith, next-le s a n, far-on (k (readAt s a n)) s (afterRead s a n))
+far-on (skip n p) s a = omega (arith, next-le s a n, far-on p s (afterRead s a n))
+far-on (look n k) s a = omega (arith, far-on (k (has s a n) (readAt s a n)) s a)
 far-on (start k) s a = omega (arith, found-on s a, far-on (k (found s a .code)) s (found s a .at))
 
 -- the m bytes of s from x on are those of t from y on, and both have them
@@ -83,7 +83,7 @@ module _ (s : List ℕ) (x : ℕ) (t : List ℕ) (y m : ℕ) (w : Alike s x t y 
   bits-alike o zero h = refl
   bits-alike o (suc n) h = rw (add-assoc, add-assoc (y * 8) o n) (omega (arith, bits-alike o n (omega arith), bit-alike (o + n) (omega arith)))
 
-  got-alike : (o n : ℕ) → o + n ≤ m * 8 → got t (y * 8 + o) n ≡ got s (x * 8 + o) n
+  got-alike : (o n : ℕ) → o + n ≤ m * 8 → readAt t (y * 8 + o) n ≡ readAt s (x * 8 + o) n
   got-alike o n h = served-got t (y * 8 + o) n (omega arith) ∙ sym (bits-alike o n h) ∙ sym (served-got s (x * 8 + o) n (omega arith))
 
   has-alike : (o n : ℕ) → o + n ≤ m * 8 → has t (y * 8 + o) n ≡ has s (x * 8 + o) n
@@ -112,7 +112,7 @@ module _ (s : List ℕ) (x : ℕ) (t : List ℕ) (y m : ℕ) (w : Alike s x t y 
       (search-moved n k (b + 1) (c + 1) (omega arith) (omega arith) (omega arith)) f l)
 
   -- a read or a skip that has its bits and ends inside
-  served-at : (o n : ℕ) → has s (x * 8 + o) n ≡ true → next s (x * 8 + o) n ≤ length s * 8 → next s (x * 8 + o) n ≡ x * 8 + (o + n)
+  served-at : (o n : ℕ) → has s (x * 8 + o) n ≡ true → afterRead s (x * 8 + o) n ≤ length s * 8 → afterRead s (x * 8 + o) n ≡ x * 8 + (o + n)
   served-at o n h l =
       served-next s (x * 8 + o) n (omega (arith, leb-true n (length s * 8 - (x * 8 + o)) h, next-le s (x * 8 + o) n)) ∙ add-assoc (x * 8) o n
 
@@ -123,20 +123,20 @@ module _ (s : List ℕ) (x : ℕ) (t : List ℕ) (y m : ℕ) (w : Alike s x t y 
   moved (done v) o sh f = record { value = refl; at = omega arith }
   moved (read n k) o sh f =
       let v = served (has s (x * 8 + o) n) _ sh in
-      let to = far-on (k (got s (x * 8 + o) n)) s (next s (x * 8 + o) n) in
-      let ns : next s (x * 8 + o) n ≡ x * 8 + (o + n) = served-at o n (v .0) (omega arith) in
+      let to = far-on (k (readAt s (x * 8 + o) n)) s (afterRead s (x * 8 + o) n) in
+      let ns : afterRead s (x * 8 + o) n ≡ x * 8 + (o + n) = served-at o n (v .0) (omega arith) in
       let l : o + n ≤ m * 8 = omega (arith, rw ns at f, rw ns at to) in
       rw (ns, served-next t (y * 8 + o) n (omega arith) ∙ add-assoc (y * 8) o n, got-alike o n l)
-      (moved (k (got s (x * 8 + o) n)) (o + n) (rw ns at (v .1)) (rw ns at f))
+      (moved (k (readAt s (x * 8 + o) n)) (o + n) (rw ns at (v .1)) (rw ns at f))
   moved (skip n p) o sh f =
       let v = served (has s (x * 8 + o) n) _ sh in
-      let to = far-on p s (next s (x * 8 + o) n) in
-      let ns : next s (x * 8 + o) n ≡ x * 8 + (o + n) = served-at o n (v .0) (omega arith) in
+      let to = far-on p s (afterRead s (x * 8 + o) n) in
+      let ns : afterRead s (x * 8 + o) n ≡ x * 8 + (o + n) = served-at o n (v .0) (omega arith) in
       let l : o + n ≤ m * 8 = omega (arith, rw ns at f, rw ns at to) in
       rw (ns, served-next t (y * 8 + o) n (omega arith) ∙ add-assoc (y * 8) o n)
       (moved p (o + n) (rw ns at (v .1)) (rw ns at f))
   moved (look n k) o sh f =
-      rw (has-alike o n (omega arith), got-alike o n (omega arith)) (moved (k (has s (x * 8 + o) n) (got s (x * 8 + o) n)) o sh (omega arith))
+      rw (has-alike o n (omega arith), got-alike o n (omega arith)) (moved (k (has s (x * 8 + o) n) (readAt s (x * 8 + o) n)) o sh (omega arith))
   moved (start k) o sh f =
       let hit = saw-code s (found s (x * 8 + o)) ((x + m) * 8) (omega arith) (omega arith) in
       let sm = search-moved (length s - 4 - boundary (x * 8 + o)) (length t - 4 - boundary (y * 8 + o)) (boundary (x * 8 + o)) (boundary (y * 8 + o))

@@ -8,7 +8,7 @@ use native.Mathlib.Nat.{add-zero}
 use lib.ListN.{length}
 use lib.Dec.{eqb, leb·zero, eqb·suc-zero}
 use borrow.Author.Tests.{leb-true, le-leb, lt-leb}
-use Rattle.bits.specs.Bits.{bitsAt, has, got, next, found}
+use Rattle.bits.specs.Bits.{bitsAt, has, readAt, afterRead, found}
 use Rattle.bits.specs.Programs.{Prog, done, read, skip, look, start, run, short, bind}
 use Rattle.bits.proofs.Start.{found-on, found-most}
 
@@ -17,9 +17,9 @@ pub run-bind : {A B : Type 0} (p : Prog A) (f : A → Prog B) (s : List ℕ) (a 
     → run (bind p f) s a ≡ run (f (run p s a .value)) s (run p s a .at)
 unfolding run bind
 run-bind (done x) f s a = refl
-run-bind (read n k) f s a = run-bind (k (got s a n)) f s (next s a n)
-run-bind (skip n p) f s a = run-bind p f s (next s a n)
-run-bind (look n k) f s a = run-bind (k (has s a n) (got s a n)) f s a
+run-bind (read n k) f s a = run-bind (k (readAt s a n)) f s (afterRead s a n)
+run-bind (skip n p) f s a = run-bind p f s (afterRead s a n)
+run-bind (look n k) f s a = run-bind (k (has s a n) (readAt s a n)) f s a
 run-bind (start k) f s a = run-bind (k (found s a .code)) f s (found s a .at)
 
 -- and is short where one of the two is
@@ -31,22 +31,22 @@ pub short-bind : {A B : Type 0} (p : Prog A) (f : A → Prog B) (s : List ℕ) (
     → short (bind p f) s a ≡ (short p s a || short (f (run p s a .value)) s (run p s a .at))
 unfolding run bind short
 short-bind (done x) f s a = refl
-short-bind (read n k) f s a = or-assoc (not (has s a n)) _ _ _ (short-bind (k (got s a n)) f s (next s a n))
-short-bind (skip n p) f s a = or-assoc (not (has s a n)) _ _ _ (short-bind p f s (next s a n))
-short-bind (look n k) f s a = short-bind (k (has s a n) (got s a n)) f s a
+short-bind (read n k) f s a = or-assoc (not (has s a n)) _ _ _ (short-bind (k (readAt s a n)) f s (afterRead s a n))
+short-bind (skip n p) f s a = or-assoc (not (has s a n)) _ _ _ (short-bind p f s (afterRead s a n))
+short-bind (look n k) f s a = short-bind (k (has s a n) (readAt s a n)) f s a
 short-bind (start k) f s a = short-bind (k (found s a .code)) f s (found s a .at)
 
 -- places never go back, and stay within the stream
-pub next-le : (s : List ℕ) (a n : ℕ) → a ≤ next s a n
-unfolding next
+pub next-le : (s : List ℕ) (a n : ℕ) → a ≤ afterRead s a n
+unfolding afterRead
 next-le s a n = go (has s a n)
   where
     go : (b : Bool) → a ≤ cond b (a + n) a
     go true = omega arith
     go false = omega arith
 
-pub next-most : (s : List ℕ) (a n m : ℕ) → a ≤ m → length s * 8 ≤ m → next s a n ≤ m
-unfolding next
+pub next-most : (s : List ℕ) (a n m : ℕ) → a ≤ m → length s * 8 ≤ m → afterRead s a n ≤ m
+unfolding afterRead
 next-most s a n m h l = go (has s a n) refl
   where
     go : (b : Bool) → has s a n ≡ b → cond b (a + n) a ≤ m
@@ -56,9 +56,9 @@ next-most s a n m h l = go (has s a n) refl
 pub run-on : {A : Type 0} (p : Prog A) (s : List ℕ) (a : ℕ) → a ≤ run p s a .at
 unfolding run
 run-on (done x) s a = omega arith
-run-on (read n k) s a = omega (arith, next-le s a n, run-on (k (got s a n)) s (next s a n))
-run-on (skip n p) s a = omega (arith, next-le s a n, run-on p s (next s a n))
-run-on (look n k) s a = run-on (k (has s a n) (got s a n)) s a
+run-on (read n k) s a = omega (arith, next-le s a n, run-on (k (readAt s a n)) s (afterRead s a n))
+run-on (skip n p) s a = omega (arith, next-le s a n, run-on p s (afterRead s a n))
+run-on (look n k) s a = run-on (k (has s a n) (readAt s a n)) s a
 run-on (start k) s a = omega (arith, found-on s a, run-on (k (found s a .code)) s (found s a .at))
 
 -- so a program that is followed by another ends where the two do, or before
@@ -68,14 +68,14 @@ bind-on p f s a = rw (run-bind p f s a) (run-on (f (run p s a .value)) s (run p 
 pub run-most : {A : Type 0} (p : Prog A) (s : List ℕ) (a m : ℕ) → a ≤ m * 8 → length s ≤ m → run p s a .at ≤ m * 8
 unfolding run
 run-most (done x) s a m h l = h
-run-most (read n k) s a m h l = run-most (k (got s a n)) s (next s a n) m (next-most s a n (m * 8) h (omega arith)) l
-run-most (skip n p) s a m h l = run-most p s (next s a n) m (next-most s a n (m * 8) h (omega arith)) l
-run-most (look n k) s a m h l = run-most (k (has s a n) (got s a n)) s a m h l
+run-most (read n k) s a m h l = run-most (k (readAt s a n)) s (afterRead s a n) m (next-most s a n (m * 8) h (omega arith)) l
+run-most (skip n p) s a m h l = run-most p s (afterRead s a n) m (next-most s a n (m * 8) h (omega arith)) l
+run-most (look n k) s a m h l = run-most (k (has s a n) (readAt s a n)) s a m h l
 run-most (start k) s a m h l = run-most (k (found s a .code)) s (found s a .at) m (found-most s a m h l) l
 
 -- a read that is not 0 was served
-pub got-served : (s : List ℕ) (a n : ℕ) → (got s a n ≡ 0 → ⊥) → (next s a n ≡ a + n) × (a + n ≤ length s * 8)
-unfolding got next bitsAt
+pub got-served : (s : List ℕ) (a n : ℕ) → (readAt s a n ≡ 0 → ⊥) → (afterRead s a n ≡ a + n) × (a + n ≤ length s * 8)
+unfolding readAt afterRead bitsAt
 got-served s a zero g = absurd (g (same (has s a 0)))
   where
     same : (b : Bool) → _≡_ {A = ℕ} (cond b 0 0) 0
@@ -89,24 +89,24 @@ got-served s a (suc n) g = go (has s a (suc n)) refl g
     go false e g = absurd (g refl)
 
 -- a skip, by what `has` says
-pub next-has : (s : List ℕ) (a n : ℕ) → has s a n ≡ true → next s a n ≡ a + n
-unfolding next
+pub next-has : (s : List ℕ) (a n : ℕ) → has s a n ≡ true → afterRead s a n ≡ a + n
+unfolding afterRead
 next-has s a n h = simp h
 
-pub next-not : (s : List ℕ) (a n : ℕ) → has s a n ≡ false → next s a n ≡ a
-unfolding next
+pub next-not : (s : List ℕ) (a n : ℕ) → has s a n ≡ false → afterRead s a n ≡ a
+unfolding afterRead
 next-not s a n h = simp h
 
 -- n bits that are there
 pub served-has : (s : List ℕ) (a n : ℕ) → a + n ≤ length s * 8 → has s a n ≡ true
 served-has s a n h = le-leb n (length s * 8 - a) (omega arith)
 
-pub served-next : (s : List ℕ) (a n : ℕ) → a + n ≤ length s * 8 → next s a n ≡ a + n
-unfolding next
+pub served-next : (s : List ℕ) (a n : ℕ) → a + n ≤ length s * 8 → afterRead s a n ≡ a + n
+unfolding afterRead
 served-next s a n h = simp (served-has s a n h)
 
-pub served-got : (s : List ℕ) (a n : ℕ) → a + n ≤ length s * 8 → got s a n ≡ bitsAt s a n
-unfolding got
+pub served-got : (s : List ℕ) (a n : ℕ) → a + n ≤ length s * 8 → readAt s a n ≡ bitsAt s a n
+unfolding readAt
 served-got s a n h = simp (served-has s a n h)
 
 -- n bits, more than are left
@@ -119,12 +119,12 @@ ended-has s a zero h = leb·zero (length s * 8 - a)
 ended-has s a (suc n) h = lt-leb (suc n) (length s * 8 - a) (omega arith) ∙ sym (eqb·suc-zero n)
 
 -- a read that is refused gives 0 and stays, and so does one of no bits
-pub refused-got : (s : List ℕ) (a n : ℕ) → length s * 8 < a + n → got s a n ≡ 0
-unfolding got bitsAt
+pub refused-got : (s : List ℕ) (a n : ℕ) → length s * 8 < a + n → readAt s a n ≡ 0
+unfolding readAt bitsAt
 refused-got s a zero h = simp (ended-has s a 0 (omega arith))
 refused-got s a (suc n) h = simp (refused-has s a (suc n) h (omega arith))
 
-pub refused-next : (s : List ℕ) (a n : ℕ) → length s * 8 < a + n → next s a n ≡ a
-unfolding next
+pub refused-next : (s : List ℕ) (a n : ℕ) → length s * 8 < a + n → afterRead s a n ≡ a
+unfolding afterRead
 refused-next s a zero h = simp (ended-has s a 0 (omega arith), add-zero)
 refused-next s a (suc n) h = simp (refused-has s a (suc n) h (omega arith))

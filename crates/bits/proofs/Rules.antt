@@ -10,12 +10,12 @@ use borrow.Author.Tests.{eq-eqb, ne-eqb, lt-ltb, le-ltb, le-leb, lt-leb}
 use lib.ListN.{length}
 use lib.IntN.{ℤ, negsuc}
 use lib.Dec.{leb, eqb}
-use Rattle.laws.specs.Turns.{Turn, again, stop}
+use Rattle.laws.specs.Loops.{Step, continue, finish}
 use Rattle.bits.specs.Bounds.{longestStream}
-use Rattle.bits.specs.Bits.{Found, bitsAt, has, got, next, found, boundary}
-use Rattle.bits.specs.Programs.{Prog, done, look, Out, run, bind, bits, skips, reads, nonZero, nextStartCode, forBelow, turn, loop}
-use Rattle.bits.specs.Programs.{eqZ, findTurn, findStartCode}
-use Rattle.bits.specs.Runs.{RunsAt, Runs, Inside, Reading, placeOf, readerAt, onBy, bitsLeft}
+use Rattle.bits.specs.Bits.{Found, bitsAt, has, readAt, afterRead, found, boundary}
+use Rattle.bits.specs.Programs.{Prog, done, look, Out, run, bind, bits, skips, reads, nonZero, nextStartCode, forBelow, continueWith, loop}
+use Rattle.bits.specs.Programs.{eqZ, findStep, findStartCode}
+use Rattle.bits.specs.Runs.{RunsAt, Runs, Inside, Reading, positionOf, readerAt, advancedBy, bitsLeft}
 use Rattle.bits.specs.declared.reader.Reader.{Reader}
 use Rattle.bits.proofs.Start.{Searched, first, none, found-is-first}
 use Rattle.bits.proofs.Programs.{run-bind, run-most}
@@ -23,10 +23,10 @@ use Rattle.bits.proofs.Programs.{run-bind, run-most}
 -- ---- over readers, and over places
 
 module _ {A : Type 0} {p : Prog A} {s : List ℕ} where
-  pub r-made : {from to : Reader} {v : A} → RunsAt p s (placeOf from) v (placeOf to) → Runs p s from v to
+  pub r-made : {from to : Reader} {v : A} → RunsAt p s (positionOf from) v (positionOf to) → Runs p s from v to
   r-made r = record { is = r .is }
 
-  pub r-at : {from to : Reader} {v : A} → Runs p s from v to → RunsAt p s (placeOf from) v (placeOf to)
+  pub r-at : {from to : Reader} {v : A} → Runs p s from v to → RunsAt p s (positionOf from) v (positionOf to)
   r-at r = record { is = r .is }
 
 pub at-done : {A : Type 0} {s : List ℕ} {a : ℕ} {v : A} → RunsAt (done v) s a v a
@@ -50,7 +50,7 @@ pub at-no : {A : Type 0} {s : List ℕ} {a : ℕ} {t : Bool} (p : Prog A) {q : P
     → RunsAt (cond t p q) s a v e
 at-no p h r = rw h r
 
-pub at-bits : {s : List ℕ} {a n v e : ℕ} → v ≡ got s a n → e ≡ next s a n → RunsAt (bits n) s a v e
+pub at-bits : {s : List ℕ} {a n v e : ℕ} → v ≡ readAt s a n → e ≡ afterRead s a n → RunsAt (bits n) s a v e
 unfolding run
 at-bits p q = record { is = rw (p, q) refl }
 
@@ -89,7 +89,7 @@ unfolding forBelow
 r-for-on n f x q r = let e : n + 1 ≡ suc n = omega arith in rw e (r-call (f n) q r)
 
 -- the value of a run
-pub r-value : {A : Type 0} {p : Prog A} {s : List ℕ} {from to : Reader} {v : A} → Runs p s from v to → run p s (placeOf from) .value ≡ v
+pub r-value : {A : Type 0} {p : Prog A} {s : List ℕ} {from to : Reader} {v : A} → Runs p s from v to → run p s (positionOf from) .value ≡ v
 r-value {A} r = ap (λ (o : Out A). o .value) (r .is)
 
 -- a run whose value is made of that of p: what p gives, where it ends, and that the value is made of it
@@ -97,22 +97,22 @@ pub r-inner : {A B : Type 0} {p : Prog A} (f : A → B) {s : List ℕ} {from to 
     → (v : A) × Runs p s from v to × (f v ≡ w)
 unfolding run
 r-inner {A} {B} {p} f {s} {from} {to} {w} r =
-    let o : _≡_ {A = Out B} (record { value = f v; at = run p s (placeOf from) .at }) (record { value = w; at = placeOf to })
-    = sym (run-bind p (λ x. done (f x)) s (placeOf from)) ∙ r .is in (
+    let o : _≡_ {A = Out B} (record { value = f v; at = run p s (positionOf from) .at }) (record { value = w; at = positionOf to })
+    = sym (run-bind p (λ x. done (f x)) s (positionOf from)) ∙ r .is in (
       v,
       record { is = ap (λ (k : ℕ). record { value = v; at = k }) (ap (λ (u : Out B). u .at) o) },
       ap (λ (u : Out B). u .value) o,
     )
   where
     v : A
-    v = run p s (placeOf from) .value
+    v = run p s (positionOf from) .value
 
 -- what the reader's own proofs show
-pub is-bits : {s : List ℕ} {from to : Reader} {n v : ℕ} → v ≡ got s (placeOf from) n → placeOf to ≡ next s (placeOf from) n
+pub is-bits : {s : List ℕ} {from to : Reader} {n v : ℕ} → v ≡ readAt s (positionOf from) n → positionOf to ≡ afterRead s (positionOf from) n
     → Runs (bits n) s from v to
 is-bits p q = r-made (at-bits p q)
 
-pub is-skips : {s : List ℕ} {from to : Reader} {n : ℕ} → placeOf to ≡ next s (placeOf from) n → Runs (skips n) s from tt to
+pub is-skips : {s : List ℕ} {from to : Reader} {n : ℕ} → positionOf to ≡ afterRead s (positionOf from) n → Runs (skips n) s from tt to
 unfolding run
 is-skips q = record { is = rw q refl }
 
@@ -120,7 +120,7 @@ pub at-start : {s : List ℕ} {a e : ℕ} {c : ℤ} → found s a ≡ record { c
 unfolding run
 at-start q = record { is = rw q refl }
 
-pub is-start : {s : List ℕ} {from to : Reader} {c : ℤ} → found s (placeOf from) ≡ record { code = c; at = placeOf to }
+pub is-start : {s : List ℕ} {from to : Reader} {c : ℤ} → found s (positionOf from) ≡ record { code = c; at = positionOf to }
     → Runs nextStartCode s from c to
 is-start q = r-made (at-start q)
 
@@ -131,10 +131,10 @@ r-reads n h r = rw (le-leb n 32 h) at r
 -- whether bits are there and not all 0, from what a read of them gives
 looked : {s : List ℕ} {from to : Reader} (n v : ℕ) → Runs (bits n) s from v to
     → Runs (look n (λ h x. done (h && not (eqb x 0)))) s from (not (eqb v 0)) from
-unfolding run got
-looked {s} {from} n v r = record { is = rw (seen (has s (placeOf from) n) (sym (r-value r))) }
+unfolding run readAt
+looked {s} {from} n v r = record { is = rw (seen (has s (positionOf from) n) (sym (r-value r))) }
   where
-    seen : (h : Bool) → v ≡ cond h (bitsAt s (placeOf from) n) 0 → (h && not (eqb (cond h (bitsAt s (placeOf from) n) 0) 0)) ≡ not (eqb v 0)
+    seen : (h : Bool) → v ≡ cond h (bitsAt s (positionOf from) n) 0 → (h && not (eqb (cond h (bitsAt s (positionOf from) n) 0) 0)) ≡ not (eqb v 0)
     seen true q = rw q
     seen false q = rw q
 
@@ -154,14 +154,14 @@ is-nonZero {s} {from} {to} {v} n = go (leb n 32)
 
 -- a search that gives a code has passed its four bytes
 pub r-start-past : {s : List ℕ} {from to : Reader} {k : ℤ} → Runs nextStartCode s from k to → (k ≡ negsuc 0 → ⊥)
-    → placeOf from + 32 ≤ placeOf to
+    → positionOf from + 32 ≤ positionOf to
 unfolding run
 r-start-past {s} {from} {to} {k} r g = go (found s a) (found-is-first s a) (r-value r) (ap (λ (o : Out ℤ). o .at) (r .is))
   where
     a : ℕ
-    a = placeOf from
+    a = positionOf from
 
-    go : (f : Found) → Searched s (boundary a) f → f .code ≡ k → f .at ≡ placeOf to → a + 32 ≤ placeOf to
+    go : (f : Found) → Searched s (boundary a) f → f .code ≡ k → f .at ≡ positionOf to → a + 32 ≤ positionOf to
     go f (first p w q) x y = omega (arith, w .from, ap (λ (h : Found). h .at) q)
     go f (none w q) x y = absurd (g (sym x ∙ ap (λ (h : Found). h .code) q))
 
@@ -170,7 +170,7 @@ r-start-past {s} {from} {to} {k} r g = go (found s a) (found-is-first s a) (r-va
 -- a run stays within the bounds of the position
 pub r-most : {A : Type 0} {p : Prog A} {s : List ℕ} {from to : Reader} {v : A} → Runs p s from v to → Inside s from → Inside s to
 r-most {p = p} {s} {from} r i =
-    record { place = rw (r .is) at (run-most p s (placeOf from) longestStream (i .place) (i .stream)); stream = i .stream }
+    record { position = rw (r .is) at (run-most p s (positionOf from) longestStream (i .position) (i .stream)); stream = i .stream }
 
 -- so what began inside ends inside
 pub reading : {A : Type 0} {p : Prog A} {s : List ℕ} {from to : Reader} {v : A} → Inside s from → Runs p s from v to → Reading p s from v to
@@ -183,24 +183,24 @@ from-reader e r = rw e at r
 
 -- at the beginning of a stream
 pub first-inside : {s : List ℕ} {from : Reader} → from ≡ readerAt 0 → length s ≤ longestStream → Inside s from
-first-inside e h = rw e (record { place = omega arith; stream = h })
+first-inside e h = rw e (record { position = omega arith; stream = h })
 
 -- n bits on, where they are there
-pub on-inside : {s : List ℕ} {from to : Reader} (n : ℕ) → Inside s from → placeOf from + n ≤ length s * 8 → to ≡ onBy n from → Inside s to
-on-inside n i h e = rw e (record { place = omega (arith, i .stream); stream = i .stream })
+pub on-inside : {s : List ℕ} {from to : Reader} (n : ℕ) → Inside s from → positionOf from + n ≤ length s * 8 → to ≡ advancedBy n from → Inside s to
+on-inside n i h e = rw e (record { position = omega (arith, i .stream); stream = i .stream })
 
 -- ---- a run behind another
 
 -- p from the reader `from` on gives what q gives from `to` on
 pub record Follows {A : Type 0} (p : Prog A) (s : List ℕ) (from : Reader) (q : Prog A) (to : Reader) : Type 0 where
-  pub same : run p s (placeOf from) ≡ run q s (placeOf to)
+  pub same : run p s (positionOf from) ≡ run q s (positionOf to)
 
 module _ {A : Type 0} {p : Prog A} {s : List ℕ} {from : Reader} where
   pub f-start : Follows p s from p from
   f-start = record { same = refl }
 
   -- n bits on
-  pub f-on : {q : Prog A} {to : Reader} (n : ℕ) → to ≡ onBy n from → run p s (placeOf from) ≡ run q s (placeOf from + n) → Follows p s from q to
+  pub f-on : {q : Prog A} {to : Reader} (n : ℕ) → to ≡ advancedBy n from → run p s (positionOf from) ≡ run q s (positionOf from + n) → Follows p s from q to
   f-on n e h = rw e (record { same = h })
 
   pub f-end : {q : Prog A} {mid to : Reader} {v : A} → Follows p s from q mid → Runs q s mid v to → Runs p s from v to
@@ -210,56 +210,56 @@ module _ {A : Type 0} {p : Prog A} {s : List ℕ} {from : Reader} where
   pub f-call : {B : Type 0} {q : Prog B} (f : B → Prog A) {mid to : Reader} {v : B} → Follows p s from (bind q f) mid → Runs q s mid v to
       → Follows p s from (f v) to
   f-call {B} {q} f {mid} l r =
-      record { same = l .same ∙ run-bind q f s (placeOf mid) ∙ ap (λ (o : Out B). run (f (o .value)) s (o .at)) (r .is) }
+      record { same = l .same ∙ run-bind q f s (positionOf mid) ∙ ap (λ (o : Out B). run (f (o .value)) s (o .at)) (r .is) }
 
 -- a turn from the place a to e that goes on has taken a bit of a stream of m bits
-abbrev pub Takes : {S A : Type 0} → ℕ → ℕ → Turn S A → ℕ → Type 0
-Takes m a (again y) e = (a < e) × (a < m)
-Takes m a (stop v) e = Unit {0}
+abbrev pub Takes : {S A : Type 0} → ℕ → ℕ → Step S A → ℕ → Type 0
+Takes m a (continue y) e = (a < e) × (a < m)
+Takes m a (finish v) e = Unit {0}
 
 -- so fewer bits are left behind it
-pub takes-less : {S A : Type 0} (f : S → Prog (Turn S A)) {s : List ℕ}
+pub takes-less : {S A : Type 0} (f : S → Prog (Step S A)) {s : List ℕ}
     → ((x : S) (a : ℕ) → Takes (length s * 8) a (run (f x) s a .value) (run (f x) s a .at))
-    → {x y : S} {from to : Reader} → Runs (f x) s from (again y) to → bitsLeft s to < bitsLeft s from
-takes-less f h {x} {from = from} r = let t = rw (r .is) at (h x (placeOf from)) in omega arith
+    → {x y : S} {from to : Reader} → Runs (f x) s from (continue y) to → bitsLeft s to < bitsLeft s from
+takes-less f h {x} {from = from} r = let t = rw (r .is) at (h x (positionOf from)) in omega arith
 
 -- a loop in the middle: with the state x at the reader `from` it still gives what the whole loop gives, and has fuel for `left` turns more
-pub record Loops {S A : Type 0} (n : ℕ) (f : S → Prog (Turn S A)) (d : A) (x₀ : S) (s : List ℕ) (from₀ : Reader) (x : S) (from : Reader)
+pub record Loops {S A : Type 0} (n : ℕ) (f : S → Prog (Step S A)) (d : A) (x₀ : S) (s : List ℕ) (from₀ : Reader) (x : S) (from : Reader)
     (left : ℕ) : Type 0 where
   pub fuel : ℕ
   pub enough : left < fuel
   pub rest : Follows (loop n f d x₀) s from₀ (loop fuel f d x) from
 
-pub loop-start : {S A : Type 0} {n : ℕ} {f : S → Prog (Turn S A)} {d : A} {x : S} {s : List ℕ} {from : Reader} {left : ℕ} → left < n
+pub loop-start : {S A : Type 0} {n : ℕ} {f : S → Prog (Step S A)} {d : A} {x : S} {s : List ℕ} {from : Reader} {left : ℕ} → left < n
     → Loops n f d x s from x from left
 loop-start {n = n} h = record { fuel = n; enough = h; rest = f-start }
 
-pub loop-suc : {S A : Type 0} (n m : ℕ) (f : S → Prog (Turn S A)) (d : A) (x : S) (s : List ℕ) (a : ℕ) → n ≡ suc m
-    → run (loop n f d x) s a ≡ run (turn (loop m f d) (run (f x) s a .value)) s (run (f x) s a .at)
+pub loop-suc : {S A : Type 0} (n m : ℕ) (f : S → Prog (Step S A)) (d : A) (x : S) (s : List ℕ) (a : ℕ) → n ≡ suc m
+    → run (loop n f d x) s a ≡ run (continueWith (loop m f d) (run (f x) s a .value)) s (run (f x) s a .at)
 unfolding loop
-loop-suc n m f d x s a h = rw h (run-bind (f x) (turn (loop m f d)) s a)
+loop-suc n m f d x s a h = rw h (run-bind (f x) (continueWith (loop m f d)) s a)
 
 -- behind a turn
-f-turn : {S A : Type 0} {p : Prog A} (n m : ℕ) (f : S → Prog (Turn S A)) (d : A) {x : S} {s : List ℕ} {from mid to : Reader} {t : Turn S A}
+f-step : {S A : Type 0} {p : Prog A} (n m : ℕ) (f : S → Prog (Step S A)) (d : A) {x : S} {s : List ℕ} {from mid to : Reader} {t : Step S A}
     → n ≡ suc m
-    → Follows p s from (loop n f d x) mid → Runs (f x) s mid t to → Follows p s from (turn (loop m f d) t) to
+    → Follows p s from (loop n f d x) mid → Runs (f x) s mid t to → Follows p s from (continueWith (loop m f d) t) to
 unfolding loop
-f-turn n m f d h l r = f-call (turn (loop m f d)) (rw h at l) r
+f-step n m f d h l r = f-call (continueWith (loop m f d)) (rw h at l) r
 
-pub loop-on : {S A : Type 0} {n : ℕ} {f : S → Prog (Turn S A)} {d : A} {x₀ : S} {s : List ℕ} {from₀ : Reader} {x : S} {from : Reader}
+pub loop-on : {S A : Type 0} {n : ℕ} {f : S → Prog (Step S A)} {d : A} {x₀ : S} {s : List ℕ} {from₀ : Reader} {x : S} {from : Reader}
     {left : ℕ} {y : S} {to : Reader} {less : ℕ}
-    → Loops n f d x₀ s from₀ x from left → Runs (f x) s from (again y) to → less < left → Loops n f d x₀ s from₀ y to less
+    → Loops n f d x₀ s from₀ x from left → Runs (f x) s from (continue y) to → less < left → Loops n f d x₀ s from₀ y to less
 loop-on {f = f} {d} l r h =
-    record { fuel = l .fuel - 1; enough = omega arith; rest = f-turn (l .fuel) (l .fuel - 1) f d (omega arith) (l .rest) r }
+    record { fuel = l .fuel - 1; enough = omega arith; rest = f-step (l .fuel) (l .fuel - 1) f d (omega arith) (l .rest) r }
 
-pub loop-end : {S A : Type 0} {n : ℕ} {f : S → Prog (Turn S A)} {d : A} {x₀ : S} {s : List ℕ} {from₀ : Reader} {x : S} {from : Reader} {left : ℕ}
-    {v : A} {to : Reader} → Loops n f d x₀ s from₀ x from left → Runs (f x) s from (stop v) to → Runs (loop n f d x₀) s from₀ v to
-loop-end {f = f} {d} l r = f-end (f-turn (l .fuel) (l .fuel - 1) f d (omega arith) (l .rest) r) r-done
+pub loop-end : {S A : Type 0} {n : ℕ} {f : S → Prog (Step S A)} {d : A} {x₀ : S} {s : List ℕ} {from₀ : Reader} {x : S} {from : Reader} {left : ℕ}
+    {v : A} {to : Reader} → Loops n f d x₀ s from₀ x from left → Runs (f x) s from (finish v) to → Runs (loop n f d x₀) s from₀ v to
+loop-end {f = f} {d} l r = f-end (f-step (l .fuel) (l .fuel - 1) f d (omega arith) (l .rest) r) r-done
 
 -- a search whose first start code ends it
 pub at-find : (c : ℤ) {k : ℤ} {s : List ℕ} {a e : ℕ} → found s a ≡ record { code = k; at = e } → (eqZ k c || eqZ k (negsuc 0)) ≡ true
     → RunsAt (findStartCode c) s a k e
-unfolding findStartCode findTurn
+unfolding findStartCode findStep
 at-find c {s = s} {a} {e} q h =
     r-at {from = readerAt a} {to = readerAt e} (loop-end {left = 0} (loop-start (omega arith)) (r-call _ (is-start q) (r-yes _ h r-done)))
 

@@ -23,12 +23,12 @@ abbrev pub has : List ℕ → ℕ → ℕ → Bool
 has s a n = leb n (length s * 8 - a)
 
 -- RULES 1.5: what a read of n bits at a gives: their value, or 0 where fewer are left
-unfoldable pub got : List ℕ → ℕ → ℕ → ℕ
-got s a n = cond (has s a n) (bitsAt s a n) 0
+unfoldable pub readAt : List ℕ → ℕ → ℕ → ℕ
+readAt s a n = cond (has s a n) (bitsAt s a n) 0
 
 -- RULES 1.5, 1.6: where a read or a skip of n bits at a ends: n bits on, or at a where fewer are left
-unfoldable pub next : List ℕ → ℕ → ℕ → ℕ
-next s a n = cond (has s a n) (a + n) a
+unfoldable pub afterRead : List ℕ → ℕ → ℕ → ℕ
+afterRead s a n = cond (has s a n) (a + n) a
 
 -- RULES 1.7: the byte at which the next byte boundary from the place a on lies
 abbrev pub boundary : ℕ → ℕ

@@ -4,8 +4,8 @@ use mathlib.Core.Bool.{Bool, false, cond, not, _&&_, _||_}
 use mathlib.Core.List.{List}
 use lib.Dec.{leb, eqb}
 use lib.IntN.{ℤ, pos, negsuc}
-use Rattle.laws.specs.Turns.{Turn, again, stop}
-use Rattle.bits.specs.Bits.{has, got, next, found}
+use Rattle.laws.specs.Loops.{Step, continue, finish}
+use Rattle.bits.specs.Bits.{has, readAt, afterRead, found}
 
 -- RULES part 1: a program that reads, and gives an A
 pub data Prog (A : Type 0) : Type 0 where
@@ -23,17 +23,17 @@ pub record Out (A : Type 0) : Type 0 where
 -- a program's run on the stream s from the place a on
 unfoldable pub run : {A : Type 0} → Prog A → List ℕ → ℕ → Out A
 run (done x) s a = record { value = x; at = a }
-run (read n k) s a = run (k (got s a n)) s (next s a n)
-run (skip n p) s a = run p s (next s a n)
-run (look n k) s a = run (k (has s a n) (got s a n)) s a
+run (read n k) s a = run (k (readAt s a n)) s (afterRead s a n)
+run (skip n p) s a = run p s (afterRead s a n)
+run (look n k) s a = run (k (has s a n) (readAt s a n)) s a
 run (start k) s a = run (k (found s a .code)) s (found s a .at)
 
 -- whether some read or skip of the run was refused bits
 unfoldable pub short : {A : Type 0} → Prog A → List ℕ → ℕ → Bool
 short (done x) s a = false
-short (read n k) s a = not (has s a n) || short (k (got s a n)) s (next s a n)
-short (skip n p) s a = not (has s a n) || short p s (next s a n)
-short (look n k) s a = short (k (has s a n) (got s a n)) s a
+short (read n k) s a = not (has s a n) || short (k (readAt s a n)) s (afterRead s a n)
+short (skip n p) s a = not (has s a n) || short p s (afterRead s a n)
+short (look n k) s a = short (k (has s a n) (readAt s a n)) s a
 short (start k) s a = short (k (found s a .code)) s (found s a .at)
 
 -- first p, then f of what p gives
@@ -82,17 +82,17 @@ unfoldable pub forBelow : {A : Type 0} → ℕ → (ℕ → A → Prog A) → A 
 forBelow zero f x = done x
 forBelow (suc n) f x = bind (forBelow n f x) (f n)
 
--- a turn goes on by k, or gives what it stopped with
-abbrev pub turn : {S A : Type 0} → (S → Prog A) → Turn S A → Prog A
-turn k (again x) = k x
-turn k (stop v) = done v
+-- a step continues by k, or gives what it finished with
+abbrev pub continueWith : {S A : Type 0} → (S → Prog A) → Step S A → Prog A
+continueWith k (continue x) = k x
+continueWith k (finish v) = done v
 
--- turns of f until one stops; with its fuel spent it gives d
-unfoldable pub loop : {S A : Type 0} → ℕ → (S → Prog (Turn S A)) → A → S → Prog A
+-- steps of f until one finishes; with its fuel spent it gives d
+unfoldable pub loop : {S A : Type 0} → ℕ → (S → Prog (Step S A)) → A → S → Prog A
 loop zero f d x = done d
-loop (suc n) f d x = bind (f x) (turn (loop n f d))
+loop (suc n) f d x = bind (f x) (continueWith (loop n f d))
 
--- more turns than the longest stream has bits
+-- more steps than the longest stream has bits
 abbrev pub many : ℕ
 many = 134217729
 
@@ -104,11 +104,11 @@ eqZ (negsuc m) (pos n) = false
 eqZ (negsuc m) (negsuc n) = eqb m n
 
 -- RULES 1.11: one start code, which ends the search if it is c or -1
-unfoldable pub findTurn : ℤ → Unit {0} → Prog (Turn (Unit {0}) ℤ)
-findTurn c x = do
+unfoldable pub findStep : ℤ → Unit {0} → Prog (Step (Unit {0}) ℤ)
+findStep c x = do
   k ← nextStartCode
-  if eqZ k c || eqZ k (negsuc 0) then done (stop k) else done (again tt)
+  if eqZ k c || eqZ k (negsuc 0) then done (finish k) else done (continue tt)
 
 -- RULES 1.11: start codes are passed over up to the first that is c; -1 where there is none
 unfoldable pub findStartCode : ℤ → Prog ℤ
-findStartCode c = loop many (findTurn c) (negsuc 0) tt
+findStartCode c = loop many (findStep c) (negsuc 0) tt

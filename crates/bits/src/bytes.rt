@@ -6,7 +6,7 @@ ghost use mathlib.Core.Path.{_≡_};
 ghost use Prim.Native.Nat.{_+_, _-_, _*_, _≤_};
 ghost use lib.ListN.{length};
 ghost use Rattle.bits.specs.Bits.{boundary, equalBytes, partAt, Within};
-ghost use Rattle.bits.specs.Runs.{Inside, placeOf};
+ghost use Rattle.bits.specs.Runs.{Inside, positionOf};
 
 pub struct SkippedBytes {
     pub reader: Reader,
@@ -29,9 +29,9 @@ impl Reader {
     pub fn skip_bytes(self, s: &[u8], v: u8) -> SkippedBytes
         requires { ⌜ Inside (now s) self ⌝ }
         ensures { λ r. ⌜
-            r .count ≡ equalBytes (now (s .entry)) v (boundary (placeOf self)) (length (now (s .entry)) - boundary (placeOf self))
+            r .count ≡ equalBytes (now (s .entry)) v (boundary (positionOf self)) (length (now (s .entry)) - boundary (positionOf self))
             ⌝ }
-        ensures { λ r. ⌜ placeOf (r .reader) ≡ (boundary (placeOf self) + r .count) * 8 ⌝ }
+        ensures { λ r. ⌜ positionOf (r .reader) ≡ (boundary (positionOf self) + r .count) * 8 ⌝ }
         ensures { λ r. ⌜ Inside (now (s .entry)) (r .reader) ⌝ }
     {
         let from = self.align().tell().at.0;
@@ -59,7 +59,7 @@ impl Reader {
 
     // Where the count bytes from the byte of the place on stand, if they lie inside.
     pub fn peek_bytes(self, s: &[u8], count: usize) -> PeekedBytes
-        ensures { λ r. ⌜ (r .part ≡ partAt (now (s .entry)) (placeOf self) count) × (r .reader ≡ self) ⌝ }
+        ensures { λ r. ⌜ (r .part ≡ partAt (now (s .entry)) (positionOf self) count) × (r .reader ≡ self) ⌝ }
         ensures { λ r. ⌜ Within (r .part) (length (now (s .entry))) ⌝ }
     {
         let from = self.tell().at.0;

@@ -10,7 +10,7 @@ ghost use lib.Dec.{leb};
 ghost use Rattle.bits.specs.Bounds.{longestStream, lastPosition};
 ghost use Rattle.bits.specs.Bits.{bitsAt, has, hasBytes, boundary};
 ghost use Rattle.bits.specs.Programs.{bits, reads, skips, nonZero};
-ghost use Rattle.bits.specs.Runs.{Inside, Reading, placeOf, readerAt, onBy};
+ghost use Rattle.bits.specs.Runs.{Inside, Reading, positionOf, readerAt, advancedBy};
 
 // `at` is the Rust's `bit_index`.
 pub struct Reader {
@@ -94,7 +94,7 @@ impl Reader {
 
     // The place of the reader.
     pub fn position(self) -> BitPosition
-        ensures { λ r. ⌜ r ≡ record { 0 = placeOf self } ⌝ }
+        ensures { λ r. ⌜ r ≡ record { 0 = positionOf self } ⌝ }
     {
         self.at
     }
@@ -102,7 +102,7 @@ impl Reader {
     // Whether count more bits are there.
     pub fn has(self, s: &[u8], count: usize) -> Peeked
         requires { ⌜ length (now s) ≤ longestStream ⌝ }
-        ensures { λ r. ⌜ (r .value ≡ has (now (s .entry)) (placeOf self) count) × (r .reader ≡ self) ⌝ }
+        ensures { λ r. ⌜ (r .value ≡ has (now (s .entry)) (positionOf self) count) × (r .reader ≡ self) ⌝ }
     {
         let at = self.at.0;
         let end = s.len() * 8;
@@ -122,7 +122,7 @@ impl Reader {
     // Whether no bit is left.
     pub fn has_ended(self, s: &[u8]) -> Peeked
         requires { ⌜ length (now s) ≤ longestStream ⌝ }
-        ensures { λ r. ⌜ (r .value ≡ leb (length (now (s .entry)) * 8) (placeOf self)) × (r .reader ≡ self) ⌝ }
+        ensures { λ r. ⌜ (r .value ≡ leb (length (now (s .entry)) * 8) (positionOf self)) × (r .reader ≡ self) ⌝ }
     {
         let at = self.at.0;
         let end = s.len() * 8;
@@ -185,7 +185,7 @@ impl Reader {
 
     // Whether the byte of the place and the one behind it are there, so that eight bits are.
     pub fn has_eight(self, s: &[u8]) -> bool
-        ensures { λ r. ⌜ r ≡ hasBytes (now (s .entry)) (placeOf self) 2 ⌝ }
+        ensures { λ r. ⌜ r ≡ hasBytes (now (s .entry)) (positionOf self) 2 ⌝ }
     {
         let b = self.at.0 / 8;
         b + 2 <= s.len()
@@ -193,8 +193,8 @@ impl Reader {
 
     // The next eight bits, out of these two bytes, with no advance.
     pub fn next_eight(self, s: &[u8]) -> u32
-        requires { ⌜ placeOf self / 8 + 2 ≤ length (now s) ⌝ }
-        ensures { λ r. ⌜ r ≡ bitsAt (now (s .entry)) (placeOf self) 8 ⌝ }
+        requires { ⌜ positionOf self / 8 + 2 ≤ length (now s) ⌝ }
+        ensures { λ r. ⌜ r ≡ bitsAt (now (s .entry)) (positionOf self) 8 ⌝ }
     {
         let at = self.at.0;
         let b = at / 8;
@@ -203,9 +203,9 @@ impl Reader {
     }
 
     // count bits on, which are known to be there.
-    pub fn on(self, count: usize) -> Reader
-        requires { ⌜ (placeOf self ≤ lastPosition) × (count ≤ 32) ⌝ }
-        ensures { λ r. ⌜ r ≡ onBy count self ⌝ }
+    pub fn advanced_by(self, count: usize) -> Reader
+        requires { ⌜ (positionOf self ≤ lastPosition) × (count ≤ 32) ⌝ }
+        ensures { λ r. ⌜ r ≡ advancedBy count self ⌝ }
     {
         let at = self.at.0;
         Reader {
@@ -242,9 +242,9 @@ impl Reader {
 
     // To the next byte boundary.
     pub fn align(self) -> Reader
-        requires { ⌜ placeOf self ≤ lastPosition ⌝ }
-        ensures { λ r. ⌜ placeOf r ≡ boundary (placeOf self) * 8 ⌝ }
-        ensures { λ r. ⌜ placeOf r ≤ lastPosition ⌝ }
+        requires { ⌜ positionOf self ≤ lastPosition ⌝ }
+        ensures { λ r. ⌜ positionOf r ≡ boundary (positionOf self) * 8 ⌝ }
+        ensures { λ r. ⌜ positionOf r ≤ lastPosition ⌝ }
     {
         Reader {
             at: bit_of(byte_of(BitPosition(self.at.0 + 7))),
@@ -253,7 +253,7 @@ impl Reader {
 
     // The byte of the place.
     pub fn tell(self) -> Told
-        ensures { λ r. ⌜ (r .at .0 ≡ placeOf self / 8) × (r .reader ≡ self) ⌝ }
+        ensures { λ r. ⌜ (r .at .0 ≡ positionOf self / 8) × (r .reader ≡ self) ⌝ }
     {
         let at = byte_of(self.at);
         Told {
@@ -265,8 +265,8 @@ impl Reader {
     // To the beginning of a byte.
     pub fn seek(self, to: BytePosition) -> Reader
         requires { ⌜ to .0 ≤ longestStream ⌝ }
-        ensures { λ r. ⌜ placeOf r ≡ to .0 * 8 ⌝ }
-        ensures { λ r. ⌜ placeOf r ≤ lastPosition ⌝ }
+        ensures { λ r. ⌜ positionOf r ≡ to .0 * 8 ⌝ }
+        ensures { λ r. ⌜ positionOf r ≤ lastPosition ⌝ }
     {
         Reader { at: bit_of(to) }
     }

@@ -8,7 +8,7 @@ ghost use lib.ListN.{length};
 ghost use lib.IntN.{natAbs};
 ghost use Rattle.bits.specs.Bits.{codePrefix};
 ghost use Rattle.bits.specs.Programs.{nextStartCode, findStartCode, run};
-ghost use Rattle.bits.specs.Runs.{Inside, Reading, placeOf};
+ghost use Rattle.bits.specs.Runs.{Inside, Reading, positionOf};
 
 // code: the byte behind 00 00 01, or -1.
 pub struct StartCode {
@@ -74,7 +74,7 @@ impl Reader {
     // Whether the start code `code` lies ahead: the code, or -1, with no advance.
     pub fn has_start_code(self, s: &[u8], code: i32) -> StartCode
         requires { ⌜ Inside (now s) self ⌝ }
-        ensures { λ r. ⌜ (r .code ≡ run (findStartCode code) (now (s .entry)) (placeOf self) .value) × (r .reader ≡ self) ⌝ }
+        ensures { λ r. ⌜ (r .code ≡ run (findStartCode code) (now (s .entry)) (positionOf self) .value) × (r .reader ≡ self) ⌝ }
         ensures { λ r. ⌜ natAbs (r .code) ≤ 255 ⌝ }
     {
         let found = self.find_start_code(s, code);

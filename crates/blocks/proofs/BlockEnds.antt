@@ -18,24 +18,24 @@ use Rattle.codes.specs.Lent.{matrixOf}
 use Rattle.coefficients.specs.declared.block.BlockEnd.{BlockEnd}
 use Rattle.coefficients.specs.declared.block.BlockEnd.the-variants.{Whole, Dropped, Outside}
 use Rattle.coefficients.specs.declared.quantiser.Quantiser.{Quantiser}
-use Rattle.coefficients.specs.Blocks.{Filled, Read, block, leftOver}
+use Rattle.coefficients.specs.Blocks.{Filled, BlockRead, block, blockDataAfter}
 use Rattle.coefficients.proofs.block.BlockEnd.{the-type}
 use Rattle.coefficients.proofs.Kept.{Kept, block-gives}
 use Rattle.picture_state.specs.declared.types.Context.{Context}
 use Rattle.picture_state.specs.declared.types.Slice.{Slice}
-use Rattle.picture_state.specs.State.{world}
-use Rattle.picture_state.specs.Ways.{on, out}
+use Rattle.picture_state.specs.State.{sliceState}
+use Rattle.picture_state.specs.Result.{ok, error}
 use Rattle.blocks.specs.Blocks.{predictorOf, predictorAs, quantiserOf, written, blockEnd, matrixFor, oneBlock}
-use Rattle.picture_state.specs.Contracts.{matricesIn, Ready, Went}
+use Rattle.picture_state.specs.Contracts.{matricesIn, MacroblockInvariant, RefinesAtMacroblock}
 use Rattle.blocks.specs.Contracts.{blockOf, storeAfter}
-use Rattle.picture_state.proofs.Ways.{r-plain}
+use Rattle.picture_state.proofs.Results.{r-lift}
 use Rattle.blocks.proofs.Ready.{ready-block, ready-outside}
 
 -- a block with an end other than the first of the three is not written, and leaves its coefficients over
 pub not-whole : (g : Context) (q : Quantiser) (number address : ℕ) (f : Filled) (p : ℤ) (e : BlockEnd) (l : List ℕ)
-    → OneOf (1 ∷ 2 ∷ []) (tagOf the-type e) → let r : Read = record { filled = f; predictor = p; end = e } in
-    (l ≡ storeAfter g q number address r l) × (f .coefficients ≡ leftOver q r)
-unfolding storeAfter leftOver
+    → OneOf (1 ∷ 2 ∷ []) (tagOf the-type e) → let r : BlockRead = record { filled = f; predictor = p; end = e } in
+    (l ≡ storeAfter g q number address r l) × (f .coefficients ≡ blockDataAfter q r)
+unfolding storeAfter blockDataAfter
 not-whole g q number address f p Whole l k = let z : ⊥ = ⊎-elim (λ h. omega arith) (λ h. omega arith) k in absurd z
 not-whole g q number address f p Dropped l k = (refl, refl)
 not-whole g q number address f p Outside l k = (refl, refl)
@@ -50,26 +50,26 @@ module _ (g : Context) (t : List ℕ) (intra : Bool) (number : ℕ) (x : Slice) 
   q = quantiserOf g intra x
 
   -- the end of a block other than one outside
-  on-end : (r : Read) → OneOf (0 ∷ 1 ∷ []) (tagOf the-type (r .end))
-      → blockEnd g q number (world x left store) r
-      ≡ on (world (predictorAs number (r .predictor) x) (leftOver q r) (storeAfter g q number (natAbs (x .«macroblock_address»)) r store))
+  on-end : (r : BlockRead) → OneOf (0 ∷ 1 ∷ []) (tagOf the-type (r .end))
+      → blockEnd g q number (sliceState x left store) r
+      ≡ ok (sliceState (predictorAs number (r .predictor) x) (blockDataAfter q r) (storeAfter g q number (natAbs (x .«macroblock_address»)) r store))
   unfolding blockEnd storeAfter written
   on-end r k = go (r .end) k
     where
       go : (e : BlockEnd) → OneOf (0 ∷ 1 ∷ []) (tagOf the-type e)
-          → let r₁ : Read = record { filled = r .filled; predictor = r .predictor; end = e } in
-          blockEnd g q number (world x left store) r₁
-          ≡ on (world (predictorAs number (r .predictor) x) (leftOver q r₁) (storeAfter g q number (natAbs (x .«macroblock_address»)) r₁ store))
+          → let r₁ : BlockRead = record { filled = r .filled; predictor = r .predictor; end = e } in
+          blockEnd g q number (sliceState x left store) r₁
+          ≡ ok (sliceState (predictorAs number (r .predictor) x) (blockDataAfter q r₁) (storeAfter g q number (natAbs (x .«macroblock_address»)) r₁ store))
       go Whole k = refl
       go Dropped k = refl
       go Outside k = let z : ⊥ = ⊎-elim (λ h. omega arith) (λ h. omega arith) k in absurd z
 
-  out-end : (r : Read) → r .end ≡ Outside → blockEnd g q number (world x left store) r ≡ out 8 store
+  out-end : (r : BlockRead) → r .end ≡ Outside → blockEnd g q number (sliceState x left store) r ≡ error 8 store
   unfolding blockEnd
   out-end r k = rw k
 
   -- a block that was read, with the predictor p
-  module _ {s : List ℕ} {from to : Reader} {r : Read} {q₁ : Quantiser} {p : ℤ} (ready : Ready g s from x left store) (few : number < 6)
+  module _ {s : List ℕ} {from to : Reader} {r : BlockRead} {q₁ : Quantiser} {p : ℤ} (ready : MacroblockInvariant g s from x left store) (few : number < 6)
       (same : q₁ ≡ q) (is : p ≡ getD (x .«dc_predictor») (predictorOf number) (pos 0))
       (reads : Reading (block q₁ (matrixOf t (q₁ .intra)) (ltb number 4) p left) s from r to) where
     pub kept : Kept r
@@ -83,18 +83,20 @@ module _ (g : Context) (t : List ℕ) (intra : Bool) (number : ℕ) (x : Slice) 
     block-of = rw (matrix-for t intra, ← is) (rw same at (reads .runs))
 
     pub block-out : r .end ≡ Outside
-        → Went (oneBlock g (matricesIn t) intra number (world x left store)) g s from (record { reader = to; state = x; stop = 8 }) (r .filled .coefficients)
+        → RefinesAtMacroblock (oneBlock g (matricesIn t) intra number (sliceState x left store)) g s from (record { reader = to; state = x; stop = 8 })
+        (r .filled .coefficients)
         store
     unfolding oneBlock
-    block-out k = record { runs = r-plain _ block-of (rw (out-end r k) r-done); ready = ready-outside ready (reads .inside) (kept .bounded) }
+    block-out k = record { runs = r-lift _ block-of (rw (out-end r k) r-done); ready = ready-outside ready (reads .inside) (kept .bounded) }
 
     pub block-on : {store₁ : List ℕ} {left₁ : List ℤ} {y : Slice} → OneOf (0 ∷ 1 ∷ []) (tagOf the-type (r .end))
-        → store₁ ≡ storeAfter g q₁ number (natAbs (x .«macroblock_address»)) r store → left₁ ≡ leftOver q₁ r
+        → store₁ ≡ storeAfter g q₁ number (natAbs (x .«macroblock_address»)) r store → left₁ ≡ blockDataAfter q₁ r
         → y ≡ predictorAs number (r .predictor) x → length store₁ ≡ length store
-        → Went (oneBlock g (matricesIn t) intra number (world x left store)) g s from (record { reader = to; state = y; stop = 0 }) left₁ store₁
+        → RefinesAtMacroblock (oneBlock g (matricesIn t) intra number (sliceState x left store)) g s from (record { reader = to; state = y; stop = 0 }) left₁
+        store₁
     unfolding oneBlock
     block-on k u l y e =
         record {
-          runs = r-plain _ block-of (rw (on-end r k, u, l, y, same) r-done);
+          runs = r-lift _ block-of (rw (on-end r k, u, l, y, same) r-done);
           ready = ready-block ready q₁ number r (reads .inside) (kept .bounded) (kept .predictor) y l e;
         }

@@ -10,7 +10,7 @@ use Rattle.coefficients.specs.declared.quantiser.Quantiser.{Quantiser}
 use Rattle.coefficients.specs.Blocks.{Filled, firstOnly}
 use Rattle.prediction.specs.Predict.{macroblockAt, address}
 use Rattle.prediction.specs.Planes.{planeOf, planeLength, planeStart}
-use Rattle.prediction.specs.Writers.{setConst, overwrite, addConst, addBlock, blockWidth, blockPlace}
+use Rattle.prediction.specs.Writers.{setConst, overwrite, addConst, addBlock, blockWidth, blockAddress}
 use Rattle.picture_state.specs.declared.types.Context.{Context}
 use Rattle.blocks.specs.Blocks.{results, written}
 
@@ -27,5 +27,5 @@ written-length g q number address f l =
     let start = planeStart (g .stores .cur) (planeOf number) (g .sizes .«mb_size») in
     let size = planeLength (planeOf number) (g .sizes .«mb_size») in
     let m = macroblockAt (g .sizes .«mb_width») (g .sizes .«mb_height») address in
-    same-len-mid start size l (results q f (blockPlace m number) (blockWidth m number) (midOf start size l))
-    (results-length q f (blockPlace m number) (blockWidth m number) (midOf start size l))
+    same-len-mid start size l (results q f (blockAddress m number) (blockWidth m number) (midOf start size l))
+    (results-length q f (blockAddress m number) (blockWidth m number) (midOf start size l))

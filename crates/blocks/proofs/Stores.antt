@@ -9,24 +9,24 @@ use lib.ListN.{length}
 use Rattle.laws.proofs.Lists.{length-mid}
 use Rattle.coefficients.specs.declared.quantiser.Quantiser.{Quantiser}
 use Rattle.coefficients.specs.Blocks.{Filled}
-use Rattle.prediction.specs.declared.place.Macroblock.{Macroblock}
+use Rattle.prediction.specs.declared.position.Macroblock.{Macroblock}
 use Rattle.prediction.specs.declared.planes.Plane.{Plane}
 use Rattle.prediction.specs.declared.planes.Plane.the-variants.{Y, Cr, Cb}
 use Rattle.prediction.specs.Predict.{macroblockAt}
 use Rattle.prediction.specs.Planes.{macroblocks, planeOf, planeLength, planeStart, storesBytes}
-use Rattle.prediction.specs.Writers.{blockWidth, blockPlace}
+use Rattle.prediction.specs.Writers.{blockWidth, blockAddress}
 use Rattle.prediction.proofs.Macroblocks.{store-most}
 use Rattle.blocks.specs.Blocks.{results, written}
 use Rattle.picture_state.specs.declared.types.Context.{Context}
 use Rattle.picture_state.proofs.Ready.{size-most}
-use Rattle.picture_state.specs.Contracts.{Held}
+use Rattle.picture_state.specs.Contracts.{StoreFits}
 
 plane-end : (k n : ℕ) (p : Plane) → k < 3 → planeStart k p n + planeLength p n ≤ storesBytes n
 plane-end k n Y h = omega (arith, store-most k n h)
 plane-end k n Cr h = omega (arith, store-most k n h)
 plane-end k n Cb h = omega (arith, store-most k n h)
 
-module _ {g : Context} {l : List ℕ} (k : Held g l) where
+module _ {g : Context} {l : List ℕ} (k : StoreFits g l) where
   -- a plane of the store that is written, as the code has its start and its length
   module _ (p : Plane) {start size : ℕ} (is-start : start ≡ planeStart (g .stores .cur) p (g .sizes .«mb_size»))
       (is-size : size ≡ planeLength p (g .sizes .«mb_size»)) where
@@ -47,7 +47,7 @@ module _ {g : Context} {l : List ℕ} (k : Held g l) where
         → di + 7 * dw + 8 ≤ length (midOf start (start + size - start) l)
     block-in-part h = rw (part-length (planeOf number) is-start is-size, k .size, is-width, is-macroblock) (rw is-macroblock at h)
 
-    pub in-store : di ≡ blockPlace m number → (q : Quantiser) (f : Filled) {part : List ℕ}
+    pub in-store : di ≡ blockAddress m number → (q : Quantiser) (f : Filled) {part : List ℕ}
         → part ≡ results q f di dw (midOf start (start + size - start) l)
         → putMid start (start + size - start) l part ≡ written g q number address f l
     unfolding written

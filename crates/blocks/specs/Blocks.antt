@@ -10,17 +10,17 @@ use Rattle.laws.specs.Signed.{clamp255}
 use Rattle.bits.specs.Programs.{Prog, if_then_else_}
 use Rattle.coefficients.specs.declared.quantiser.Quantiser.{Quantiser}
 use Rattle.coefficients.specs.Dequantise.{quantiser}
-use Rattle.coefficients.specs.Blocks.{Filled, Read, block, leftOver, firstOnly}
+use Rattle.coefficients.specs.Blocks.{Filled, BlockRead, block, blockDataAfter, firstOnly}
 use Rattle.coefficients.specs.declared.block.BlockEnd.the-variants.{Whole, Dropped, Outside}
 use Rattle.transform.specs.Idct.{idct, dcOnly}
 use Rattle.prediction.specs.Predict.{macroblockAt}
 use Rattle.prediction.specs.Planes.{planeOf, planeLength, planeStart}
-use Rattle.prediction.specs.Writers.{setConst, overwrite, addConst, addBlock, blockWidth, blockPlace}
+use Rattle.prediction.specs.Writers.{setConst, overwrite, addConst, addBlock, blockWidth, blockAddress}
 use Rattle.picture_state.specs.declared.types.Context.{Context}
 use Rattle.picture_state.specs.declared.types.Matrices.{Matrices}
 use Rattle.picture_state.specs.declared.types.Slice.{Slice}
-use Rattle.picture_state.specs.State.{World, world, predictorsAs}
-use Rattle.picture_state.specs.Ways.{Way, on, out, leave, onward, plain, step, give, forBelow, _>>=_, _>>_}
+use Rattle.picture_state.specs.State.{SliceState, sliceState, predictorsAs}
+use Rattle.picture_state.specs.Result.{Result, ok, error, ifOk, bindResult, lift, fromResult, pure, forBelow, _>>=_, _>>_}
 use Rattle.picture_state.specs.Flags.{flag}
 
 -- RULES 3.1: the place of a block's DC predictor: 0 for Y, 1 for Cb, 2 for Cr
@@ -41,7 +41,7 @@ written g q number address f l =
     let p = planeOf number in
     let start = planeStart (g .stores .cur) p (g .sizes .«mb_size») in
     let size = planeLength p (g .sizes .«mb_size») in
-    putMid start size l (results q f (blockPlace m number) (blockWidth m number) (midOf start size l))
+    putMid start size l (results q f (blockAddress m number) (blockWidth m number) (midOf start size l))
 
 -- RULES 3.3: the predictor behind the block with this number
 abbrev pub predictorAs : ℕ → ℤ → Slice → Slice
@@ -49,12 +49,12 @@ predictorAs number p s = predictorsAs (set (s .«dc_predictor») (predictorOf nu
 
 -- RULES Q8, 3.3, 3.9, 3.12: predictor, left-over coefficients and store behind a block. A DC value outside ends the call with 8; a dropped block
 -- writes nothing
-unfoldable pub blockEnd : Context → Quantiser → ℕ → World → Read → Way World
+unfoldable pub blockEnd : Context → Quantiser → ℕ → SliceState → BlockRead → Result SliceState
 blockEnd g q number w r = elim (r .end) [
-  | Whole ↦ on (world (predictorAs number (r .predictor) (w .slice)) (leftOver q r)
+  | Whole ↦ ok (sliceState (predictorAs number (r .predictor) (w .slice)) (blockDataAfter q r)
       (written g q number (natAbs (w .slice .«macroblock_address»)) (r .filled) (w .store)))
-  | Dropped ↦ on (world (predictorAs number (r .predictor) (w .slice)) (leftOver q r) (w .store))
-  | Outside ↦ out 8 (w .store)
+  | Dropped ↦ ok (sliceState (predictorAs number (r .predictor) (w .slice)) (blockDataAfter q r) (w .store))
+  | Outside ↦ error 8 (w .store)
 ]
 
 -- RULES 3.8: the matrix of blocks that are intra or not
@@ -66,17 +66,17 @@ abbrev pub quantiserOf : Context → Bool → Slice → Quantiser
 quantiserOf g intra s = quantiser intra (s .«quantizer_scale»)
 
 -- the block with this number
-unfoldable pub oneBlock : Context → Matrices → Bool → ℕ → World → Prog (Way World)
+unfoldable pub oneBlock : Context → Matrices → Bool → ℕ → SliceState → Prog (Result SliceState)
 oneBlock g m intra number w = do
   let q = quantiserOf g intra (w .slice)
   let predictor = getD (w .slice .«dc_predictor») (predictorOf number) (pos 0)
-  r ← plain (block q (matrixFor m intra) (ltb number 4) predictor (w .«block_data»))
-  step (blockEnd g q number w r)
+  r ← lift (block q (matrixFor m intra) (ltb number 4) predictor (w .«block_data»))
+  fromResult (blockEnd g q number w r)
 
 -- RULES 7.16: the block with this number, if the pattern has its bit: that of block 0 weighs 32, that of block 5 weighs 1
-abbrev pub patternBlock : Context → Matrices → Bool → ℕ → ℕ → World → Prog (Way World)
-patternBlock g m intra pattern number w = if flag pattern (2 ^ (5 - number)) then oneBlock g m intra number w else give w
+abbrev pub patternBlock : Context → Matrices → Bool → ℕ → ℕ → SliceState → Prog (Result SliceState)
+patternBlock g m intra pattern number w = if flag pattern (2 ^ (5 - number)) then oneBlock g m intra number w else pure w
 
 -- RULES 7.16 (11172-2, 2.4.2.7): the blocks that the pattern names, 0 to 5 in this order
-unfoldable pub blocks : Context → Matrices → Bool → ℕ → World → Prog (Way World)
+unfoldable pub blocks : Context → Matrices → Bool → ℕ → SliceState → Prog (Result SliceState)
 blocks g m intra pattern w = forBelow 6 (patternBlock g m intra pattern) w

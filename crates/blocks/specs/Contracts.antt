@@ -7,7 +7,7 @@ use lib.IntN.{ℤ, pos}
 use lib.ListN.{getD}
 use Rattle.bits.specs.Programs.{Prog}
 use Rattle.coefficients.specs.declared.quantiser.Quantiser.{Quantiser}
-use Rattle.coefficients.specs.Blocks.{Read, block}
+use Rattle.coefficients.specs.Blocks.{BlockRead, block}
 use Rattle.coefficients.specs.declared.block.BlockEnd.the-variants.{Whole, Dropped, Outside}
 use Rattle.picture_state.specs.declared.types.Context.{Context}
 use Rattle.picture_state.specs.declared.types.Matrices.{Matrices}
@@ -15,10 +15,10 @@ use Rattle.picture_state.specs.declared.types.Slice.{Slice}
 use Rattle.blocks.specs.Blocks.{predictorOf, quantiserOf, matrixFor, written}
 
 -- a block of the slice's macroblock, as it is read
-abbrev pub blockOf : Context → Matrices → Bool → ℕ → Slice → List ℤ → Prog Read
+abbrev pub blockOf : Context → Matrices → Bool → ℕ → Slice → List ℤ → Prog BlockRead
 blockOf g m intra number s left =
     block (quantiserOf g intra s) (matrixFor m intra) (ltb number 4) (getD (s .«dc_predictor») (predictorOf number) (pos 0)) left
 
 -- RULES 3.9, 6.13: the store after a block that was read; only a whole one is written
-unfoldable pub storeAfter : Context → Quantiser → ℕ → ℕ → Read → List ℕ → List ℕ
+unfoldable pub storeAfter : Context → Quantiser → ℕ → ℕ → BlockRead → List ℕ → List ℕ
 storeAfter g q number address r l = elim (r .end) [ Whole ↦ written g q number address (r .filled) l | Dropped ↦ l | Outside ↦ l ]

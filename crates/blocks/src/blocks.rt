@@ -12,9 +12,9 @@ use picture_state::types::Slice;
 ghost use mathlib.Core.Path.{_≡_};
 ghost use Prim.Native.Nat.{_-_, _^_, _<_};
 ghost use Rattle.codes.specs.Lent.{Lent};
-ghost use Rattle.picture_state.specs.State.{world};
+ghost use Rattle.picture_state.specs.State.{sliceState};
 ghost use Rattle.blocks.specs.Blocks.{predictorOf, predictorAs, quantiserOf, oneBlock, patternBlock, blocks};
-ghost use Rattle.picture_state.specs.Contracts.{matricesIn, Ready, Went};
+ghost use Rattle.picture_state.specs.Contracts.{matricesIn, MacroblockInvariant, RefinesAtMacroblock};
 
 // What the blocks of a macroblock have in common: the picture's context, whether they are intra, and the pattern that names those there are.
 pub struct CodedBlocks {
@@ -66,11 +66,12 @@ fn one_block(
     state: Slice,
     number: usize,
 ) -> Progress
-    requires { ⌜ Ready (coded .context) (now s) reader state (now values) (now store) ⌝ }
+    requires { ⌜ MacroblockInvariant (coded .context) (now s) reader state (now values) (now store) ⌝ }
     requires { ⌜ Lent (now tables) ⌝ }
     requires { ⌜ number < 6 ⌝ }
     ensures { λ r. ⌜
-        Went (oneBlock (coded .context) (matricesIn (now (tables .entry))) (coded .intra) number (world state (now (values .entry)) (now (store .entry))))
+        RefinesAtMacroblock
+            (oneBlock (coded .context) (matricesIn (now (tables .entry))) (coded .intra) number (sliceState state (now (values .entry)) (now (store .entry))))
         (coded .context) (now (s .entry)) reader r (now (values .exit)) (now (store .exit))
         ⌝ }
 {
@@ -117,12 +118,12 @@ fn block_of_pattern(
     state: Slice,
     number: usize,
 ) -> Progress
-    requires { ⌜ Ready (coded .context) (now s) reader state (now values) (now store) ⌝ }
+    requires { ⌜ MacroblockInvariant (coded .context) (now s) reader state (now values) (now store) ⌝ }
     requires { ⌜ Lent (now tables) ⌝ }
     requires { ⌜ number < 6 ⌝ }
     ensures { λ r. ⌜
-        Went (patternBlock (coded .context) (matricesIn (now (tables .entry))) (coded .intra) (coded .pattern) number
-        (world state (now (values .entry)) (now (store .entry))))
+        RefinesAtMacroblock (patternBlock (coded .context) (matricesIn (now (tables .entry))) (coded .intra) (coded .pattern) number
+        (sliceState state (now (values .entry)) (now (store .entry))))
         (coded .context) (now (s .entry)) reader r (now (values .exit)) (now (store .exit))
         ⌝ }
 {
@@ -146,11 +147,11 @@ pub fn read_blocks(
     coded: CodedBlocks,
     before: Slice,
 ) -> Progress
-    requires { ⌜ Ready (coded .context) (now s) reader before (now values) (now store) ⌝ }
+    requires { ⌜ MacroblockInvariant (coded .context) (now s) reader before (now values) (now store) ⌝ }
     requires { ⌜ Lent (now tables) ⌝ }
     ensures { λ r. ⌜
-        Went (blocks (coded .context) (matricesIn (now (tables .entry))) (coded .intra) (coded .pattern)
-        (world before (now (values .entry)) (now (store .entry))))
+        RefinesAtMacroblock (blocks (coded .context) (matricesIn (now (tables .entry))) (coded .intra) (coded .pattern)
+        (sliceState before (now (values .entry)) (now (store .entry))))
         (coded .context) (now (s .entry)) reader r (now (values .exit)) (now (store .exit))
         ⌝ }
 {

@@ -1,15 +1,15 @@
 // RULES 6.12, 6.13: a block that was read, in the store.
 use coefficients::block::Block;
 use coefficients::block::BlockEnd;
-use coefficients::block::left_over;
+use coefficients::block::block_data_after;
 use coefficients::quantiser::Quantiser;
 use laws::clamp_u8;
 use picture_state::types::Context;
-use prediction::place::macroblock_at;
+use prediction::position::macroblock_at;
 use prediction::planes::plane_length;
 use prediction::planes::plane_of;
 use prediction::planes::plane_start;
-use prediction::writers::block_place;
+use prediction::writers::block_address;
 use prediction::writers::block_set_add;
 use prediction::writers::block_set_add_const;
 use prediction::writers::block_set_const;
@@ -22,9 +22,9 @@ ghost use Prim.Native.Nat.{_+_, _*_, _≤_};
 ghost use lib.IntN.{natAbs};
 ghost use lib.ListN.{length};
 ghost use Rattle.codes.specs.Matrices.{Bounded};
-ghost use Rattle.coefficients.specs.Blocks.{filled, readOf, leftOver};
+ghost use Rattle.coefficients.specs.Blocks.{filled, blockReadOf, blockDataAfter};
 ghost use Rattle.blocks.specs.Blocks.{results, written};
-ghost use Rattle.picture_state.specs.Contracts.{Held, Here};
+ghost use Rattle.picture_state.specs.Contracts.{StoreFits, AddressInPicture};
 ghost use Rattle.blocks.specs.Contracts.{storeAfter};
 
 // RULES 4.3, 6.13: the results of coefficients, n places of which are used, in a plane. The coefficients are used up.
@@ -62,8 +62,8 @@ fn write_results(
     q: Quantiser,
     n: usize,
 )
-    requires { ⌜ Held g (now store) ⌝ }
-    requires { ⌜ Here g address ⌝ }
+    requires { ⌜ StoreFits g (now store) ⌝ }
+    requires { ⌜ AddressInPicture g address ⌝ }
     requires { ⌜ Bounded (now values) ⌝ }
     ensures { λ _. ⌜
         now (store .exit) ≡ written g q number (natAbs address) (filled (now (values .entry)) n) (now (store .entry))
@@ -73,7 +73,7 @@ fn write_results(
     let plane = plane_of(number);
     let start = plane_start(g.stores.cur, plane, g.sizes.mb_size);
     let end = start + plane_length(plane, g.sizes.mb_size);
-    let di = block_place(m, number);
+    let di = block_address(m, number);
     let dw = block_width(m, number);
     results(&mut store[start..end], di, dw, values, q, n);
 }
@@ -88,17 +88,17 @@ pub fn write_block(
     q: Quantiser,
     r: Block,
 )
-    requires { ⌜ Held g (now store) ⌝ }
-    requires { ⌜ Here g address ⌝ }
+    requires { ⌜ StoreFits g (now store) ⌝ }
+    requires { ⌜ AddressInPicture g address ⌝ }
     requires { ⌜ Bounded (now values) ⌝ }
     ensures { λ _. ⌜
-        now (store .exit) ≡ storeAfter g q number (natAbs address) (readOf (now (values .entry)) r) (now (store .entry))
+        now (store .exit) ≡ storeAfter g q number (natAbs address) (blockReadOf (now (values .entry)) r) (now (store .entry))
         ⌝ }
-    ensures { λ _. ⌜ now (values .exit) ≡ leftOver q (readOf (now (values .entry)) r) ⌝ }
+    ensures { λ _. ⌜ now (values .exit) ≡ blockDataAfter q (blockReadOf (now (values .entry)) r) ⌝ }
 {
     let end = r.end;
     if let BlockEnd::Whole = end {
         write_results(store, values, g, address, number, q, r.n);
-        left_over(values, q, r);
+        block_data_after(values, q, r);
     }
 }

@@ -10,13 +10,13 @@ use native.Mathlib.Omega.{arith}
 use lib.ListN.{length, getD, List·getD-eq-default}
 use lib.IntN.{ℤ, pos, natAbs}
 use lib.Signed.{leZ}
-use Rattle.bits.specs.Bits.{bitAt, bitsAt, got, next}
+use Rattle.bits.specs.Bits.{bitAt, bitsAt, readAt, afterRead}
 use Rattle.bits.specs.Programs.{bits, loop}
 use Rattle.bits.specs.Runs.{RunsAt}
 use Rattle.bits.proofs.Bits.{bit-lt}
 use Rattle.bits.proofs.Rules.{at-bits, at-call, at-yes, at-no, at-done}
 use Rattle.bits.proofs.Programs.{served-got, served-next, refused-got, refused-next}
-use Rattle.codes.specs.Walk.{walkTurn, walk, vlc}
+use Rattle.codes.specs.Walk.{walkStep, walk, vlc}
 use Rattle.codes.specs.Standard.{taken}
 
 -- ---- sequences of bits
@@ -35,19 +35,19 @@ stream-bits s a = record { empty = refl; more = λ n. omega (arith, bit-lt s (a 
 
 -- the entry at which a walk ends, and the number of bits that led there
 pub record End : Type 0 where
-  pub place : ℕ
+  pub position : ℕ
   pub bits : ℕ
 
 -- the walk from the pair of entries at `at` on, which the first n bits of f led to
 abbrev pub follow : List ℤ → (ℕ → ℕ) → ℕ → ℕ → ℕ → End
-follow ix f zero at n = record { place = 0; bits = n }
+follow ix f zero at n = record { position = 0; bits = n }
 follow ix f (suc fuel) at n =
     let k = at + f (suc n) % 2 in
-    cond (leZ (getD ix k (pos 0)) (pos 0)) (record { place = k; bits = suc n }) (follow ix f fuel (natAbs (getD ix k (pos 0))) (suc n))
+    cond (leZ (getD ix k (pos 0)) (pos 0)) (record { position = k; bits = suc n }) (follow ix f fuel (natAbs (getD ix k (pos 0))) (suc n))
 
 -- each turn takes a bit
 module _ (ix : List ℤ) (f : ℕ → ℕ) where
-  turned : (t : Bool) (k n : ℕ) (rest : End) → suc n ≤ rest .bits → suc n ≤ cond t (record { place = k; bits = suc n }) rest .bits
+  turned : (t : Bool) (k n : ℕ) (rest : End) → suc n ≤ rest .bits → suc n ≤ cond t (record { position = k; bits = suc n }) rest .bits
   turned true k n rest h = omega arith
   turned false k n rest h = h
 
@@ -78,20 +78,20 @@ past-bits s a (suc n) h = omega (arith, past-bits s a n h, past-bit s (a + n) (o
 
 -- the bit behind n that were read one by one
 module _ (s : List ℕ) (a n : ℕ) where
-  bit-got : got s (taken s a n) 1 ≡ bitsAt s a (suc n) % 2
+  bit-got : readAt s (taken s a n) 1 ≡ bitsAt s a (suc n) % 2
   unfolding bitsAt
   bit-got = go (decLt (a + n) (length s * 8))
     where
-      go : Dec (a + n < length s * 8) → got s (taken s a n) 1 ≡ (bitsAt s a n * 2 + bitAt s (a + n)) % 2
+      go : Dec (a + n < length s * 8) → readAt s (taken s a n) 1 ≡ (bitsAt s a n * 2 + bitAt s (a + n)) % 2
       go (yes h) =
           let e : taken s a n + 0 ≡ a + n = omega arith in
           served-got s (taken s a n) 1 (omega arith) ∙ omega (arith, ap (bitAt s) e, bit-lt s (a + n))
       go (no h) = refused-got s (taken s a n) 1 (omega arith) ∙ omega (arith, past-bit s (a + n) (omega arith))
 
-  bit-next : next s (taken s a n) 1 ≡ taken s a (suc n)
+  bit-next : afterRead s (taken s a n) 1 ≡ taken s a (suc n)
   bit-next = go (decLt (a + n) (length s * 8))
     where
-      go : Dec (a + n < length s * 8) → next s (taken s a n) 1 ≡ taken s a (suc n)
+      go : Dec (a + n < length s * 8) → afterRead s (taken s a n) 1 ≡ taken s a (suc n)
       go (yes h) = served-next s (taken s a n) 1 (omega arith) ∙ omega arith
       go (no h) = refused-next s (taken s a n) 1 (omega arith) ∙ omega arith
 
@@ -100,10 +100,10 @@ module _ (s : List ℕ) (a n : ℕ) where
 module _ (ix : List ℤ) (s : List ℕ) (a : ℕ) where
   -- from `at` on, behind n bits, a loop of the walk's turns ends with e
   record Walks (fuel at n : ℕ) (e : End) : Type 0 where
-    runs : RunsAt (loop fuel (walkTurn ix) 0 at) s (taken s a n) (e .place) (taken s a (e .bits))
+    runs : RunsAt (loop fuel (walkStep ix) 0 at) s (taken s a n) (e .position) (taken s a (e .bits))
 
   walks : (fuel at n : ℕ) → Walks fuel at n (follow ix (bitsAt s a) fuel at n)
-  unfolding loop walkTurn
+  unfolding loop walkStep
   walks zero at n = record { runs = at-done }
   walks (suc fuel) at n = go (leZ (getD ix k (pos 0)) (pos 0)) refl (walks fuel (natAbs (getD ix k (pos 0))) (suc n))
     where
@@ -114,7 +114,7 @@ module _ (ix : List ℤ) (s : List ℕ) (a : ℕ) where
       bit = at-bits (sym (bit-got s a n)) (sym (bit-next s a n))
 
       go : (t : Bool) → leZ (getD ix k (pos 0)) (pos 0) ≡ t → {rest : End} → Walks fuel (natAbs (getD ix k (pos 0))) (suc n) rest
-          → Walks (suc fuel) at n (cond t (record { place = k; bits = suc n }) rest)
+          → Walks (suc fuel) at n (cond t (record { position = k; bits = suc n }) rest)
       go true h r = record { runs = at-call _ (at-call _ bit (at-yes _ h at-done)) at-done }
       go false h r = record { runs = at-call _ (at-call _ bit (at-no _ h at-done)) (r .runs) }
 
@@ -122,12 +122,12 @@ module _ (ix : List ℤ) (s : List ℕ) (a : ℕ) where
   abbrev pub end : End
   end = follow ix (bitsAt s a) (length ix) 0 0
 
-  pub walk-end : RunsAt (walk ix) s a (end .place) (taken s a (end .bits))
+  pub walk-end : RunsAt (walk ix) s a (end .position) (taken s a (end .bits))
   unfolding walk
   walk-end =
       let here : taken s a 0 ≡ a = omega arith in
-      subst (λ (p : ℕ). RunsAt (loop (length ix) (walkTurn ix) 0 0) s p (end .place) (taken s a (end .bits))) here (walks (length ix) 0 0 .runs)
+      subst (λ (p : ℕ). RunsAt (loop (length ix) (walkStep ix) 0 0) s p (end .position) (taken s a (end .bits))) here (walks (length ix) 0 0 .runs)
 
-  pub vlc-end : {A : Type 0} (vs : List A) (d : A) → RunsAt (vlc ix vs d) s a (getD vs (end .place) d) (taken s a (end .bits))
+  pub vlc-end : {A : Type 0} (vs : List A) (d : A) → RunsAt (vlc ix vs d) s a (getD vs (end .position) d) (taken s a (end .bits))
   unfolding vlc
   vlc-end vs d = at-call _ walk-end at-done

@@ -12,7 +12,7 @@ use lib.IntN.{ℤ, pos, natAbs, negℤ, _-ℤ_}
 use lib.ListN.{length, getD, List·getD-eq-default}
 use lib.Signed.{leZ}
 use mir.Facts.{and-yes}
-use Rattle.laws.specs.Turns.{Turn, again, stop}
+use Rattle.laws.specs.Loops.{Step, continue, finish}
 use Rattle.laws.proofs.Ints.{up, dn, v, lit, neg, _⊕_, _⊖_, abs-of, cast-is, eq-by, le-yes}
 use Rattle.bits.specs.Programs.{Prog, done, bits, loop, _>>=_}
 use Rattle.bits.specs.Runs.{Runs}
@@ -20,7 +20,7 @@ use Rattle.bits.specs.declared.reader.Reader.{Reader}
 use Rattle.bits.proofs.Rules.{r-call, r-done}
 use Rattle.codes.specs.Lent.{lentValue, joinedEntry, joined, indexOf, indices, all, near, short, Joined, Leading}
 use Rattle.codes.specs.Rule.{Good}
-use Rattle.codes.specs.Walk.{walkTurn, walkFrom, walk, vlc}
+use Rattle.codes.specs.Walk.{walkStep, walkFrom, walk, vlc}
 use Rattle.codes.proofs.Entries.{above}
 use Rattle.codes.proofs.Lists.{map-at, length-map}
 
@@ -87,14 +87,14 @@ module _ (i x : ℤ) (h : natAbs i ≤ 255) (s : Short x) where
       ∙ ap (λ (b : Bool). cond b (pos 0) (pos (natAbs i))) (lt-leb 256 (natAbs i) (omega arith)) ∙ sym (above i e .0)
 
 -- a turn of the walk at an entry
-abbrev turn : ℕ → ℤ → Prog (Turn ℕ ℕ)
-turn k z = cond (leZ z (pos 0)) (done (stop k)) (done (again (natAbs z)))
+abbrev turn : ℕ → ℤ → Prog (Step ℕ ℕ)
+turn k z = cond (leZ z (pos 0)) (done (finish k)) (done (continue (natAbs z)))
 
-same-turn : (k : ℕ) (i x : ℤ) → natAbs i ≤ 255 → Short x → turn k (indexOf (joinedEntry i x)) ≡ turn k i
-same-turn k i x h s = go (leZ i (pos 0)) refl
+same-step : (k : ℕ) (i x : ℤ) → natAbs i ≤ 255 → Short x → turn k (indexOf (joinedEntry i x)) ≡ turn k i
+same-step k i x h s = go (leZ i (pos 0)) refl
   where
     go : (b : Bool) → leZ i (pos 0) ≡ b → turn k (indexOf (joinedEntry i x)) ≡ turn k i
-    go true e = ap (turn k) (index-end i x h s e) ∙ sym (ap (λ (c : Bool). cond c (done (stop k)) (done (again (natAbs i)))) e)
+    go true e = ap (turn k) (index-end i x h s e) ∙ sym (ap (λ (c : Bool). cond c (done (finish k)) (done (continue (natAbs i)))) e)
     go false e = ap (turn k) (index-on i x h s e)
 
 module _ {ix vs : List ℤ} {t : List ℕ} (j : Joined ix vs t) where
@@ -111,18 +111,18 @@ module _ {ix vs : List ℤ} {t : List ℕ} (j : Joined ix vs t) where
       go : Dec (k < length ix) → turn k (indexOf (getD t k 0)) ≡ turn k (getD ix k (pos 0))
       go (yes h) =
           ap (λ (e : ℕ). turn k (indexOf e)) (at-entry k h)
-          ∙ same-turn k (getD ix k (pos 0)) (getD vs k (pos 0)) (near-at ix (j .places) k) (short-at vs (j .values) k)
+          ∙ same-step k (getD ix k (pos 0)) (getD vs k (pos 0)) (near-at ix (j .places) k) (short-at vs (j .values) k)
       go (no h) =
           ap (λ (e : ℕ). turn k (indexOf e)) (List·getD-eq-default t 0 {n = k} (omega (arith, joined-long)))
           ∙ ap (turn k) (sym (List·getD-eq-default ix (pos 0) {n = k} (omega arith)))
 
   -- the walk looks only at indices above 0
   pub walk-joined : (i : ℕ) → walkFrom (indices t) i ≡ walkFrom ix i
-  unfolding walkTurn
+  unfolding walkStep
   walk-joined i =
-      ap (λ (n : ℕ). loop n (walkTurn (indices t)) 0 i) (length-map indexOf t ∙ joined-long)
-      ∙ ap (λ (f : ℕ → Prog (Turn ℕ ℕ)). loop (length ix) f 0 i)
-      (fun-ext (λ at. ap (λ (f : ℕ → Prog (Turn ℕ ℕ)). bits 1 >>= f) (fun-ext (λ b. turns (at + b)))))
+      ap (λ (n : ℕ). loop n (walkStep (indices t)) 0 i) (length-map indexOf t ∙ joined-long)
+      ∙ ap (λ (f : ℕ → Prog (Step ℕ ℕ)). loop (length ix) f 0 i)
+      (fun-ext (λ at. ap (λ (f : ℕ → Prog (Step ℕ ℕ)). bits 1 >>= f) (fun-ext (λ b. turns (at + b)))))
 
   -- the entry where it ends is the value, as it is lent
   pub ends-joined : (k : ℕ) → k < length t → 256 ≤ getD t k 0 → getD t k 0 ≡ lentValue (getD vs k (pos 0))

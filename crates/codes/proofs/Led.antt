@@ -1,4 +1,4 @@
--- What the walk does with eight bits that are there is what `led` says of them: one law for every table that keeps the rule. Assumes nothing.
+-- What the walk does with eight bits that are there is what `walkedEight` says of them: one law for every table that keeps the rule. Assumes nothing.
 use mathlib.Core.Path.{_≡_, refl, ap, sym, subst, _∙_}
 use mathlib.Core.Bool.{Bool, true, false, cond, not, _||_}
 use mathlib.Core.List.{List, [], _∷_}
@@ -8,15 +8,15 @@ use native.Mathlib.Omega.{arith}
 use lib.ListN.{length, getD}
 use lib.IntN.{ℤ, pos, natAbs}
 use lib.Signed.{leZ}
-use Rattle.laws.specs.Turns.{Turn, again, stop}
-use Rattle.bits.specs.Bits.{bitAt, bitsAt, has, got, next}
-use Rattle.bits.specs.Programs.{Prog, Out, done, run, short, bind, turn, loop}
+use Rattle.laws.specs.Loops.{Step, continue, finish}
+use Rattle.bits.specs.Bits.{bitAt, bitsAt, has, readAt, afterRead}
+use Rattle.bits.specs.Programs.{Prog, Out, done, run, short, bind, continueWith, loop}
 use Rattle.bits.proofs.Bits.{bit-lt, bits-mid}
 use Rattle.bits.proofs.Gives.{got-lt}
 use Rattle.bits.proofs.Programs.{run-bind, short-bind, served-has, served-got, served-next}
-use Rattle.codes.specs.Look.{Eight, ends, further, ledFrom, led, packed, looked}
+use Rattle.codes.specs.Look.{Eight, ends, unfinished, walkedFrom, walkedEight, packed, lookedUp}
 use Rattle.codes.specs.Rule.{Good}
-use Rattle.codes.specs.Walk.{walkTurn, walkFrom, walk, vlc}
+use Rattle.codes.specs.Walk.{walkStep, walkFrom, walk, vlc}
 use Rattle.codes.proofs.Entries.{above}
 
 -- p from the place a on does what q does from the place b on: value, end, and whether bits were refused
@@ -74,49 +74,49 @@ choice-shorts x y s e false = refl
 
 module _ (ix : List ℤ) where
   -- where an entry leads
-  abbrev step : ℕ → Turn ℕ ℕ
-  step k = cond (leZ (getD ix k (pos 0)) (pos 0)) (stop k) (again (natAbs (getD ix k (pos 0))))
+  abbrev step : ℕ → Step ℕ ℕ
+  step k = cond (leZ (getD ix k (pos 0)) (pos 0)) (finish k) (continue (natAbs (getD ix k (pos 0))))
 
-  turn-runs : (at : ℕ) (s : List ℕ) (c : ℕ) → run (walkTurn ix at) s c ≡ record { value = step (at + got s c 1); at = next s c 1 }
-  unfolding run walkTurn bind
-  turn-runs at s c = choice-runs _ _ s _ (leZ (getD ix (at + got s c 1) (pos 0)) (pos 0))
+  step-runs : (at : ℕ) (s : List ℕ) (c : ℕ) → run (walkStep ix at) s c ≡ record { value = step (at + readAt s c 1); at = afterRead s c 1 }
+  unfolding run walkStep bind
+  step-runs at s c = choice-runs _ _ s _ (leZ (getD ix (at + readAt s c 1) (pos 0)) (pos 0))
 
-  turn-shorts : (at : ℕ) (s : List ℕ) (c : ℕ) → short (walkTurn ix at) s c ≡ not (has s c 1)
-  unfolding short walkTurn bind
-  turn-shorts at s c =
-      ap (λ (b : Bool). not (has s c 1) || b) (choice-shorts _ _ s (next s c 1) (leZ (getD ix (at + got s c 1) (pos 0)) (pos 0)))
+  step-shorts : (at : ℕ) (s : List ℕ) (c : ℕ) → short (walkStep ix at) s c ≡ not (has s c 1)
+  unfolding short walkStep bind
+  step-shorts at s c =
+      ap (λ (b : Bool). not (has s c 1) || b) (choice-shorts _ _ s (afterRead s c 1) (leZ (getD ix (at + readAt s c 1) (pos 0)) (pos 0)))
       ∙ or-false (not (has s c 1))
 
   -- at a bit that is there
   module _ (at : ℕ) (s : List ℕ) (c : ℕ) (h : c + 1 ≤ length s * 8) where
-    bit-runs : run (walkTurn ix at) s c ≡ record { value = step (at + bitAt s c); at = c + 1 }
-    bit-runs = turn-runs at s c ∙ λ i. record { value = step (at + (served-got s c 1 h ∙ bits-one s c) i); at = served-next s c 1 h i }
+    bit-runs : run (walkStep ix at) s c ≡ record { value = step (at + bitAt s c); at = c + 1 }
+    bit-runs = step-runs at s c ∙ λ i. record { value = step (at + (served-got s c 1 h ∙ bits-one s c) i); at = served-next s c 1 h i }
 
-    bit-shorts : short (walkTurn ix at) s c ≡ false
-    bit-shorts = turn-shorts at s c ∙ ap not (served-has s c 1 h)
+    bit-shorts : short (walkStep ix at) s c ≡ false
+    bit-shorts = step-shorts at s c ∙ ap not (served-has s c 1 h)
 
   -- a loop of turns, one turn on
   module _ (n at : ℕ) (s : List ℕ) (c : ℕ) where
-    loop-runs : run (loop (suc n) (walkTurn ix) 0 at) s c
-        ≡ run (turn (loop n (walkTurn ix) 0) (run (walkTurn ix at) s c .value)) s (run (walkTurn ix at) s c .at)
+    loop-runs : run (loop (suc n) (walkStep ix) 0 at) s c
+        ≡ run (continueWith (loop n (walkStep ix) 0) (run (walkStep ix at) s c .value)) s (run (walkStep ix at) s c .at)
     unfolding loop
-    loop-runs = run-bind (walkTurn ix at) (turn (loop n (walkTurn ix) 0)) s c
+    loop-runs = run-bind (walkStep ix at) (continueWith (loop n (walkStep ix) 0)) s c
 
-    loop-shorts : short (loop (suc n) (walkTurn ix) 0 at) s c
-        ≡ (short (walkTurn ix at) s c || short (turn (loop n (walkTurn ix) 0) (run (walkTurn ix at) s c .value)) s (run (walkTurn ix at) s c .at))
+    loop-shorts : short (loop (suc n) (walkStep ix) 0 at) s c
+        ≡ (short (walkStep ix at) s c || short (continueWith (loop n (walkStep ix) 0) (run (walkStep ix at) s c .value)) s (run (walkStep ix at) s c .at))
     unfolding loop
-    loop-shorts = short-bind (walkTurn ix at) (turn (loop n (walkTurn ix) 0)) s c
+    loop-shorts = short-bind (walkStep ix at) (continueWith (loop n (walkStep ix) 0)) s c
 
     loop-bit : c + 1 ≤ length s * 8
-        → Same s (loop (suc n) (walkTurn ix) 0 at) c (turn (loop n (walkTurn ix) 0) (step (at + bitAt s c))) (c + 1)
+        → Same s (loop (suc n) (walkStep ix) 0 at) c (continueWith (loop n (walkStep ix) 0) (step (at + bitAt s c))) (c + 1)
     loop-bit h =
         let o = bit-runs at s c h in
         record {
-          runs = loop-runs ∙ ap (λ (w : Out (Turn ℕ ℕ)). run (turn (loop n (walkTurn ix) 0) (w .value)) s (w .at)) o;
+          runs = loop-runs ∙ ap (λ (w : Out (Step ℕ ℕ)). run (continueWith (loop n (walkStep ix) 0) (w .value)) s (w .at)) o;
           shorts = loop-shorts
-              ∙ ap (λ (b : Bool). b || short (turn (loop n (walkTurn ix) 0) (run (walkTurn ix at) s c .value)) s (run (walkTurn ix at) s c .at))
+              ∙ ap (λ (b : Bool). b || short (continueWith (loop n (walkStep ix) 0) (run (walkStep ix at) s c .value)) s (run (walkStep ix at) s c .at))
               (bit-shorts at s c h)
-              ∙ ap (λ (w : Out (Turn ℕ ℕ)). short (turn (loop n (walkTurn ix) 0) (w .value)) s (w .at)) o;
+              ∙ ap (λ (w : Out (Step ℕ ℕ)). short (continueWith (loop n (walkStep ix) 0) (w .value)) s (w .at)) o;
         }
 
   -- ---- the rest of a walk
@@ -133,69 +133,69 @@ module _ (ix : List ℤ) where
 
     -- fuel beyond what a walk from `at` on can need changes nothing
     enough : (s : List ℕ) (n m at c : ℕ) → at + 1 < length ix → length ix - 1 - at < n → length ix - 1 - at < m
-        → Same s (loop n (walkTurn ix) 0 at) c (loop m (walkTurn ix) 0 at) c
+        → Same s (loop n (walkStep ix) 0 at) c (loop m (walkStep ix) 0 at) c
     enough s zero m at c h k l = let no : ⊥ = omega arith in absurd no
     enough s (suc n) zero at c h k l = let no : ⊥ = omega arith in absurd no
     enough s (suc n) (suc m) at c h k l =
-        let both : Out (Turn ℕ ℕ) → Type 0 = λ w.
-        Same s (turn (loop n (walkTurn ix) 0) (w .value)) (w .at) (turn (loop m (walkTurn ix) 0) (w .value)) (w .at) in
-        let rest = subst both (sym (turn-runs at s c)) (go (leZ z (pos 0)) refl (λ i p q. enough s n m i (next s c 1) p (omega arith) (omega arith))) in
+        let both : Out (Step ℕ ℕ) → Type 0 = λ w.
+        Same s (continueWith (loop n (walkStep ix) 0) (w .value)) (w .at) (continueWith (loop m (walkStep ix) 0) (w .value)) (w .at) in
+        let rest = subst both (sym (step-runs at s c)) (go (leZ z (pos 0)) refl (λ i p q. enough s n m i (afterRead s c 1) p (omega arith) (omega arith))) in
         record {
           runs = loop-runs n at s c ∙ rest .runs ∙ sym (loop-runs m at s c);
-          shorts = loop-shorts n at s c ∙ ap (λ (t : Bool). short (walkTurn ix at) s c || t) (rest .shorts) ∙ sym (loop-shorts m at s c);
+          shorts = loop-shorts n at s c ∙ ap (λ (t : Bool). short (walkStep ix at) s c || t) (rest .shorts) ∙ sym (loop-shorts m at s c);
         }
       where
         e : ℕ
-        e = at + got s c 1
+        e = at + readAt s c 1
 
         z : ℤ
         z = getD ix e (pos 0)
 
         go : (t : Bool) → leZ z (pos 0) ≡ t
-            → ((i : ℕ) → i + 1 < length ix → at < i → Same s (loop n (walkTurn ix) 0 i) (next s c 1) (loop m (walkTurn ix) 0 i) (next s c 1))
-            → Same s (turn (loop n (walkTurn ix) 0) (cond t (stop e) (again (natAbs z)))) (next s c 1)
-            (turn (loop m (walkTurn ix) 0) (cond t (stop e) (again (natAbs z)))) (next s c 1)
+            → ((i : ℕ) → i + 1 < length ix → at < i → Same s (loop n (walkStep ix) 0 i) (afterRead s c 1) (loop m (walkStep ix) 0 i) (afterRead s c 1))
+            → Same s (continueWith (loop n (walkStep ix) 0) (cond t (finish e) (continue (natAbs z)))) (afterRead s c 1)
+            (continueWith (loop m (walkStep ix) 0) (cond t (finish e) (continue (natAbs z)))) (afterRead s c 1)
         go true f r = record { runs = refl; shorts = refl }
         go false f r =
-            let u = on at (got s c 1) h (got-lt s c 1) f in
+            let u = on at (readAt s c 1) h (got-lt s c 1) f in
             r (natAbs z) (u .1) (u .0)
 
     -- ---- the law
 
-    -- what `led` says of the eight bits at a, when the walk has come with j of them to the pair `at`, and has fuel left
+    -- what `walkedEight` says of the eight bits at a, when the walk has come with j of them to the pair `at`, and has fuel left
     module _ (s : List ℕ) (a : ℕ) where
       abbrev Says : ℕ → ℕ → ℕ → Eight → Type 0
-      Says fuel at j (ends k n) = Same s (loop fuel (walkTurn ix) 0 at) (a + j) (done k) (a + n) × (j < n) × (n ≤ 8)
-      Says fuel at j (further i) = (i + 1 < length ix) × Same s (loop fuel (walkTurn ix) 0 at) (a + j) (walkFrom ix i) (a + 8)
+      Says fuel at j (ends k n) = Same s (loop fuel (walkStep ix) 0 at) (a + j) (done k) (a + n) × (j < n) × (n ≤ 8)
+      Says fuel at j (unfinished i) = (i + 1 < length ix) × Same s (loop fuel (walkStep ix) 0 at) (a + j) (walkFrom ix i) (a + 8)
 
       module _ (there : a + 8 ≤ length s * 8) where
-        -- the turns of `led` are those of the walk
-        abbrev onward : ℕ → ℕ → Turn ℕ ℕ → Eight
-        onward n j t = elim t [ again i ↦ ledFrom ix (bitsAt s a 8) n i j | stop k ↦ ends k j ]
+        -- the turns of `walkedEight` are those of the walk
+        abbrev onward : ℕ → ℕ → Step ℕ ℕ → Eight
+        onward n j t = elim t [ continue i ↦ walkedFrom ix (bitsAt s a 8) n i j | finish k ↦ ends k j ]
 
-        led-turn : (n at j : ℕ) → j < 8 → ledFrom ix (bitsAt s a 8) (suc n) at j ≡ onward n (j + 1) (step (at + bitAt s (a + j)))
-        unfolding ledFrom
-        led-turn n at j h =
+        led-step : (n at j : ℕ) → j < 8 → walkedFrom ix (bitsAt s a 8) (suc n) at j ≡ onward n (j + 1) (step (at + bitAt s (a + j)))
+        unfolding walkedFrom
+        led-step n at j h =
             let o = bit-runs at (bitsAt s a 8 ∷ []) j (omega arith) in
-            ap (λ (w : Out (Turn ℕ ℕ)). onward n (w .at) (w .value)) o ∙ ap (λ (b : ℕ). onward n (j + 1) (step (at + b))) (bit-same s a j h)
+            ap (λ (w : Out (Step ℕ ℕ)). onward n (w .at) (w .value)) o ∙ ap (λ (b : ℕ). onward n (j + 1) (step (at + b))) (bit-same s a j h)
 
         -- a turn before it
-        widen : (fuel at j i : ℕ) (e : Eight) → Same s (loop (suc fuel) (walkTurn ix) 0 at) (a + j) (loop fuel (walkTurn ix) 0 i) (a + (j + 1))
+        widen : (fuel at j i : ℕ) (e : Eight) → Same s (loop (suc fuel) (walkStep ix) 0 at) (a + j) (loop fuel (walkStep ix) 0 i) (a + (j + 1))
             → Says fuel i (j + 1) e → Says (suc fuel) at j e
         widen fuel at j i (ends k n) w q = (same-on w (q .0), omega (arith, q .1), q .2)
-        widen fuel at j i (further m) w q = (q .0, same-on w (q .1))
+        widen fuel at j i (unfinished m) w q = (q .0, same-on w (q .1))
 
-        says : (n at j fuel : ℕ) → j + n ≡ 8 → at + 1 < length ix → length ix - 1 - at < fuel → Says fuel at j (ledFrom ix (bitsAt s a 8) n at j)
-        unfolding ledFrom
+        says : (n at j fuel : ℕ) → j + n ≡ 8 → at + 1 < length ix → length ix - 1 - at < fuel → Says fuel at j (walkedFrom ix (bitsAt s a 8) n at j)
+        unfolding walkedFrom
         says n at j zero e h k = let no : ⊥ = omega arith in absurd no
         says zero at j (suc fuel) e h k =
             let eight : a + j ≡ a + 8 = omega arith in (
               h,
-              subst (λ (c : ℕ). Same s (loop (suc fuel) (walkTurn ix) 0 at) (a + j) (walkFrom ix at) c) eight
+              subst (λ (c : ℕ). Same s (loop (suc fuel) (walkStep ix) 0 at) (a + j) (walkFrom ix at) c) eight
                   (enough s (suc fuel) (length ix) at (a + j) h k (omega arith)),
             )
         says (suc n) at j (suc fuel) e h k =
-            subst (Says (suc fuel) at j) (sym (led-turn n at j (omega arith)))
+            subst (Says (suc fuel) at j) (sym (led-step n at j (omega arith)))
             (go (leZ z (pos 0)) refl (λ i p q. says n i (j + 1) fuel (omega arith) p (omega arith)))
           where
             m : ℕ
@@ -205,46 +205,48 @@ module _ (ix : List ℤ) where
             z = getD ix m (pos 0)
 
             stepped : (t : Bool) → leZ z (pos 0) ≡ t
-                → Same s (loop (suc fuel) (walkTurn ix) 0 at) (a + j) (turn (loop fuel (walkTurn ix) 0) (cond t (stop m) (again (natAbs z)))) (a + (j + 1))
+                → Same s (loop (suc fuel) (walkStep ix) 0 at) (a + j) (continueWith (loop fuel (walkStep ix) 0) (cond t (finish m) (continue (natAbs z))))
+                (a + (j + 1))
             stepped t f = rw (← f, ← add-assoc) (loop-bit fuel at s (a + j) (omega arith))
 
             go : (t : Bool) → leZ z (pos 0) ≡ t
-                → ((i : ℕ) → i + 1 < length ix → at < i → Says fuel i (j + 1) (ledFrom ix (bitsAt s a 8) n i (j + 1)))
-                → Says (suc fuel) at j (onward n (j + 1) (cond t (stop m) (again (natAbs z))))
+                → ((i : ℕ) → i + 1 < length ix → at < i → Says fuel i (j + 1) (walkedFrom ix (bitsAt s a 8) n i (j + 1)))
+                → Says (suc fuel) at j (onward n (j + 1) (cond t (finish m) (continue (natAbs z))))
             go true f r = (stepped true f, omega arith, omega arith)
             go false f r =
                 let u = on at (bitAt s (a + j)) h (bit-lt s (a + j)) f in
-                widen fuel at j (natAbs z) (ledFrom ix (bitsAt s a 8) n (natAbs z) (j + 1)) (stepped false f) (r (natAbs z) (u .1) (u .0))
+                widen fuel at j (natAbs z) (walkedFrom ix (bitsAt s a 8) n (natAbs z) (j + 1)) (stepped false f) (r (natAbs z) (u .1) (u .0))
 
         -- the eight bits end the walk: at this entry, after so many bits, and none was refused
-        pub led-ends : (k n : ℕ) → led ix (bitsAt s a 8) ≡ ends k n → Same s (walk ix) a (done k) (a + n) × (0 < n) × (n ≤ 8)
-        unfolding led walk
+        pub led-ends : (k n : ℕ) → walkedEight ix (bitsAt s a 8) ≡ ends k n → Same s (walk ix) a (done k) (a + n) × (0 < n) × (n ≤ 8)
+        unfolding walkedEight walk
         led-ends k n e = rw add-zero at (subst (Says (length ix) 0 0) e (says 8 0 0 (length ix) refl (g .two) (omega (arith, g .two))))
 
         -- or lead further: the rest is the walk from this pair on, behind the eight
-        pub led-further : (i : ℕ) → led ix (bitsAt s a 8) ≡ further i → (i + 1 < length ix) × Same s (walk ix) a (walkFrom ix i) (a + 8)
-        unfolding led walk
+        pub led-further : (i : ℕ) → walkedEight ix (bitsAt s a 8) ≡ unfinished i → (i + 1 < length ix) × Same s (walk ix) a (walkFrom ix i) (a + 8)
+        unfolding walkedEight walk
         led-further i e = rw add-zero at (subst (Says (length ix) 0 0) e (says 8 0 0 (length ix) refl (g .two) (omega (arith, g .two))))
 
         -- ---- an entry of the table
 
         module _ (vs : List ℕ) where
           -- value, place and mark are those that the entry says
-          pub look-agrees : 0 < looked ix vs (bitsAt s a 8)
-              → Same s (vlc ix vs 0) a (done (looked ix vs (bitsAt s a 8) / 16)) (a + looked ix vs (bitsAt s a 8) % 16)
-          unfolding looked vlc
-          look-agrees h = go (led ix (bitsAt s a 8)) refl h
+          pub look-agrees : 0 < lookedUp ix vs (bitsAt s a 8)
+              → Same s (vlc ix vs 0) a (done (lookedUp ix vs (bitsAt s a 8) / 16)) (a + lookedUp ix vs (bitsAt s a 8) % 16)
+          unfolding lookedUp vlc
+          look-agrees h = go (walkedEight ix (bitsAt s a 8)) refl h
             where
-              go : (e : Eight) → led ix (bitsAt s a 8) ≡ e → 0 < packed vs e
+              go : (e : Eight) → walkedEight ix (bitsAt s a 8) ≡ e → 0 < packed vs e
                   → Same s (bind (walk ix) (λ k. done (getD vs k 0))) a (done (packed vs e / 16)) (a + packed vs e % 16)
               go (ends k n) q p =
                   let w = led-ends k n q in
                   let value : (16 * getD vs k 0 + n) / 16 ≡ getD vs k 0 = omega (arith, w .2) in
                   let bits : (16 * getD vs k 0 + n) % 16 ≡ n = omega (arith, w .2) in
                   rw (value, bits) (same-bind (λ k. done (getD vs k 0)) (w .0))
-              go (further i) q p = let no : ⊥ = omega arith in absurd no
+              go (unfinished i) q p = let no : ⊥ = omega arith in absurd no
 
           -- a longer code is read on from the pair to which its eight bits lead
-          pub look-further : (i : ℕ) → led ix (bitsAt s a 8) ≡ further i → Same s (vlc ix vs 0) a (bind (walkFrom ix i) (λ k. done (getD vs k 0))) (a + 8)
+          pub look-further : (i : ℕ) → walkedEight ix (bitsAt s a 8) ≡ unfinished i
+              → Same s (vlc ix vs 0) a (bind (walkFrom ix i) (λ k. done (getD vs k 0))) (a + 8)
           unfolding vlc
           look-further i q = same-both (λ k. done (getD vs k 0)) (led-further i q .1)

@@ -130,8 +130,8 @@ unfolding matrixOf
 matrix-at t intra i h = part-at (cond intra intraMatrixAt otherMatrixAt) 64 i t 0 h
 
 -- the zig-zag order and the premultipliers
-pub place-at : {t : List ℕ} → Lent t → (n : ℕ) → n < 64 → getD t (574 + n) 0 ≡ getD zigZag n 0
-place-at l n h = lent-at l 574 64 n (omega arith) h (places .order)
+pub position-at : {t : List ℕ} → Lent t → (n : ℕ) → n < 64 → getD t (574 + n) 0 ≡ getD zigZag n 0
+position-at l n h = lent-at l 574 64 n (omega arith) h (places .order)
 
 pub premultiplier-at : {t : List ℕ} → Lent t → (n : ℕ) → n < 64 → getD t (638 + n) 0 ≡ natAbs (getD premultiplierMatrix n (pos 0))
 premultiplier-at l n h = lent-at l 638 64 n (omega arith) h (places .premultipliers) ∙ map-at natAbs premultiplierMatrix (pos 0) n

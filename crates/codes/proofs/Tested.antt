@@ -81,7 +81,7 @@ module _ {A : Type 0} (eq : A → A → Bool) (eq-yes : (x y : A) → T (eq x y)
 
     past-end : length s * 8 ≤ a → RunsAt (vlc ix vs d) s a idle a
     past-end h =
-        let e = ap (λ (f : ℕ → ℕ). getD vs (follow ix f (length ix) 0 0 .place) d) (fun-ext (λ n. past-bits s a n h)) in
+        let e = ap (λ (f : ℕ → ℕ). getD vs (follow ix f (length ix) 0 0 .position) d) (fun-ext (λ n. past-bits s a n h)) in
         at-as (vlc-end ix s a vs d) (e ∙ passed .stream-end) (omega arith)
 
   -- both codes lead to where the longer one does

@@ -87,8 +87,8 @@ module _ {A : Type 0} (ix : List ℤ) (vs : List A) (d : A) where
   pub record Valid (f : ℕ → ℕ) (cs : List (Code A)) (e : End) : Type 0 where
     pub code : Code A
     pub printed : code ∈ cs
-    pub index : getD ix (e .place) (pos 0) ≡ pos 0
-    pub value : code .value ≡ getD vs (e .place) d
+    pub index : getD ix (e .position) (pos 0) ≡ pos 0
+    pub value : code .value ≡ getD vs (e .position) d
     pub bits : code .bits ≡ e .bits
     pub word : f (e .bits) ≡ code .word
     pub single : (o : Code A) → o ∈ cs → f (o .bits) ≡ o .word → o ≡ code
@@ -97,8 +97,8 @@ module _ {A : Type 0} (ix : List ℤ) (vs : List A) (d : A) where
   pub record Invalid (f : ℕ → ℕ) (cs : List (Code A)) (e : End) : Type 0 where
     pub before : ℕ
     pub bits : e .bits ≡ suc before
-    pub index : getD ix (e .place) (pos 0) ≡ pos 0 → ⊥
-    pub value : getD vs (e .place) d ≡ d
+    pub index : getD ix (e .position) (pos 0) ≡ pos 0 → ⊥
+    pub value : getD vs (e .position) d ≡ d
     pub possible : Possible cs before (f before)
     pub impossible : Possible cs (suc before) (f (suc before)) → ⊥
     pub no-code : (o : Code A) → o ∈ cs → f (o .bits) ≡ o .word → ⊥
@@ -108,7 +108,7 @@ module _ {A : Type 0} (ix : List ℤ) (vs : List A) (d : A) where
 
   -- what a walk along zeros gives
   abbrev pub zeros : A
-  zeros = getD vs (follow ix (λ n. 0) (length ix) 0 0 .place) d
+  zeros = getD vs (follow ix (λ n. 0) (length ix) 0 0 .position) d
 
 -- ---- the test
 
@@ -169,7 +169,7 @@ module _ {A : Type 0} (eq : A → A → Bool) (ix : List ℤ) (vs : List A) (d :
       -- the walk ends there
       ended : (k : ℕ) (z : ℤ) → getD ix k (pos 0) ≡ z → leZ z (pos 0) ≡ true → (ds : List (Code A)) → next ≡ ds
           → T (ends (getD vs k d) z (suc n) ds)
-          → Fits ix vs d f cs (record { place = k; bits = suc n })
+          → Fits ix vs d f cs (record { position = k; bits = suc n })
       ended k (pos m) i h [] q t = absurd t
       ended k (pos m) i h (c ∷ []) q t =
           let u = and-yes (eqb (c .bits) (suc n)) (eq (c .value) (getD vs k d)) t in
@@ -264,7 +264,7 @@ module _ {A : Type 0} (eq : A → A → Bool) (ix : List ℤ) (vs : List A) (d :
 
         go : (t : Bool) → leZ z (pos 0) ≡ t → T (fork t (tree fuel) (getD vs k d) z (suc n) (f (suc n)) ds)
             → (Inner (suc n) ds → T (tree fuel (natAbs z) (suc n) (f (suc n)) ds) → Fits ix vs d f ds rest)
-            → Fits ix vs d f cs (cond t (record { place = k; bits = suc n }) rest)
+            → Fits ix vs d f cs (cond t (record { position = k; bits = suc n }) rest)
         go true h t r = ended n cs inner k z refl h ds refl t
         go false h t r =
             let u = and-yes (longer (suc n) ds) (tree fuel (natAbs z) (suc n) (f (suc n)) ds) t in

@@ -26,7 +26,7 @@ module _ {A : Type 0} (ix : List ℤ) (vs : List A) (d : A) {s : List ℕ} {a : 
   vlc-passes p t u = subst (λ (x : A). T (p x)) (sym (at-same r (vlc-end ix s a vs d) .0)) (go (decLt k (length vs)))
     where
       k : ℕ
-      k = end ix s a .place
+      k = end ix s a .position
 
       go : Dec (k < length vs) → T (p (getD vs k d))
       go (yes h) = at (λ j. p) vs d u k h

@@ -3,30 +3,30 @@ use Prim.Native.Nat.{ℕ, zero, suc, _+_, _*_}
 use mathlib.Core.List.{List, [], _∷_}
 use lib.ListN.{getD}
 use lib.IntN.{ℤ}
-use Rattle.laws.specs.Turns.{again, stop}
+use Rattle.laws.specs.Loops.{continue, finish}
 use Rattle.bits.specs.Programs.{run}
-use Rattle.codes.specs.Walk.{walkTurn}
+use Rattle.codes.specs.Walk.{walkStep}
 
 -- where eight bits lead
 pub data Eight : Type 0 where
   ends : ℕ → ℕ → Eight  -- the walk ends at this entry, after this number of bits
-  further : ℕ → Eight  -- it stands at this pair of entries after all eight
+  unfinished : ℕ → Eight  -- it stands at this pair of entries after all eight
 
 -- n turns of the walk from the pair `at` on, at the bit j of the byte x
-unfoldable pub ledFrom : List ℤ → ℕ → ℕ → ℕ → ℕ → Eight
-ledFrom ix x zero at j = further at
-ledFrom ix x (suc n) at j =
-    let o = run (walkTurn ix at) (x ∷ []) j in
-    elim (o .value) [ again i ↦ ledFrom ix x n i (o .at) | stop k ↦ ends k (o .at) ]
+unfoldable pub walkedFrom : List ℤ → ℕ → ℕ → ℕ → ℕ → Eight
+walkedFrom ix x zero at j = unfinished at
+walkedFrom ix x (suc n) at j =
+    let o = run (walkStep ix at) (x ∷ []) j in
+    elim (o .value) [ continue i ↦ walkedFrom ix x n i (o .at) | finish k ↦ ends k (o .at) ]
 
 -- where the walk's turns lead on the eight bits of the byte x, the highest first
-unfoldable pub led : List ℤ → ℕ → Eight
-led ix x = ledFrom ix x 8 0 0
+unfoldable pub walkedEight : List ℤ → ℕ → Eight
+walkedEight ix x = walkedFrom ix x 8 0 0
 
 -- as one number: 16 × value + length, and 0 for a longer code
 abbrev pub packed : List ℕ → Eight → ℕ
 packed vs (ends k n) = 16 * getD vs k 0 + n
-packed vs (further i) = 0
+packed vs (unfinished i) = 0
 
-unfoldable pub looked : List ℤ → List ℕ → ℕ → ℕ
-looked ix vs x = packed vs (led ix x)
+unfoldable pub lookedUp : List ℤ → List ℕ → ℕ → ℕ
+lookedUp ix vs x = packed vs (walkedEight ix x)

@@ -4,18 +4,18 @@ use mathlib.Core.List.{List}
 use lib.ListN.{length, getD}
 use lib.IntN.{ℤ, pos, natAbs}
 use lib.Signed.{leZ}
-use Rattle.laws.specs.Turns.{Turn, again, stop}
+use Rattle.laws.specs.Loops.{Step, continue, finish}
 use Rattle.bits.specs.Programs.{Prog, done, bits, loop, _>>=_, if_then_else_}
 
 -- one bit: on to a further pair of entries, or the end of the walk at an entry
-unfoldable pub walkTurn : List ℤ → ℕ → Prog (Turn ℕ ℕ)
-walkTurn ix at = do
+unfoldable pub walkStep : List ℤ → ℕ → Prog (Step ℕ ℕ)
+walkStep ix at = do
   b ← bits 1
-  if leZ (getD ix (at + b) (pos 0)) (pos 0) then done (stop (at + b)) else done (again (natAbs (getD ix (at + b) (pos 0))))
+  if leZ (getD ix (at + b) (pos 0)) (pos 0) then done (finish (at + b)) else done (continue (natAbs (getD ix (at + b) (pos 0))))
 
 -- the entry at which the walk from the pair of entries `at` on ends
 abbrev pub walkFrom : List ℤ → ℕ → Prog ℕ
-walkFrom ix at = loop (length ix) (walkTurn ix) 0 at
+walkFrom ix at = loop (length ix) (walkStep ix) 0 at
 
 -- the whole walk
 unfoldable pub walk : List ℤ → Prog ℕ

@@ -23,7 +23,7 @@ ghost use Prim.Native.Nat.{ℕ, _+_, _-_, _/_, _%_, _≤_, _<_};
 ghost use lib.IntN.{ℤ, pos};
 ghost use lib.ListN.{take, drop};
 ghost use Rattle.bits.specs.Bounds.{lastPosition};
-ghost use Rattle.bits.specs.Runs.{Inside, Reading, placeOf, onBy};
+ghost use Rattle.bits.specs.Runs.{Inside, Reading, positionOf, advancedBy};
 ghost use Rattle.codes.specs.Lent.{Lent, Joined, Leading, tablesLength};
 ghost use Rattle.codes.specs.Walk.{vlcFrom, vlc};
 ghost use Rattle.codes.specs.Codes.{macroblockAddressIncrement, macroblockTypeIntra, macroblockTypePredictive, macroblockTypeB};
@@ -62,11 +62,11 @@ fn read_natural(s: &[u8], reader: Reader, tables: &Tables, at: usize, end: usize
 
 // A code as it was looked up: 16 × value + length.
 fn found(reader: Reader, entry: u32) -> VlcUint
-    requires { ⌜ placeOf reader ≤ lastPosition ⌝ }
-    ensures { λ r. ⌜ (r .value ≡ entry / 16) × (r .reader ≡ onBy (entry % 16) reader) ⌝ }
+    requires { ⌜ positionOf reader ≤ lastPosition ⌝ }
+    ensures { λ r. ⌜ (r .value ≡ entry / 16) × (r .reader ≡ advancedBy (entry % 16) reader) ⌝ }
 {
     VlcUint {
-        reader: reader.on((entry % 16) as usize),
+        reader: reader.advanced_by((entry % 16) as usize),
         value: entry / 16,
     }
 }
@@ -81,11 +81,11 @@ pub fn read_macroblock_address_increment(s: &[u8], reader: Reader, tables: &Tabl
         let x = reader.next_eight(s);
         if x < 6 {
             if x == 1 {
-                return read_natural_from(s, reader.on(8), tables, INCREMENT, TYPE_I, 40);
+                return read_natural_from(s, reader.advanced_by(8), tables, INCREMENT, TYPE_I, 40);
             }
             if 2 < x {
                 let pair = 36 + 2 * x as usize;
-                return read_natural_from(s, reader.on(8), tables, INCREMENT, TYPE_I, pair);
+                return read_natural_from(s, reader.advanced_by(8), tables, INCREMENT, TYPE_I, pair);
             }
         }
         return found(reader, look_macroblock_address_increment(x));
@@ -167,7 +167,7 @@ pub fn read_dct_coeff(s: &[u8], reader: Reader, tables: &Tables) -> VlcUint
         let x = reader.next_eight(s);
         if x < 4 {
             let pair = 54 + 2 * x as usize;
-            return read_natural_from(s, reader.on(8), tables, COEFFICIENT, ORDER, pair);
+            return read_natural_from(s, reader.advanced_by(8), tables, COEFFICIENT, ORDER, pair);
         }
         return found(reader, look_dct_coeff(x));
     }

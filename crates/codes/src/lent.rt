@@ -39,7 +39,7 @@ pub const INTRA_MATRIX: usize = 702;
 pub const OTHER_MATRIX: usize = 766;
 
 // The place of the coefficient that is number n in zig-zag order.
-pub fn place_of(tables: &Tables, n: usize) -> usize
+pub fn position_of(tables: &Tables, n: usize) -> usize
     requires { ⌜ Lent (now tables) ⌝ }
     requires { ⌜ n < 64 ⌝ }
     ensures { λ r. ⌜ r ≡ getD zigZag n 0 ⌝ }
@@ -47,22 +47,22 @@ pub fn place_of(tables: &Tables, n: usize) -> usize
     tables[ORDER + n] as usize
 }
 
-pub fn premultiplier(tables: &Tables, place: usize) -> i32
+pub fn premultiplier(tables: &Tables, position: usize) -> i32
     requires { ⌜ Lent (now tables) ⌝ }
-    requires { ⌜ place < 64 ⌝ }
-    ensures { λ r. ⌜ r ≡ getD premultiplierMatrix place (pos 0) ⌝ }
+    requires { ⌜ position < 64 ⌝ }
+    ensures { λ r. ⌜ r ≡ getD premultiplierMatrix position (pos 0) ⌝ }
 {
-    tables[PREMULTIPLIERS + place] as i32
+    tables[PREMULTIPLIERS + position] as i32
 }
 
 // The entry at this place of the matrix for intra blocks, or of the other.
-pub fn entry(tables: &Tables, intra: bool, place: usize) -> u8
+pub fn entry(tables: &Tables, intra: bool, position: usize) -> u8
     requires { ⌜ Lent (now tables) ⌝ }
-    requires { ⌜ place < 64 ⌝ }
-    ensures { λ r. ⌜ r ≡ getD (matrixOf (now (tables .entry)) intra) place 0 ⌝ }
+    requires { ⌜ position < 64 ⌝ }
+    ensures { λ r. ⌜ r ≡ getD (matrixOf (now (tables .entry)) intra) position 0 ⌝ }
 {
     if intra {
-        return tables[INTRA_MATRIX + place] as u8;
+        return tables[INTRA_MATRIX + position] as u8;
     }
-    tables[OTHER_MATRIX + place] as u8
+    tables[OTHER_MATRIX + position] as u8
 }

@@ -12,7 +12,7 @@ ghost use Rattle.codes.specs.Walk.{walkFrom, walk, vlcFrom, vlc};
 // The entry at which a walk ends.
 pub struct Leaf {
     pub reader: Reader,
-    pub place: usize,
+    pub position: usize,
 }
 
 pub struct Vlc {
@@ -31,21 +31,21 @@ pub fn walk_from(s: &[u8], reader: Reader, table: &[u16], pair: usize) -> Leaf
     requires { ⌜ Inside (now s) reader ⌝ }
     requires { ⌜ Leading (now table) ⌝ }
     requires { ⌜ pair + 1 < length (now table) ⌝ }
-    ensures { λ r. ⌜ Reading (walkFrom (indices (now (table .entry))) pair) (now (s .entry)) reader (r .place) (r .reader) ⌝ }
-    ensures { λ r. ⌜ r .place < length (now (table .entry)) ⌝ }
-    ensures { λ r. ⌜ 256 ≤ getD (now (table .entry)) (r .place) 0 ⌝ }
+    ensures { λ r. ⌜ Reading (walkFrom (indices (now (table .entry))) pair) (now (s .entry)) reader (r .position) (r .reader) ⌝ }
+    ensures { λ r. ⌜ r .position < length (now (table .entry)) ⌝ }
+    ensures { λ r. ⌜ 256 ≤ getD (now (table .entry)) (r .position) 0 ⌝ }
 {
     let mut from = reader;
     let mut at = pair;
     loop {
         let bit = from.read_bit(s);
-        let place = at + bit.value as usize;
-        let next = table[place];
+        let position = at + bit.value as usize;
+        let next = table[position];
         from = bit.reader;
         if 256 <= next {
             return Leaf {
                 reader: from,
-                place,
+                position,
             };
         }
         at = next as usize;
@@ -56,9 +56,9 @@ pub fn walk_from(s: &[u8], reader: Reader, table: &[u16], pair: usize) -> Leaf
 pub fn walk(s: &[u8], reader: Reader, table: &[u16]) -> Leaf
     requires { ⌜ Inside (now s) reader ⌝ }
     requires { ⌜ Leading (now table) ⌝ }
-    ensures { λ r. ⌜ Reading (walk (indices (now (table .entry)))) (now (s .entry)) reader (r .place) (r .reader) ⌝ }
-    ensures { λ r. ⌜ r .place < length (now (table .entry)) ⌝ }
-    ensures { λ r. ⌜ 256 ≤ getD (now (table .entry)) (r .place) 0 ⌝ }
+    ensures { λ r. ⌜ Reading (walk (indices (now (table .entry)))) (now (s .entry)) reader (r .position) (r .reader) ⌝ }
+    ensures { λ r. ⌜ r .position < length (now (table .entry)) ⌝ }
+    ensures { λ r. ⌜ 256 ≤ getD (now (table .entry)) (r .position) 0 ⌝ }
 {
     walk_from(s, reader, table, 0)
 }
@@ -72,8 +72,8 @@ pub fn read_vlc(s: &[u8], reader: Reader, table: &[u16]) -> Vlc
 {
     let leaf = walk(s, reader, table);
     let after = leaf.reader;
-    let place = leaf.place;
-    let entry = table[place] as i32;
+    let position = leaf.position;
+    let entry = table[position] as i32;
     let found = entry - 1024;
     Vlc {
         reader: after,
@@ -91,8 +91,8 @@ pub fn read_vlc_uint(s: &[u8], reader: Reader, table: &[u16], pair: usize) -> Vl
 {
     let leaf = walk_from(s, reader, table, pair);
     let after = leaf.reader;
-    let place = leaf.place;
-    let entry = table[place] as u32;
+    let position = leaf.position;
+    let entry = table[position] as u32;
     let found = (entry + 64512) % 65536;
     VlcUint {
         reader: after,

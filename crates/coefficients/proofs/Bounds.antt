@@ -17,8 +17,8 @@ use Rattle.coefficients.proofs.Sizes.{inside-small}
 
 -- a store that keeps to the bound at its place
 module _ {xs : List ℤ} (p : ℕ) (v : ℤ) (h : natAbs v ≤ 2048 * natAbs (getD premultiplierMatrix p (pos 0))) (b : Bounded xs) where
-  at-place : (k : ℕ) → k < 64 → natAbs (getD (set xs p v) k (pos 0)) ≤ 2048 * natAbs (getD premultiplierMatrix k (pos 0))
-  at-place k l = go (eqb k p) refl (decLt p (length xs))
+  at-position : (k : ℕ) → k < 64 → natAbs (getD (set xs p v) k (pos 0)) ≤ 2048 * natAbs (getD premultiplierMatrix k (pos 0))
+  at-position k l = go (eqb k p) refl (decLt p (length xs))
     where
       go : (t : Bool) → eqb k p ≡ t → Dec (p < length xs) → natAbs (getD (set xs p v) k (pos 0)) ≤ 2048 * natAbs (getD premultiplierMatrix k (pos 0))
       go true e (yes q) = rw (eqb-true k p e, getD-set-same xs p v (pos 0) q) h
@@ -26,7 +26,7 @@ module _ {xs : List ℤ} (p : ℕ) (v : ℤ) (h : natAbs v ≤ 2048 * natAbs (ge
       go false e q = rw (getD-set-other xs p k v (pos 0) (eqb-false k p e)) (b .each k l)
 
   pub bounded-set : Bounded (set xs p v)
-  bounded-set = record { each = at-place }
+  bounded-set = record { each = at-position }
 
 -- the coefficient of a DC value
 pub bounded-dc : {xs : List ℤ} (x : ℤ) → dcInside x ≡ true → Bounded xs → Bounded (set xs 0 (x *ℤ pos 256))

@@ -7,17 +7,17 @@ use native.Mathlib.Nat.{zero-mul}
 use lib.IntN.{pos, negsuc, _+ℤ_}
 use lib.ListN.{set, replicate}
 use Rattle.laws.specs.Signed.{odd}
-use Rattle.bits.specs.Bits.{bitAt, bitsAt, got, next}
+use Rattle.bits.specs.Bits.{bitAt, bitsAt, readAt, afterRead}
 use Rattle.bits.specs.Programs.{run, bind, loop}
 use Rattle.codes.specs.Codes.{dctSizeLuminance, dctCoeff}
 use Rattle.codes.specs.Tables.{dctSizeLuminanceIndex, dctSizeLuminanceValue, dctCoeffIndex, dctCoeffValue}
 use Rattle.codes.specs.Matrices.{zigZag, diagonals, downFrom, premultiplierMatrix}
-use Rattle.codes.specs.Walk.{vlc, walk, walkTurn}
+use Rattle.codes.specs.Walk.{vlc, walk, walkStep}
 use Rattle.coefficients.specs.declared.block.BlockEnd.the-variants.{Whole, Dropped}
 use Rattle.coefficients.specs.Coefficients.{coefficient, runLevel, escape, escapeLevel}
 use Rattle.coefficients.specs.Dcs.{added, dcDifference, dcSize}
 use Rattle.coefficients.specs.Dequantise.{quantiser, dequantised}
-use Rattle.coefficients.specs.Syntax.{pairTurn, pairs, intraCoded, codedBlock}
+use Rattle.coefficients.specs.Syntax.{pairStep, pairs, intraCoded, codedBlock}
 use Rattle.coefficients.specs.Blocks.{filled, allPlaced, reconstructed, block}
 
 pub w8 : pos 128 +ℤ added 3 0b101 ≡ pos 133
@@ -30,11 +30,11 @@ w9 = refl
 
 -- the differences from a stream: 101 is the code of size 3
 pub w8-read : run (dcDifference true) (0b10110100 ∷ []) 0 ≡ record { value = pos 5; at = 6 }
-unfolding run bind loop got next bitsAt bitAt dcDifference dcSize dctSizeLuminance dctSizeLuminanceIndex dctSizeLuminanceValue vlc walk walkTurn added
+unfolding run bind loop readAt afterRead bitsAt bitAt dcDifference dcSize dctSizeLuminance dctSizeLuminanceIndex dctSizeLuminanceValue vlc walk walkStep added
 w8-read = refl
 
 pub w9-read : run (dcDifference true) (0b10101000 ∷ []) 0 ≡ record { value = negsuc 4; at = 6 }
-unfolding run bind loop got next bitsAt bitAt dcDifference dcSize dctSizeLuminance dctSizeLuminanceIndex dctSizeLuminanceValue vlc walk walkTurn added
+unfolding run bind loop readAt afterRead bitsAt bitAt dcDifference dcSize dctSizeLuminance dctSizeLuminanceIndex dctSizeLuminanceValue vlc walk walkStep added
 w9-read = refl
 
 pub w10 : dequantised (quantiser true 1) (pos 1) 19 ≡ pos 1
@@ -57,8 +57,8 @@ below-clip = refl
 -- an intra block: size 0 (100), so the predictor 128; run 0 and level 1 (11, sign 0) at place 1; the end (10)
 pub whole : run (block (quantiser true 1) (replicate 64 19) true (pos 128) (replicate 64 (pos 0))) (0b10011010 ∷ []) 0
     ≡ record { value = record { filled = filled (set (set (replicate 64 (pos 0)) 0 (pos 32768)) 1 (pos 44)) 2; predictor = pos 128; end = Whole }; at = 8 }
-unfolding run bind loop got next bitsAt bitAt block codedBlock intraCoded dcDifference dcSize dctSizeLuminance dctSizeLuminanceIndex
-    dctSizeLuminanceValue vlc walk walkTurn pairs pairTurn coefficient dctCoeff dctCoeffIndex dctCoeffValue runLevel
+unfolding run bind loop readAt afterRead bitsAt bitAt block codedBlock intraCoded dcDifference dcSize dctSizeLuminance dctSizeLuminanceIndex
+    dctSizeLuminanceValue vlc walk walkStep pairs pairStep coefficient dctCoeff dctCoeffIndex dctCoeffValue runLevel
     reconstructed allPlaced dequantised odd zigZag diagonals downFrom premultiplierMatrix
 whole = refl
 
@@ -67,7 +67,7 @@ whole = refl
 pub dropped : run (block (quantiser true 1) (replicate 64 19) true (pos 128) (set (replicate 64 (pos 0)) 9 (pos 77)))
     (0b10000000 ∷ 0b11111110 ∷ 0b00000010 ∷ []) 0
     ≡ record { value = record { filled = filled (set (set (replicate 64 (pos 0)) 9 (pos 77)) 0 (pos 32768)) 1; predictor = pos 128; end = Dropped }; at = 23 }
-unfolding run bind loop got next bitsAt bitAt block codedBlock intraCoded dcDifference dcSize dctSizeLuminance dctSizeLuminanceIndex
-    dctSizeLuminanceValue vlc walk walkTurn pairs pairTurn coefficient dctCoeff dctCoeffIndex dctCoeffValue runLevel escape escapeLevel
+unfolding run bind loop readAt afterRead bitsAt bitAt block codedBlock intraCoded dcDifference dcSize dctSizeLuminance dctSizeLuminanceIndex
+    dctSizeLuminanceValue vlc walk walkStep pairs pairStep coefficient dctCoeff dctCoeffIndex dctCoeffValue runLevel escape escapeLevel
     reconstructed allPlaced
 dropped = refl

@@ -18,8 +18,8 @@ use Rattle.coefficients.specs.declared.block.BlockEnd.the-variants.{Whol
 use Rattle.coefficients.specs.declared.quantiser.Quantiser.{Quantiser}
 use Rattle.coefficients.specs.Dcs.{dcInside}
 use Rattle.coefficients.specs.Dequantise.{doubled, madeOdd, clipped, dequantised}
-use Rattle.coefficients.specs.Syntax.{Pair, Coded, codedBlock}
-use Rattle.coefficients.specs.Blocks.{Filled, filled, placed, allPlaced, Read, withDc, reconstructed, block, leftOver}
+use Rattle.coefficients.specs.Syntax.{Pair, CodedBlock, codedBlock}
+use Rattle.coefficients.specs.Blocks.{Filled, filled, placed, allPlaced, BlockRead, withDc, reconstructed, block, blockDataAfter}
 use Rattle.coefficients.proofs.Bounds.{bounded-set, bounded-dc, bounded-zero}
 
 clipped-small : (x : ℤ) → natAbs (clipped x) ≤ 2048
@@ -50,12 +50,12 @@ all-bounded q m f [] b = b
 all-bounded q m f (p ∷ ps) b = all-bounded q m (placed q m f p) ps (placed-bounded q m f p b)
 
 -- the predictor inside, and the coefficients bounded
-pub record Kept (r : Read) : Type 0 where
+pub record Kept (r : BlockRead) : Type 0 where
   pub predictor : dcInside (r .predictor) ≡ true
   pub bounded : Bounded (r .filled .coefficients)
 
 module _ (q : Quantiser) (m : List ℕ) (predictor : ℤ) (left : List ℤ) (p : dcInside predictor ≡ true) (b : Bounded left) where
-  pub reconstructed-kept : (c : Coded) → Kept (reconstructed q m predictor left c)
+  pub reconstructed-kept : (c : CodedBlock) → Kept (reconstructed q m predictor left c)
   unfolding reconstructed
   reconstructed-kept c = go (q .intra) (dcInside (predictor +ℤ c .difference)) refl
     where
@@ -74,8 +74,8 @@ module _ (q : Quantiser) (m : List ℕ) (predictor : ℤ) (left : List ℤ) (p :
   unfolding block
   block-gives luminance = g-bind _ (g-any (codedBlock (q .intra) luminance predictor)) (λ c u. g-done (reconstructed-kept c))
 
-pub left-bounded : (q : Quantiser) (r : Read) → Bounded (r .filled .coefficients) → Bounded (leftOver q r)
-unfolding leftOver
+pub left-bounded : (q : Quantiser) (r : BlockRead) → Bounded (r .filled .coefficients) → Bounded (blockDataAfter q r)
+unfolding blockDataAfter
 left-bounded q r b = go (r .end)
   where
     go : (e : BlockEnd) → Bounded (elim e [ Whole ↦ replicate 64 (pos 0) | Dropped ↦ r .filled .coefficients | Outside ↦ r .filled .coefficients ])

@@ -18,8 +18,8 @@ use Rattle.coefficients.specs.declared.quantiser.Quantiser.{Quantiser}
 use Rattle.coefficients.specs.Coefficients.{coefficient}
 use Rattle.coefficients.specs.Dcs.{dcDifference, dcInside}
 use Rattle.coefficients.specs.Dequantise.{quantiser}
-use Rattle.coefficients.specs.Syntax.{Pair, Ended, taken, ended, coded, pairTurn, pairs, intraCoded, otherCoded, codedBlock}
-use Rattle.coefficients.specs.Blocks.{Filled, filled, placed, allPlaced, Fill, fill, coefficients, Read, withDc, reconstructed, block}
+use Rattle.coefficients.specs.Syntax.{Pair, PairsEnd, pairsRead, pairsEnd, coded, pairStep, pairs, intraCoded, otherCoded, codedBlock}
+use Rattle.coefficients.specs.Blocks.{Filled, filled, placed, allPlaced, Fill, fill, coefficients, BlockRead, withDc, reconstructed, block}
 
 -- one pair more, at the end
 all-snoc : (q : Quantiser) (m : List ℕ) (f : Filled) (ps : List Pair) (p : Pair) → allPlaced q m f (ps ++ (p ∷ [])) ≡ placed q m (allPlaced q m f ps) p
@@ -30,7 +30,7 @@ all-snoc q m f (x ∷ ps) p = all-snoc q m (placed q m f x) ps p
 -- between two coefficients: some pairs are read, and their levels are at their places
 pub record AtPair (q : Quantiser) (m : List ℕ) (f : Filled) (s : List ℕ) (from : Reader) (now : Filled) (here : Reader) : Type 0 where
   pub read : List Pair
-  pub loops : Loops 65 pairTurn (ended [] Dropped) (taken [] (f .n)) s from (taken read (now .n)) here (64 - now .n)
+  pub loops : Loops 65 pairStep (pairsEnd [] Dropped) (pairsRead [] (f .n)) s from (pairsRead read (now .n)) here (64 - now .n)
   pub most : now .n ≤ 64
   pub is : now ≡ allPlaced q m f read
 
@@ -42,7 +42,7 @@ module _ {q : Quantiser} {m : List ℕ} {f : Filled} {s : List ℕ} {from : Read
     {to : Reader} where
   pub pair-on : {run : ℕ} {level : ℤ} → Runs (coefficient (now .n)) s here (RunLevel run level) to → now .n + run < 64
       → AtPair q m f s from (placed q m now (record { run = run; level = level })) to
-  unfolding pairTurn
+  unfolding pairStep
   pair-on {run} {level} r h =
       record {
         read = x .read ++ (record { run = run; level = level } ∷ []);
@@ -52,17 +52,17 @@ module _ {q : Quantiser} {m : List ℕ} {f : Filled} {s : List ℕ} {from : Read
             ∙ sym (all-snoc q m f (x .read) (record { run = run; level = level }));
       }
 
-  ends : (end : BlockEnd) → Runs (pairs (f .n)) s from (ended (x .read) end) to → Runs (coefficients q m f) s from (fill now end) to
+  ends : (end : BlockEnd) → Runs (pairs (f .n)) s from (pairsEnd (x .read) end) to → Runs (coefficients q m f) s from (fill now end) to
   unfolding coefficients
   ends end r = subst (λ (g : Filled). Runs (coefficients q m f) s from (fill g end) to) (sym (x .is)) (r-call _ r r-done)
 
   pub pair-whole : Runs (coefficient (now .n)) s here EndOfBlock to → Runs (coefficients q m f) s from (fill now Whole) to
-  unfolding pairs pairTurn
+  unfolding pairs pairStep
   pair-whole r = ends Whole (loop-end (x .loops) (r-call _ r r-done))
 
   pub pair-dropped : {run : ℕ} {level : ℤ} → Runs (coefficient (now .n)) s here (RunLevel run level) to → 64 ≤ now .n + run
       → Runs (coefficients q m f) s from (fill now Dropped) to
-  unfolding pairs pairTurn
+  unfolding pairs pairStep
   pair-dropped r h = ends Dropped (loop-end (x .loops) (r-call _ r (rw (le-ltb _ _ h) r-done)))
 
 -- ---- a block
@@ -70,11 +70,11 @@ module _ {q : Quantiser} {m : List ℕ} {f : Filled} {s : List ℕ} {from : Read
 -- the pairs that a run of coefficients read
 module _ (q : Quantiser) (m : List ℕ) (f : Filled) {s : List ℕ} {from to : Reader} {g : Filled} {end : BlockEnd}
     (w : Runs (coefficients q m f) s from (fill g end) to) where
-  read-first : (p : Ended) × Runs (pairs (f .n)) s from p to × (fill (allPlaced q m f (p .pairs)) (p .end) ≡ fill g end)
+  read-first : (p : PairsEnd) × Runs (pairs (f .n)) s from p to × (fill (allPlaced q m f (p .pairs)) (p .end) ≡ fill g end)
   unfolding coefficients
   read-first = r-inner (λ p. fill (allPlaced q m f (p .pairs)) (p .end)) w
 
-  abbrev out : Ended
+  abbrev out : PairsEnd
   out = read-first .0
 
   pairs-read : Runs (pairs (f .n)) s from out to
@@ -82,7 +82,7 @@ module _ (q : Quantiser) (m : List ℕ) (f : Filled) {s : List ℕ} {from to : R
 
   -- what is made of them
   pairs-placed : (predictor : ℤ)
-      → _≡_ {A = Read} (record { filled = allPlaced q m f (out .pairs); predictor = predictor; end = out .end })
+      → _≡_ {A = BlockRead} (record { filled = allPlaced q m f (out .pairs); predictor = predictor; end = out .end })
       (record { filled = g; predictor = predictor; end = end })
   pairs-placed predictor = ap (λ (o : Fill). record { filled = o .filled; predictor = predictor; end = o .end }) (read-first .2)
 
@@ -97,17 +97,17 @@ module _ (m : List ℕ) (luminance : Bool) (predictor : ℤ) (left : List ℤ) {
     unfolding block codedBlock intraCoded reconstructed
     dc-outside h =
         let o = quantiser true (q .scale) in
-        let end : Read = record { filled = filled left 0; predictor = predictor; end = Outside } in
-        let is : reconstructed o m predictor left (coded x (ended [] Outside)) ≡ end = if-yes _ (ap not h) refl in
+        let end : BlockRead = record { filled = filled left 0; predictor = predictor; end = Outside } in
+        let is : reconstructed o m predictor left (coded x (pairsEnd [] Outside)) ≡ end = if-yes _ (ap not h) refl in
         as-kind (λ q. Runs (block q m luminance predictor left) s from end mid) q true intra
-        (subst (λ (v : Read). Runs (block o m luminance predictor left) s from v mid) is
+        (subst (λ (v : BlockRead). Runs (block o m luminance predictor left) s from v mid) is
         (r-call (λ c. done (reconstructed o m predictor left c)) (r-call _ r (r-no _ h r-done)) r-done))
 
-    pub behind-dc : {g : Filled} {end : BlockEnd} {to : Reader} → dcInside (predictor +ℤ x) ≡ true
+    pub after-dc : {g : Filled} {end : BlockEnd} {to : Reader} → dcInside (predictor +ℤ x) ≡ true
         → Runs (coefficients q m (withDc (predictor +ℤ x) left)) s mid (fill g end) to
         → Runs (block q m luminance predictor left) s from (record { filled = g; predictor = predictor +ℤ x; end = end }) to
     unfolding block codedBlock intraCoded reconstructed
-    behind-dc {g} {end} {to} h =
+    after-dc {g} {end} {to} h =
         as-kind
         (λ q. Runs (coefficients q m (withDc (predictor +ℤ x) left)) s mid (fill g end) to
         → Runs (block q m luminance predictor left) s from (record { filled = g; predictor = predictor +ℤ x; end = end }) to)
@@ -115,9 +115,9 @@ module _ (m : List ℕ) (luminance : Bool) (predictor : ℤ) (left : List ℤ) {
         (λ w.
         let o = quantiser true (q .scale) in
         let f = withDc (predictor +ℤ x) left in
-        let whole : Read = record { filled = allPlaced o m f (out o m f w .pairs); predictor = predictor +ℤ x; end = out o m f w .end } in
+        let whole : BlockRead = record { filled = allPlaced o m f (out o m f w .pairs); predictor = predictor +ℤ x; end = out o m f w .end } in
         let is : reconstructed o m predictor left (coded x (out o m f w)) ≡ whole = if-no _ (ap not h) refl in
-        subst (λ (v : Read). Runs (block o m luminance predictor left) s from v to) (is ∙ pairs-placed o m f w (predictor +ℤ x))
+        subst (λ (v : BlockRead). Runs (block o m luminance predictor left) s from v to) (is ∙ pairs-placed o m f w (predictor +ℤ x))
         (r-call (λ c. done (reconstructed o m predictor left c)) (r-call _ r (r-yes _ h (r-call _ (pairs-read o m f w) r-done))) r-done))
 
   pub no-dc : (q : Quantiser) {g : Filled} {end : BlockEnd} {to : Reader} → q .intra ≡ false → Runs (coefficients q m (filled left 0)) s from (fill g end) to
@@ -127,5 +127,5 @@ module _ (m : List ℕ) (luminance : Bool) (predictor : ℤ) (left : List ℤ) {
       as-kind (λ q. Runs (coefficients q m (filled left 0)) s from (fill g end) to
       → Runs (block q m luminance predictor left) s from (record { filled = g; predictor = predictor; end = end }) to) q false h
       (λ w. let o = quantiser false (q .scale) in
-      subst (λ (v : Read). Runs (block o m luminance predictor left) s from v to) (pairs-placed o m (filled left 0) w predictor)
+      subst (λ (v : BlockRead). Runs (block o m luminance predictor left) s from v to) (pairs-placed o m (filled left 0) w predictor)
       (r-call (λ c. done (reconstructed o m predictor left c)) (r-call _ (pairs-read o m (filled left 0) w) r-done) r-done))

@@ -17,7 +17,7 @@ use mir.Val.{toZ}
 use Rattle.laws.specs.Signed.{odd}
 use Rattle.laws.proofs.Bytes.{and-bit}
 use Rattle.laws.proofs.Ints.{v, lit, _⊖_, eq-by}
-use Rattle.bits.specs.Bits.{bitsAt, got}
+use Rattle.bits.specs.Bits.{bitsAt, readAt}
 use Rattle.bits.specs.Programs.{bits}
 use Rattle.bits.specs.Runs.{RunsAt}
 use Rattle.bits.proofs.Bits.{bits-append, bits-lt}
@@ -81,7 +81,7 @@ dc-as-printed s d h k l = formula-as-printed s d h (omega arith) l ∙ sym (adde
 
 -- bits that are there
 there : (s : List ℕ) (a n w : ℕ) → a + n ≤ length s * 8 → bitsAt s a n ≡ w → RunsAt (bits n) s a w (a + n)
-unfolding got
+unfolding readAt
 there s a n w h e = at-bits (sym (rw (served-has s a n h) e)) (sym (served-next s a n h))
 
 -- sixteen of them as two bytes

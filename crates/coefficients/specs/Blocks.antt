@@ -13,7 +13,7 @@ use Rattle.coefficients.specs.declared.block.BlockEnd.the-variants.{Whol
 use Rattle.coefficients.specs.declared.quantiser.Quantiser.{Quantiser}
 use Rattle.coefficients.specs.Dcs.{dcInside}
 use Rattle.coefficients.specs.Dequantise.{dequantised}
-use Rattle.coefficients.specs.Syntax.{Pair, Coded, pairs, codedBlock}
+use Rattle.coefficients.specs.Syntax.{Pair, CodedBlock, pairs, codedBlock}
 
 -- the coefficients so far, and the places used
 pub record Filled : Type 0 where
@@ -27,8 +27,8 @@ filled coefficients n = record { coefficients = coefficients; n = n }
 abbrev pub placed : Quantiser → List ℕ → Filled → Pair → Filled
 placed q matrix f p =
     let n = f .n + p .run in
-    let place = getD zigZag n 0 in
-    filled (set (f .coefficients) place (dequantised q (p .level) (getD matrix place 0) *ℤ getD premultiplierMatrix place (pos 0))) (n + 1)
+    let position = getD zigZag n 0 in
+    filled (set (f .coefficients) position (dequantised q (p .level) (getD matrix position 0) *ℤ getD premultiplierMatrix position (pos 0))) (n + 1)
 
 -- all pairs, one after the other
 unfoldable pub allPlaced : Quantiser → List ℕ → Filled → List Pair → Filled
@@ -50,7 +50,7 @@ coefficients q matrix f = do
   done (fill (allPlaced q matrix f (p .pairs)) (p .end))
 
 -- RULES 3.3, 3.9: what a block leaves: coefficients, the predictor from now on, and how it ended
-pub record Read : Type 0 where
+pub record BlockRead : Type 0 where
   pub filled : Filled
   pub predictor : ℤ
   pub end : BlockEnd
@@ -60,32 +60,32 @@ abbrev pub withDc : ℤ → List ℤ → Filled
 withDc x left = filled (set left 0 (x *ℤ pos 256)) 1
 
 -- RULES 3.3, 3.4: the predictor behind the block: the DC value of an intra block
-abbrev pub dcOf : Quantiser → ℤ → Coded → ℤ
+abbrev pub dcOf : Quantiser → ℤ → CodedBlock → ℤ
 dcOf q predictor c = if q .intra then predictor +ℤ c .difference else predictor
 
 -- RULES 3.3, 3.4: what the pairs are placed behind
-abbrev pub begun : Quantiser → ℤ → List ℤ → Coded → Filled
-begun q predictor left c = if q .intra then withDc (dcOf q predictor c) left else filled left 0
+abbrev pub filledBeforePairs : Quantiser → ℤ → List ℤ → CodedBlock → Filled
+filledBeforePairs q predictor left c = if q .intra then withDc (dcOf q predictor c) left else filled left 0
 
 -- RULES Q8, 3.3, 3.4, 3.7, 3.8: a block from what it says, the predictor and the coefficients left over; a DC value outside changes neither of them
-unfoldable pub reconstructed : Quantiser → List ℕ → ℤ → List ℤ → Coded → Read
+unfoldable pub reconstructed : Quantiser → List ℕ → ℤ → List ℤ → CodedBlock → BlockRead
 reconstructed q matrix predictor left c =
     if q .intra && not (dcInside (predictor +ℤ c .difference)) then record { filled = filled left 0; predictor = predictor; end = c .end }
-    else record { filled = allPlaced q matrix (begun q predictor left c) (c .pairs); predictor = dcOf q predictor c; end = c .end }
+    else record { filled = allPlaced q matrix (filledBeforePairs q predictor left c) (c .pairs); predictor = dcOf q predictor c; end = c .end }
 
 -- a block, from the coefficients that are left over: read, then reconstructed
-unfoldable pub block : Quantiser → List ℕ → Bool → ℤ → List ℤ → Prog Read
+unfoldable pub block : Quantiser → List ℕ → Bool → ℤ → List ℤ → Prog BlockRead
 block q matrix luminance predictor left = do
   c ← codedBlock (q .intra) luminance predictor
   done (reconstructed q matrix predictor left c)
 
 -- what the code gives beside the reader, with the coefficients as it leaves them
-abbrev pub readOf : List ℤ → Block → Read
-readOf coefficients r = record { filled = filled coefficients (r .n); predictor = r .predictor; end = r .end }
+abbrev pub blockReadOf : List ℤ → Block → BlockRead
+blockReadOf coefficients r = record { filled = filled coefficients (r .n); predictor = r .predictor; end = r .end }
 
--- RULES 3.9, 3.12: what is left over for the next block: nothing after a whole block, else its coefficients so far
-unfoldable pub leftOver : Quantiser → Read → List ℤ
-leftOver q r = elim (r .end) [ Whole ↦ replicate 64 (pos 0) | Dropped ↦ r .filled .coefficients | Outside ↦ r .filled .coefficients ]
+-- RULES 3.9, 3.12: block_data after a block (RULES S.7: left-over coefficients): nothing after a whole block, else its coefficients so far
+unfoldable pub blockDataAfter : Quantiser → BlockRead → List ℤ
+blockDataAfter q r = elim (r .end) [ Whole ↦ replicate 64 (pos 0) | Dropped ↦ r .filled .coefficients | Outside ↦ r .filled .coefficients ]
 
 -- RULES 4.3: a block that has its first coefficient and no other
 abbrev pub firstOnly : Quantiser → Filled → Bool

@@ -46,6 +46,6 @@ abbrev pub has : ℕ → ℕ → Line → Bool
 has size b x = eqb size (x .size) && leb (x .bits) b && leb b (x .lastBits)
 
 -- the difference that the first line which has them says; 0 where none has
-abbrev pub said : List Line → ℕ → ℕ → ℤ
-said [] size b = pos 0
-said (x ∷ xs) size b = cond (has size b x) (x .difference +ℤ pos (b - x .bits)) (said xs size b)
+abbrev pub differenceIn : List Line → ℕ → ℕ → ℤ
+differenceIn [] size b = pos 0
+differenceIn (x ∷ xs) size b = cond (has size b x) (x .difference +ℤ pos (b - x .bits)) (differenceIn xs size b)

@@ -6,7 +6,7 @@ use lib.IntN.{ℤ, pos, negℤ, _-ℤ_}
 use lib.Signed.{leZ}
 use Rattle.bits.specs.Programs.{Prog, done, bits, _>>=_, _>>_, if_then_else_}
 use Rattle.codes.specs.Codes.{dctSizeLuminance, dctSizeChrominance}
-use Rattle.coefficients.specs.DcTable.{lines, said}
+use Rattle.coefficients.specs.DcTable.{lines, differenceIn}
 
 -- RULES 3.1: the differential's size, by the table for blocks of Y or by the one for Cb and Cr
 unfoldable pub dcSize : Bool → Prog ℕ
@@ -14,7 +14,7 @@ dcSize luminance = if luminance then dctSizeLuminance else dctSizeChrominance
 
 -- RULES 3.2: what a differential d of s bits adds, by the printed table
 unfoldable pub added : ℕ → ℕ → ℤ
-added s d = said lines s d
+added s d = differenceIn lines s d
 
 -- RULES 3.2, the same as a formula: d itself where its top bit is 1, else d + 1 - 2 ^ s
 unfoldable pub byTopBit : ℕ → ℕ → ℤ

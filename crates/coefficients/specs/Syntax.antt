@@ -4,7 +4,7 @@ use mathlib.Core.List.{List, [], _∷_, _++_}
 use Prim.Native.Nat.{ℕ, _+_}
 use lib.Dec.{ltb}
 use lib.IntN.{ℤ, pos, _+ℤ_}
-use Rattle.laws.specs.Turns.{Turn, again, stop}
+use Rattle.laws.specs.Loops.{Step, continue, finish}
 use Rattle.bits.specs.Programs.{Prog, done, loop, _>>=_, _>>_, if_then_else_}
 use Rattle.coefficients.specs.declared.coefficient.Coefficient.{Coefficient}
 use Rattle.coefficients.specs.declared.coefficient.Coefficient.the-variants.{EndOfBlock, RunLevel}
@@ -19,59 +19,60 @@ pub record Pair : Type 0 where
   pub level : ℤ
 
 -- the pairs so far, and the places used
-pub record Taken : Type 0 where
+pub record PairsRead : Type 0 where
   pub pairs : List Pair
   pub n : ℕ
 
-abbrev pub taken : List Pair → ℕ → Taken
-taken pairs n = record { pairs = pairs; n = n }
+abbrev pub pairsRead : List Pair → ℕ → PairsRead
+pairsRead pairs n = record { pairs = pairs; n = n }
 
 -- the pairs of a block, and how it ended
-pub record Ended : Type 0 where
+pub record PairsEnd : Type 0 where
   pub pairs : List Pair
   pub end : BlockEnd
 
-abbrev pub ended : List Pair → BlockEnd → Ended
-ended pairs end = record { pairs = pairs; end = end }
+abbrev pub pairsEnd : List Pair → BlockEnd → PairsEnd
+pairsEnd pairs end = record { pairs = pairs; end = end }
 
 -- RULES 3.5, 3.7: a coefficient ends the block, drops it where its run leads past the last place, or takes one place more
-abbrev pub next : Taken → Coefficient → Turn Taken Ended
-next x EndOfBlock = stop (ended (x .pairs) Whole)
-next x (RunLevel run level) =
-    cond (ltb (x .n + run) 64) (again (taken (x .pairs ++ (record { run = run; level = level } ∷ [])) (x .n + run + 1))) (stop (ended (x .pairs) Dropped))
+abbrev pub afterCoefficient : PairsRead → Coefficient → Step PairsRead PairsEnd
+afterCoefficient x EndOfBlock = finish (pairsEnd (x .pairs) Whole)
+afterCoefficient x (RunLevel run level) =
+    cond (ltb (x .n + run) 64) (continue (pairsRead (x .pairs ++ (record { run = run; level = level } ∷ [])) (x .n + run + 1)))
+        (finish (pairsEnd (x .pairs) Dropped))
 
 -- RULES 3.5, 3.7: one coefficient
-unfoldable pub pairTurn : Taken → Prog (Turn Taken Ended)
-pairTurn x = do
+unfoldable pub pairStep : PairsRead → Prog (Step PairsRead PairsEnd)
+pairStep x = do
   c ← coefficient (x .n)
-  done (next x c)
+  done (afterCoefficient x c)
 
 -- coefficients up to the end of a block that has n places used: at most 64, and one turn that ends it
-unfoldable pub pairs : ℕ → Prog Ended
-pairs n = loop 65 pairTurn (ended [] Dropped) (taken [] n)
+unfoldable pub pairs : ℕ → Prog PairsEnd
+pairs n = loop 65 pairStep (pairsEnd [] Dropped) (pairsRead [] n)
 
 -- a block as it is coded: what its DC value adds to the predictor, 0 in a non-intra block; its pairs; how it ended
-pub record Coded : Type 0 where
+pub record CodedBlock : Type 0 where
   pub difference : ℤ
   pub pairs : List Pair
   pub end : BlockEnd
 
-abbrev pub coded : ℤ → Ended → Coded
+abbrev pub coded : ℤ → PairsEnd → CodedBlock
 coded difference p = record { difference = difference; pairs = p .pairs; end = p .end }
 
 -- RULES 3.3: an intra block begins with its DC value, after which question 8 is asked
-unfoldable pub intraCoded : Bool → ℤ → Prog Coded
+unfoldable pub intraCoded : Bool → ℤ → Prog CodedBlock
 intraCoded luminance predictor = do
   difference ← dcDifference luminance
   if dcInside (predictor +ℤ difference) then (do p ← pairs 1; done (coded difference p))
-      else done (coded difference (ended [] Outside))
+      else done (coded difference (pairsEnd [] Outside))
 
 -- RULES 3.4
-unfoldable pub otherCoded : Prog Coded
+unfoldable pub otherCoded : Prog CodedBlock
 otherCoded = do
   p ← pairs 0
   done (coded (pos 0) p)
 
 -- a block, intra or not
-unfoldable pub codedBlock : Bool → Bool → ℤ → Prog Coded
+unfoldable pub codedBlock : Bool → Bool → ℤ → Prog CodedBlock
 codedBlock intra luminance predictor = if intra then intraCoded luminance predictor else otherCoded

@@ -8,7 +8,7 @@ use crate::quantiser::Quantiser;
 use bits::reader::Reader;
 use codes::lent::Tables;
 use codes::lent::entry;
-use codes::lent::place_of;
+use codes::lent::position_of;
 use codes::lent::premultiplier;
 ghost use mathlib.Core.Path.{_≡_};
 ghost use mathlib.Core.Bool.{true};
@@ -20,7 +20,7 @@ ghost use Rattle.codes.specs.Lent.{Lent, matrixOf};
 ghost use Rattle.codes.specs.Matrices.{premultiplierMatrix};
 ghost use Rattle.coefficients.specs.Dcs.{dcInside};
 ghost use Rattle.coefficients.specs.Dequantise.{dequantised};
-ghost use Rattle.coefficients.specs.Blocks.{filled, fill, coefficients, block, readOf, leftOver};
+ghost use Rattle.coefficients.specs.Blocks.{filled, fill, coefficients, block, blockReadOf, blockDataAfter};
 
 // How a block ended: read to its end; dropped, its run having led past the last place; or its DC value outside -256..255 (number 8).
 pub enum BlockEnd {
@@ -45,15 +45,15 @@ struct CoefficientsEnd {
 }
 
 // RULES 3.8 with its last step: the coefficient at a place.
-fn premultiplied(tables: &Tables, q: Quantiser, level: i32, place: usize) -> i32
+fn premultiplied(tables: &Tables, q: Quantiser, level: i32, position: usize) -> i32
     requires { ⌜ Lent (now tables) ⌝ }
-    requires { ⌜ (natAbs level ≤ 256) × (q .scale ≤ 31) × (place < 64) ⌝ }
+    requires { ⌜ (natAbs level ≤ 256) × (q .scale ≤ 31) × (position < 64) ⌝ }
     ensures { λ r. ⌜
-        r ≡ dequantised q level (getD (matrixOf (now (tables .entry)) (q .intra)) place 0) *ℤ getD premultiplierMatrix place (pos 0)
+        r ≡ dequantised q level (getD (matrixOf (now (tables .entry)) (q .intra)) position 0) *ℤ getD premultiplierMatrix position (pos 0)
         ⌝ }
 {
-    let weight = entry(tables, q.intra, place);
-    let factor = premultiplier(tables, place);
+    let weight = entry(tables, q.intra, position);
+    let factor = premultiplier(tables, position);
     dequantise(q, level, weight) * factor
 }
 
@@ -95,9 +95,9 @@ fn read_coefficients(
                 end: BlockEnd::Dropped,
             };
         }
-        let place = place_of(tables, at);
-        let v = premultiplied(tables, q, level, place);
-        values[place] = v;
+        let position = position_of(tables, at);
+        let v = premultiplied(tables, q, level, position);
+        values[position] = v;
         n = at + 1;
     }
 }
@@ -117,7 +117,7 @@ fn read_intra_block(
     requires { ⌜ (q .intra ≡ true) × (q .scale ≤ 31) × (dcInside predictor ≡ true) ⌝ }
     ensures { λ r. ⌜
         Reading (block q (matrixOf (now (tables .entry)) (q .intra)) luminance predictor (now (values .entry)))
-        (now (s .entry)) reader (readOf (now (values .exit)) r) (r .reader)
+        (now (s .entry)) reader (blockReadOf (now (values .exit)) r) (r .reader)
         ⌝ }
 {
     let difference = read_dc_difference(s, reader, tables, luminance);
@@ -158,7 +158,7 @@ pub fn read_block(
     requires { ⌜ (q .scale ≤ 31) × (dcInside predictor ≡ true) ⌝ }
     ensures { λ r. ⌜
         Reading (block q (matrixOf (now (tables .entry)) (q .intra)) luminance predictor (now (values .entry)))
-        (now (s .entry)) reader (readOf (now (values .exit)) r) (r .reader)
+        (now (s .entry)) reader (blockReadOf (now (values .exit)) r) (r .reader)
         ⌝ }
 {
     let intra = q.intra;
@@ -177,8 +177,8 @@ pub fn read_block(
 }
 
 // Makes of a block's coefficients what the next block begins with.
-pub fn left_over(values: &mut [i32; 64], q: Quantiser, block: Block)
-    ensures { λ r. ⌜ now (values .exit) ≡ leftOver q (readOf (now (values .entry)) block) ⌝ }
+pub fn block_data_after(values: &mut [i32; 64], q: Quantiser, block: Block)
+    ensures { λ r. ⌜ now (values .exit) ≡ blockDataAfter q (blockReadOf (now (values .entry)) block) ⌝ }
 {
     let end = block.end;
     if let BlockEnd::Whole = end {

@@ -13,16 +13,16 @@ use Rattle.prediction.specs.declared.planes.Plane.{Plane}
 use Rattle.prediction.specs.declared.planes.Plane.the-variants.{Y, Cr, Cb}
 use Rattle.prediction.specs.Planes.{planeLength, planeStart, storesBytes}
 use Rattle.prediction.proofs.Macroblocks.{store-most}
-use Rattle.argb.specs.Scaled.{Whole}
+use Rattle.argb.specs.Scaled.{PlanesFit}
 use Rattle.argb.proofs.Store.{store-whole}
 use Rattle.header.specs.declared.state.Sequence.{Sequence}
 use Rattle.header.specs.Possible.{possibleSequence}
 use Rattle.header.proofs.Sizing.{size-most, possible-sized, possible-headed}
-use Rattle.conversion.specs.Headed.{Headed}
+use Rattle.conversion.specs.HasHeader.{HasHeader}
 use Rattle.conversion.specs.Pictures.{fits, pictureIn}
 
 -- RULES Q2: with a header, the sizes follow from width and height
-pub headed-by : (q : Sequence) → possibleSequence q ≡ true → q .«has_sequence_header» ≡ true → Headed q
+pub headed-by : (q : Sequence) → possibleSequence q ≡ true → q .«has_sequence_header» ≡ true → HasHeader q
 headed-by q e t =
     let k = possible-sized q e in
     let h = each _ (_ ∷ _ ∷ []) (possible-headed q e t) in
@@ -36,7 +36,7 @@ headed-by q e t =
     }
 
 -- RULES O.4
-pub size-few : {q : Sequence} → Headed q → q .sizes .«mb_size» ≤ 65536
+pub size-few : {q : Sequence} → HasHeader q → q .sizes .«mb_size» ≤ 65536
 size-few {q} h = rw (h .size, h .columns, h .rows) (size-most (q .width) (q .height) (h .wide .1) (h .high .1))
 
 -- RULES 6.11: a plane is within the three stores
@@ -46,7 +46,7 @@ plane-end Cr k n h = omega (arith, store-most k n (omega arith))
 plane-end Cb k n h = omega (arith, store-most k n (omega arith))
 
 -- the picture in a store is whole
-pub picture-whole : (q : Sequence) (l : List ℕ) (k : ℕ) → Headed q → storesBytes (q .sizes .«mb_size») ≤ length l → k ≤ 2 → Whole (pictureIn q l k)
+pub picture-whole : (q : Sequence) (l : List ℕ) (k : ℕ) → HasHeader q → storesBytes (q .sizes .«mb_size») ≤ length l → k ≤ 2 → PlanesFit (pictureIn q l k)
 picture-whole q l k h m i =
     let z = q .sizes in
     let n = z .«mb_size» in

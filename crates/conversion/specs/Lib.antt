@@ -1,2 +1,2 @@
-pub mod Headed
+pub mod HasHeader
 pub mod Pictures

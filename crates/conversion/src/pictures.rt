@@ -14,7 +14,7 @@ ghost use lib.ListN.{length};
 ghost use Rattle.prediction.specs.Planes.{planeStart, planeLength, storesBytes};
 ghost use Rattle.argb.specs.Scaled.{scaled};
 ghost use Rattle.conversion.specs.Pictures.{pictureIn};
-ghost use Rattle.conversion.specs.Headed.{Headed};
+ghost use Rattle.conversion.specs.HasHeader.{HasHeader};
 
 // RULES Q11, QE: the area has `room` numbers.
 pub fn fits(w: usize, h: usize, room: usize) -> bool
@@ -42,7 +42,7 @@ fn plane(store: &[u8], k: usize, q: Plane, n: usize) -> &[u8]
 
 // RULES 9.1, 9.2: the picture in the store number `index`.
 pub fn write_picture(q: Sequence, store: &[u8], index: usize, area: &mut [u32], w: usize, h: usize)
-    requires { ⌜ Headed q ⌝ }
+    requires { ⌜ HasHeader q ⌝ }
     requires { ⌜ storesBytes (q .sizes .«mb_size») ≤ length (now store) ⌝ }
     requires { ⌜ (index ≤ 2) × (w ≤ 4096) × (h ≤ 4096) × (w * h ≤ length (now area)) ⌝ }
     ensures { λ r. ⌜ now (area .exit) ≡ scaled (pictureIn q (now (store .entry)) index) w h (now (area .entry)) ⌝ }

@@ -13,76 +13,76 @@ use Rattle.decoder.specs.declared.record.Decoder.{Decoder}
 use Rattle.decoder.specs.declared.answers.Opening.the-variants as O
 use Rattle.playback.specs.declared.outcome.Outcome.{Outcome}
 use Rattle.playback.specs.declared.outcome.Outcome.the-variants as H
-use Rattle.decoder.specs.Record.{Left}
+use Rattle.decoder.specs.Record.{CallResult}
 use Rattle.decoder.specs.Headers.{accepted}
 use Rattle.decoder.specs.Opening.{opening}
-use Rattle.playback.specs.Turns.{Ended, gave, stopped}
-use Rattle.decoder.specs.HandOut.{ended}
-use Rattle.decoder.specs.Run.{Going, call, begin, before, answer, pictureIn, handedOut}
-use Rattle.demands.specs.Numbers.{among}
+use Rattle.playback.specs.Steps.{LoopEnd, finished, aborted}
+use Rattle.decoder.specs.Decode.{callResultOf}
+use Rattle.decoder.specs.Run.{CallState, call, stateAfterOpening, before, answer, pictureIn, picturesOutput}
+use Rattle.demands.specs.ErrorCodes.{member}
 use Rattle.demands.proofs.After.{opening-ready}
 use Rattle.demands.proofs.Keeps.{Keeps}
-use Rattle.demands.proofs.RunTurns.{seven, stops}
-use Rattle.demands.proofs.RunCall.{EndsFrom, turns-end, Between, waiting, live, stuck, marked, keeps-call, stuck-call, marked-call, few}
+use Rattle.demands.proofs.RunSteps.{seven, stops}
+use Rattle.demands.proofs.RunCall.{EndsFrom, steps-end, Between, waiting, live, stuck, marked, keeps-call, stuck-call, marked-call, few}
 use Rattle.demands.proofs.Run.{run-on, opening-begins, seven-for-good}
 use Rattle.count.specs.Count.{counts, countFrom, countOf, countsIn, CountsRun}
 use Rattle.count.proofs.Counting.{ready-short}
 
 -- the calls 0 .. n - 1 handed out a picture each
-record Handed (s : List ℕ) (x : Going) (n : ℕ) : Type 0 where
+record Handed (s : List ℕ) (x : CallState) (n : ℕ) : Type 0 where
   pictures : (k : ℕ) → k < n → pictureIn (answer s x k) ≡ 1
-  handed : handedOut s x n ≡ n
+  output : picturesOutput s x n ≡ n
 
-module _ (s : List ℕ) (x : Going) (n : ℕ) (h : Handed s x n) (one : pictureIn (answer s x n) ≡ 1) where
+module _ (s : List ℕ) (x : CallState) (n : ℕ) (h : Handed s x n) (one : pictureIn (answer s x n) ≡ 1) where
   one-more : Handed s x (suc n)
-  unfolding handedOut
+  unfolding picturesOutput
   one-more = record {
     pictures = λ k p. ⊎-elim (λ (e : k ≡ n). rw e one) (λ (q : k < n). h .pictures k q) (eq-or-lt-of-le (omega arith));
-    handed = let z = h .handed in omega arith;
+    output = let z = h .output in omega arith;
   }
 
 -- ---- the number
 
 -- the numbers of a record with a header
 abbrev Ending : Outcome → Type 0
-Ending o = elim o [ H.Picture i ↦ Unit {0} | H.Refused a ↦ among a (7 ∷ 8 ∷ 9 ∷ []) ≡ true ]
+Ending o = elim o [ H.Picture i ↦ Unit {0} | H.Refused a ↦ member a (7 ∷ 8 ∷ 9 ∷ []) ≡ true ]
 
 mark-ending : {n : ℕ} → (n ≡ 8) ⊎ (n ≡ 9) → Ending (H.Refused n)
-unfolding among
+unfolding member
 mark-ending (inl e) = rw e refl
 mark-ending (inr e) = rw e refl
 
 module _ (s : List ℕ) (short : length s ≤ longestStream) (bytes : (k : ℕ) → getD s k 0 < 256) where
-  abbrev Ends-with : Left Outcome → Type 0
+  abbrev Ends-with : CallResult Outcome → Type 0
   Ends-with r = Ending (r .answer)
 
-  ended-ending : (d : Decoder) (l : List ℕ) (k : Keeps s d l) (n : ℕ) (e : Ended) → EndsFrom s short bytes d k n e → Ending (ended d d e .answer)
-  unfolding ended among
-  ended-ending d l k n (gave (H.Picture i) x) r = tt
-  ended-ending d l k n (gave (H.Refused i) x) (seven j e u) = refl
-  ended-ending d l k n (stopped i m) (stops e) = mark-ending e
+  ended-ending : (d : Decoder) (l : List ℕ) (k : Keeps s d l) (n : ℕ) (e : LoopEnd) → EndsFrom s short bytes d k n e → Ending (callResultOf d d e .answer)
+  unfolding callResultOf member
+  ended-ending d l k n (finished (H.Picture i) x) r = tt
+  ended-ending d l k n (finished (H.Refused i) x) (seven j e u) = refl
+  ended-ending d l k n (aborted i m) (stops e) = mark-ending e
 
-  call-ending : {x : Going} {n : ℕ} → Between s x n → (n ≡ 0 → x .decoder .sequence .«has_sequence_header» ≡ true) → Ends-with (call s x)
-  unfolding among
+  call-ending : {x : CallState} {n : ℕ} → Between s x n → (n ≡ 0 → x .decoder .sequence .«has_sequence_header» ≡ true) → Ends-with (call s x)
+  unfolding member
   call-ending (waiting k q) h = absurd (false≢true (sym (k .header) ∙ h q))
   call-ending {x} (live k q) h =
       let d = x .decoder in let l = x .store in
-      subst Ends-with (sym (keeps-call s short d l k)) (ended-ending d l k _ _ (turns-end s short bytes d k))
+      subst Ends-with (sym (keeps-call s short d l k)) (ended-ending d l k _ _ (steps-end s short bytes d k))
   call-ending {x} (stuck k t q) h = subst Ends-with (sym (stuck-call s short (x .decoder) (x .store) k t)) refl
   call-ending {x} (marked p m q) h = subst Ends-with (sym (marked-call s short (x .decoder) (x .store) p m)) (mark-ending m)
 
 -- ---- the run
 
-module _ (s : List ℕ) (short : length s ≤ longestStream) (bytes : (k : ℕ) → getD s k 0 < 256) (x : Going) (begins : Between s x 0)
+module _ (s : List ℕ) (short : length s ≤ longestStream) (bytes : (k : ℕ) → getD s k 0 < 256) (x : CallState) (begins : Between s x 0)
     (header : x .decoder .sequence .«has_sequence_header» ≡ true) where
   -- RULES R.1: the fuel is more than the pictures that are left
   from-run : (j n : ℕ) → Handed s x n → 8 * length s / 29 + 1 < n + j → CountsRun s x (countFrom j s n (before s x n .decoder) (before s x n .store))
   unfolding countFrom before answer
   from-run zero n h p =
-      let f = few s short bytes (run-on s short bytes begins n) in let z = h .handed in let no : ⊥ = omega arith in absurd no
+      let f = few s short bytes (run-on s short bytes begins n) in let z = h .output in let no : ⊥ = omega arith in absurd no
   from-run (suc j) n h p = go (answer s x n) refl (λ r. from-run j (suc n) r (omega arith))
     where
-      next : Going
+      next : CallState
       next = before s x (suc n)
 
       first : n ≡ 0 → before s x n .decoder .sequence .«has_sequence_header» ≡ true
@@ -95,9 +95,9 @@ module _ (s : List ℕ) (short : length s ≤ longestStream) (bytes : (k : ℕ) 
           (r (one-more s x n h (ap pictureIn e)))
       go (H.Refused a) e r = record {
         pictures = h .pictures;
-        handed = h .handed;
+        output = h .output;
         ends = e;
-        number = subst Ending e (call-ending s short bytes (run-on s short bytes begins n) (λ q. first (sym (h .handed) ∙ q)));
+        number = subst Ending e (call-ending s short bytes (run-on s short bytes begins n) (λ q. first (sym (h .output) ∙ q)));
         stored = refl;
       }
 
@@ -114,14 +114,14 @@ ready-header s l e = ap (λ (d : Decoder). d .sequence .«has_sequence_header»)
 
 module _ (s l : List ℕ) (bytes : (k : ℕ) → getD s k 0 < 256) (ready : opening s l .answer ≡ O.Ready) where
   -- RULES R: the count is that of the run
-  pub count-runs : CountsRun s (begin s l) (countsIn s l)
-  unfolding countOf before handedOut
+  pub count-runs : CountsRun s (stateAfterOpening s l) (countsIn s l)
+  unfolding countOf before picturesOutput
   count-runs =
       let h = ready-short s l ready in
       rw ready
-      (from-run s h bytes (begin s l) (opening-begins s h bytes l) (ready-header s l ready) many 0
-      (record { pictures = λ k p. omega arith; handed = refl }) (omega arith))
+      (from-run s h bytes (stateAfterOpening s l) (opening-begins s h bytes l) (ready-header s l ready) many 0
+      (record { pictures = λ k p. omega arith; output = refl }) (omega arith))
 
   -- RULES R.2: behind 7 no call hands out a picture
-  pub count-all : countsIn s l .answer ≡ 7 → (k : ℕ) → answer s (begin s l) (countsIn s l .pictures + k) ≡ H.Refused 7
+  pub count-all : countsIn s l .answer ≡ 7 → (k : ℕ) → answer s (stateAfterOpening s l) (countsIn s l .pictures + k) ≡ H.Refused 7
   count-all e k = seven-for-good s l bytes (countsIn s l .pictures) k (count-runs .ends ∙ ap H.Refused e)

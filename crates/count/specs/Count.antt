@@ -8,12 +8,12 @@ use Rattle.decoder.specs.declared.record.Decoder.{Decoder}
 use Rattle.decoder.specs.declared.answers.Opening.{Opening}
 use Rattle.decoder.specs.declared.answers.Opening.the-variants as O
 use Rattle.playback.specs.declared.outcome.Outcome.the-variants as H
-use Rattle.decoder.specs.Record.{Left}
+use Rattle.decoder.specs.Record.{CallResult}
 use Rattle.decoder.specs.Opening.{opening}
-use Rattle.decoder.specs.Run.{Going}
-use Rattle.decoder.specs.HandOut.{handOut}
+use Rattle.decoder.specs.Run.{CallState}
+use Rattle.decoder.specs.Decode.{decode}
 use Rattle.decoder.specs.Run as Run
-use Rattle.demands.specs.Numbers.{among}
+use Rattle.demands.specs.ErrorCodes.{member}
 
 -- what a count leaves: its answer, the pictures and the whole store
 pub record Counts : Type 0 where
@@ -28,21 +28,21 @@ counts answer pictures store = record { answer = answer; pictures = pictures; st
 unfoldable pub countFrom : ℕ → List ℕ → ℕ → Decoder → List ℕ → Counts
 countFrom zero s n d l = counts 0 n l
 countFrom (suc fuel) s n d l =
-    let x = handOut d s l in
+    let x = decode d s l in
     elim (x .answer) [ H.Picture p ↦ countFrom fuel s (n + 1) (x .decoder) (x .store) | H.Refused answer ↦ counts answer n (x .store) ]
 
 -- a number from opening ends it at once
-unfoldable pub countOf : List ℕ → Left Opening → Counts
+unfoldable pub countOf : List ℕ → CallResult Opening → Counts
 countOf s x = elim (x .answer) [ O.Ready ↦ countFrom many s 0 (x .decoder) (x .store) | O.Refused answer ↦ counts answer 0 (x .store) ]
 
 abbrev pub countsIn : List ℕ → List ℕ → Counts
 countsIn s l = countOf s (opening s l)
 
 -- what a count says of the run of calls from x (decoder, Run.antt)
-pub record CountsRun (s : List ℕ) (x : Going) (c : Counts) : Type 0 where
+pub record CountsRun (s : List ℕ) (x : CallState) (c : Counts) : Type 0 where
   -- the calls before the last one hand out a picture each, and that one answers with the number
   pub pictures : (k : ℕ) → k < c .pictures → Run.pictureIn (Run.answer s x k) ≡ 1
-  pub handed : Run.handedOut s x (c .pictures) ≡ c .pictures
+  pub output : Run.picturesOutput s x (c .pictures) ≡ c .pictures
   pub ends : Run.answer s x (c .pictures) ≡ H.Refused (c .answer)
-  pub number : among (c .answer) (7 ∷ 8 ∷ 9 ∷ []) ≡ true
+  pub number : member (c .answer) (7 ∷ 8 ∷ 9 ∷ []) ≡ true
   pub stored : Run.before s x (suc (c .pictures)) .store ≡ c .store

@@ -11,7 +11,7 @@ struct Count {
 }
 
 // RULES R.1: a stream that is accepted has at most 4,628,198 pictures.
-fn hand_outs(stream: &[u8], store: &mut [u8]) -> Count
+fn decode_all(stream: &[u8], store: &mut [u8]) -> Count
     ensures { λ r. ⌜ counts (r .answer) (r .pictures) (now (store .exit)) ≡ countsIn (now (stream .entry)) (now (store .entry)) ⌝ }
 {
     let opened = Decoder::open(stream, store);
@@ -41,7 +41,7 @@ fn hand_outs(stream: &[u8], store: &mut [u8]) -> Count
 pub extern "C" fn mpeg1_count(stream: &[u8], store: &mut [u8], pictures: &mut usize) -> u32
     ensures { λ r. ⌜ counts r (now (pictures .exit)) (now (store .exit)) ≡ countsIn (now (stream .entry)) (now (store .entry)) ⌝ }
 {
-    let count = hand_outs(stream, store);
+    let count = decode_all(stream, store);
     *pictures = count.pictures;
     count.answer
 }

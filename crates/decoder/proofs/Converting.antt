@@ -7,7 +7,7 @@ use borrow.Author.Tests.{le-leb, lt-leb}
 use lib.Dec.{leb}
 use lib.ListN.{length}
 use Rattle.argb.specs.Scaled.{scaled}
-use Rattle.conversion.specs.Headed.{Headed}
+use Rattle.conversion.specs.HasHeader.{HasHeader}
 use Rattle.conversion.specs.Pictures.{pictureIn, fits}
 use Rattle.conversion.proofs.Planes.{headed-by}
 use Rattle.decoder.specs.declared.record.Decoder.{Decoder}
@@ -17,7 +17,7 @@ use Rattle.decoder.specs.Possible.{possible}
 use Rattle.decoder.specs.Conversion.{area, converted}
 use Rattle.decoder.proofs.Fits.{possible-parts}
 
-pub headed : (d : Decoder) → possible d ≡ true → d .sequence .«has_sequence_header» ≡ true → Headed (d .sequence)
+pub headed : (d : Decoder) → possible d ≡ true → d .sequence .«has_sequence_header» ≡ true → HasHeader (d .sequence)
 headed d e t = headed-by (d .sequence) (possible-parts d e .sequence) t
 
 -- RULES Q: the answers, in the order of the questions

@@ -22,9 +22,9 @@ use Rattle.playback.specs.State.{freshState, possibleDisplay}
 use Rattle.playback.proofs.Displays.{timed-possible}
 use Rattle.playback.proofs.Fits.{next-fits}
 use Rattle.decoder.specs.declared.record.Decoder.{Decoder}
-use Rattle.decoder.specs.Record.{place, fresh, stopAs}
+use Rattle.decoder.specs.Record.{position, fresh, stopAs}
 use Rattle.decoder.specs.Possible.{possibleMark, possible}
-use Rattle.decoder.specs.Headers.{findSequence, sized, accepted}
+use Rattle.decoder.specs.Headers.{findSequence, withSizeRead, accepted}
 use Rattle.decoder.specs.Fit.{Fit}
 use Rattle.decoder.proofs.Starts.{fresh-starts}
 
@@ -32,7 +32,7 @@ use Rattle.decoder.proofs.Starts.{fresh-starts}
 
 -- its parts
 pub record Possible (d : Decoder) : Type 0 where
-  pub inside : place d ≤ lastPosition
+  pub inside : position d ≤ lastPosition
   pub sequence : possibleSequence (d .sequence) ≡ true
   pub picture : possiblePicture (d .state .picture) ≡ true
   pub block : bounded (d .«block_data») ≡ true
@@ -42,7 +42,7 @@ pub record Possible (d : Decoder) : Type 0 where
 pub possible-parts : (d : Decoder) → possible d ≡ true → Possible d
 unfolding possible
 possible-parts d e =
-    let h = each (leb (place d) lastPosition)
+    let h = each (leb (position d) lastPosition)
     (possibleSequence (d .sequence) ∷ possiblePicture (d .state .picture) ∷ bounded (d .«block_data») ∷ possibleDisplay (d .state .display) ∷
     possibleMark (d .stop) ∷ []) e in
     record { inside = leb-true _ _ (h 0); sequence = h 1; picture = h 2; block = h 3; display = h 4; mark = h 5 }
@@ -52,7 +52,7 @@ all-true a q p b v m = rw (a, q, p, b, v, m)
 
 pub possible-all : {d : Decoder} → Possible d → possible d ≡ true
 unfolding possible
-possible-all {d} k = all-true (le-leb (place d) lastPosition (k .inside)) (k .sequence) (k .picture) (k .block) (k .display) (k .mark)
+possible-all {d} k = all-true (le-leb (position d) lastPosition (k .inside)) (k .sequence) (k .picture) (k .block) (k .display) (k .mark)
 
 -- RULES Q8, Q9: with a stop mark
 pub marked-possible : (d : Decoder) (n : ℕ) → possible d ≡ true → (n ≡ 8) ⊎ (n ≡ 9) → possible (stopAs n d) ≡ true
@@ -73,11 +73,11 @@ numbers-first true m v q p b =
     rw (and-comm m v, and-assoc (v && m) q p, and-assoc (v && m) (q && p) b, and-comm (v && m) (q && p && b), ← and-assoc (q && p && b) v m)
 numbers-first false m v q p b = refl
 
-pub possible-by : (d : Decoder) {n v q p b : Bool} → n ≡ (leb (place d) lastPosition && possibleMark (d .stop)) → v ≡ possibleDisplay (d .state .display)
+pub possible-by : (d : Decoder) {n v q p b : Bool} → n ≡ (leb (position d) lastPosition && possibleMark (d .stop)) → v ≡ possibleDisplay (d .state .display)
     → q ≡ possibleSequence (d .sequence) → p ≡ possiblePicture (d .state .picture) → b ≡ bounded (d .«block_data») → (n && v && q && p && b) ≡ possible d
 unfolding possible
 possible-by d numbers display sequence picture block =
-    rw (numbers, display, sequence, picture, block, numbers-first (leb (place d) lastPosition))
+    rw (numbers, display, sequence, picture, block, numbers-first (leb (position d) lastPosition))
 
 pub fit-of : {d : Decoder} → possible d ≡ true → Fit d
 fit-of {d} e =
@@ -88,7 +88,7 @@ fit-of {d} e =
       wide = k .0;
       high = k .1;
       state = record {
-        place = p .inside;
+        position = p .inside;
         across = z .across;
         down = z .down;
         size = z .size;
@@ -106,7 +106,7 @@ fit-fresh = record {
   wide = omega arith;
   high = omega arith;
   state = record {
-    place = omega arith;
+    position = omega arith;
     across = omega arith;
     down = omega arith;
     size = refl;
@@ -123,13 +123,13 @@ fit-found s {d} f short = record { wide = f .wide; high = f .high; state = next-
 
 -- RULES Q5: width and height as read
 pub fit-sized : {d : Decoder} (z : Size) {e : ℕ} → Fit d → e ≤ lastPosition → z .width ≤ 4095 → z .height ≤ 4095
-    → Fit (sized (record { value = z; at = e }) d)
+    → Fit (withSizeRead (record { value = z; at = e }) d)
 fit-sized z f e w h =
     let x = f .state in
     record {
       wide = w;
       high = h;
-      state = record { place = e; across = x .across; down = x .down; size = x .size; picture = x .picture; block = x .block; display = x .display };
+      state = record { position = e; across = x .across; down = x .down; size = x .size; picture = x .picture; block = x .block; display = x .display };
     }
 
 -- RULES O.4: an accepted header
@@ -142,7 +142,7 @@ fit-accepted {d} v f e =
       wide = f .wide;
       high = f .high;
       state = record {
-        place = e;
+        position = e;
         across = z .across;
         down = z .down;
         size = z .size;

@@ -1,7 +1,7 @@
-pub mod Asking
+pub mod Checking
 pub mod Openings
 pub mod Converting
 pub mod Starts
 pub mod Fits
-pub mod HandingOut
+pub mod Decoding
 pub mod Cleared

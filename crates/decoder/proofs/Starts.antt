@@ -8,11 +8,11 @@ use Rattle.picture_state.specs.Possible.{possiblePicture}
 use Rattle.playback.specs.State.{frames, freshState, possibleDisplay}
 use Rattle.playback.proofs.Displays.{fresh-possible}
 use Rattle.decoder.specs.declared.record.Decoder.{Decoder}
-use Rattle.decoder.specs.Record.{fresh, place, startCode}
+use Rattle.decoder.specs.Record.{fresh, position, startCode}
 
 -- nothing is read, nothing is handed out, and what a picture changes is possible
 pub record Starts (d : Decoder) : Type 0 where
-  pub unread : place d ≡ 0
+  pub unread : position d ≡ 0
   pub code : startCode d ≡ negsuc 0
   pub picture : possiblePicture (d .state .picture) ≡ true
   pub block : bounded (d .«block_data») ≡ true

@@ -13,20 +13,20 @@ use Rattle.header.specs.Sequences.{Size, Rest, size, rest, aspectOf, rateOf}
 use Rattle.decoder.specs.declared.record.Decoder.{Decoder}
 use Rattle.playback.specs.State.{nextTime, shownTime, timedAs}
 use Rattle.playback.specs.Search.{nextCode}
-use Rattle.decoder.specs.Record.{place, startCode, placeAs, sequenceAs, stateAs, storeBytes}
+use Rattle.decoder.specs.Record.{position, startCode, positionAs, sequenceAs, stateAs, storeBytes}
 
--- the answer to some questions: the first "no" with its number and the record that it leaves, or the record with which the call goes on
-pub data Asked : Type 0 where
-  refused : ℕ → Decoder → Asked
-  passed : Decoder → Asked
+-- the result of some checks (RULES Q: questions): the first "no" with its number and the record that it leaves, or the record with which the call goes on
+pub data CheckResult : Type 0 where
+  refused : ℕ → Decoder → CheckResult
+  passed : Decoder → CheckResult
 
 -- RULES Q3, Q4: the sequence start code is searched, unless the record has it already
 unfoldable pub findSequence : List ℕ → Decoder → Decoder
 findSequence s d = stateAs (nextCode (pos 0xb3) s (d .state)) d
 
 -- RULES Q5: width and height as read, and the place behind them
-abbrev pub sized : Out Size → Decoder → Decoder
-sized o d = placeAs (o .at) (sequenceAs (record {
+abbrev pub withSizeRead : Out Size → Decoder → Decoder
+withSizeRead o d = positionAs (o .at) (sequenceAs (record {
   «has_sequence_header» = d .sequence .«has_sequence_header»;
   width = o .value .width;
   height = o .value .height;
@@ -59,21 +59,21 @@ accepted o d = record {
 }
 
 -- RULES Q5: width and height, and with both above 0 the rest of the header
-unfoldable pub askSize : List ℕ → Decoder → Asked
-askSize s d =
-    let x = sized (run size s (place d)) d in
+unfoldable pub checkSize : List ℕ → Decoder → CheckResult
+checkSize s d =
+    let x = withSizeRead (run size s (position d)) d in
     if eqb (x .sequence .width) 0 || eqb (x .sequence .height) 0 then refused 5 x
-    else passed (accepted (run rest s (place x)) x)
+    else passed (accepted (run rest s (position x)) x)
 
 -- RULES Q3, Q4, Q5
-unfoldable pub askHeader : List ℕ → Decoder → Asked
-askHeader s d =
+unfoldable pub checkHeader : List ℕ → Decoder → CheckResult
+checkHeader s d =
     let x = findSequence s d in
     if eqZ (startCode x) (negsuc 0) then refused 3 x
-    else if not (has s (place x) 1088) then refused 4 x
-    else askSize s x
+    else if not (has s (position x) 1088) then refused 4 x
+    else checkSize s x
 
 -- RULES Q6: of the record passed in, d, nothing is changed
-unfoldable pub askStore : Decoder → List ℕ → Asked → Asked
-askStore d l (refused n x) = refused n x
-askStore d l (passed x) = if leb (storeBytes x) (length l) then passed x else refused 6 d
+unfoldable pub checkStore : Decoder → List ℕ → CheckResult → CheckResult
+checkStore d l (refused n x) = refused n x
+checkStore d l (passed x) = if leb (storeBytes x) (length l) then passed x else refused 6 d

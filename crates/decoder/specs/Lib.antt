@@ -2,10 +2,10 @@ pub mod Record
 pub mod Answers
 pub mod Possible
 pub mod Fit
-pub mod Asking
+pub mod Checking
 pub mod Headers
 pub mod Opening
-pub mod HandOut
+pub mod Decode
 pub mod Conversion
 pub mod Listing
 pub mod Run

@@ -8,9 +8,9 @@ use Rattle.decoder.specs.declared.record.Decoder.{Decoder}
 use Rattle.decoder.specs.declared.answers.Opening.{Opening}
 use Rattle.decoder.specs.declared.answers.Opening.the-variants as O
 use Rattle.playback.specs.declared.outcome.Outcome.the-variants as H
-use Rattle.decoder.specs.Record.{Left}
+use Rattle.decoder.specs.Record.{CallResult}
 use Rattle.decoder.specs.Opening.{opening}
-use Rattle.decoder.specs.HandOut.{handOut}
+use Rattle.decoder.specs.Decode.{decode}
 
 -- RULES L.2: pictures so far, store, type read last, answer
 pub record Line : Type 0 where
@@ -26,14 +26,14 @@ line handed store type answer = record { handed = handed; store = store; type = 
 unfoldable pub linesFrom : ℕ → List ℕ → ℕ → Decoder → List ℕ → List Line
 linesFrom zero s n d l = []
 linesFrom (suc fuel) s n d l =
-    let x = handOut d s l in
+    let x = decode d s l in
     elim (x .answer) [
       | H.Picture p ↦ line (n + 1) (p .store) (x .decoder .state .picture .«picture_type») 0 ∷ linesFrom fuel s (n + 1) (x .decoder) (x .store)
       | H.Refused answer ↦ line n 0 0 answer ∷ []
     ]
 
 -- RULES L.3: a number from opening is the only line
-unfoldable pub linesOf : List ℕ → Left Opening → List Line
+unfoldable pub linesOf : List ℕ → CallResult Opening → List Line
 linesOf s x = elim (x .answer) [ O.Ready ↦ linesFrom many s 0 (x .decoder) (x .store) | O.Refused answer ↦ line 0 0 0 answer ∷ [] ]
 
 -- RULES L.1: at most 65,536 bytes; a store for 48 macroblocks

@@ -8,7 +8,7 @@ use Rattle.picture_state.specs.Possible.{possiblePicture}
 use Rattle.header.specs.Possible.{possibleSequence}
 use Rattle.decoder.specs.declared.record.Decoder.{Decoder}
 use Rattle.playback.specs.State.{possibleDisplay}
-use Rattle.decoder.specs.Record.{place}
+use Rattle.decoder.specs.Record.{position}
 use Rattle.bits.specs.Bounds.{lastPosition}
 
 -- RULES QA: the stop mark
@@ -18,7 +18,7 @@ possibleMark n = eqb n 0 || eqb n 8 || eqb n 9
 -- position, sequence, picture, left-over coefficients, what is shown, stop mark: the question as a conversion puts it, which is given no stream
 unfoldable pub possible : Decoder → Bool
 possible d =
-    leb (place d) lastPosition && possibleSequence (d .sequence) && possiblePicture (d .state .picture) && bounded (d .«block_data») &&
+    leb (position d) lastPosition && possibleSequence (d .sequence) && possiblePicture (d .state .picture) && bounded (d .«block_data») &&
     possibleDisplay (d .state .display) && possibleMark (d .stop)
 
 -- the question as a hand-out puts it, with the stream at hand: no field of the record depends on the stream

@@ -8,12 +8,12 @@ use Rattle.header.specs.State.{freshSequence}
 use Rattle.prediction.specs.Planes.{storesBytes}
 use Rattle.playback.specs.declared.state.State.{State}
 use Rattle.playback.specs.State as S
-use Rattle.playback.specs.Turns.{TurnState, turnState}
+use Rattle.playback.specs.Steps.{DecodingState, decodingState}
 use Rattle.decoder.specs.declared.record.Decoder.{Decoder}
 
 -- the place of a record in the stream, and its start code
-abbrev pub place : Decoder → ℕ
-place d = S.place (d .state)
+abbrev pub position : Decoder → ℕ
+position d = S.position (d .state)
 
 abbrev pub startCode : Decoder → ℤ
 startCode d = S.startCode (d .state)
@@ -34,28 +34,28 @@ abbrev pub stopAs : ℕ → Decoder → Decoder
 stopAs n d = record { sequence = d .sequence; state = d .state; «block_data» = d .«block_data»; stop = n }
 
 -- at the place a
-abbrev pub placeAs : ℕ → Decoder → Decoder
-placeAs a d = stateAs (record { position = record { 0 = a }; picture = d .state .picture; display = d .state .display }) d
+abbrev pub positionAs : ℕ → Decoder → Decoder
+positionAs a d = stateAs (record { position = record { 0 = a }; picture = d .state .picture; display = d .state .display }) d
 
 -- a search that ended at the place a with the start code c
 abbrev pub searchedAs : ℤ → ℕ → Decoder → Decoder
 searchedAs c a d = stateAs (S.searchedAs c a (d .state)) d
 
 -- what the turns of a hand-out are given of a record, with the store l; and the record with what they leave
-abbrev pub given : Decoder → List ℕ → TurnState
-given d l = turnState (d .state) (d .«block_data») l
+abbrev pub decodingStateOf : Decoder → List ℕ → DecodingState
+decodingStateOf d l = decodingState (d .state) (d .«block_data») l
 
-abbrev pub resumed : Decoder → TurnState → Decoder
-resumed d x = record { sequence = d .sequence; state = x .state; «block_data» = x .«block_data»; stop = d .stop }
+abbrev pub withDecodingState : Decoder → DecodingState → Decoder
+withDecodingState d x = record { sequence = d .sequence; state = x .state; «block_data» = x .«block_data»; stop = d .stop }
 
 -- what a call leaves: its answer, the record and the store
-pub record Left (A : Type 0) : Type 0 where
+pub record CallResult (A : Type 0) : Type 0 where
   pub answer : A
   pub decoder : Decoder
   pub store : List ℕ
 
-abbrev pub left : {A : Type 0} → A → Decoder → List ℕ → Left A
-left x d l = record { answer = x; decoder = d; store = l }
+abbrev pub callResult : {A : Type 0} → A → Decoder → List ℕ → CallResult A
+callResult x d l = record { answer = x; decoder = d; store = l }
 
 -- RULES 6.11: bytes of the three stores
 abbrev pub storeBytes : Decoder → ℕ

@@ -18,13 +18,13 @@ ghost use Prim.Native.Nat.{_≤_, _<_};
 ghost use lib.ListN.{length};
 ghost use Rattle.decoder.specs.Headers as Headers;
 ghost use Rattle.decoder.specs.Fit.{Fit};
-ghost use Rattle.decoder.specs.Asking.{asked, Roomed};
+ghost use Rattle.decoder.specs.Checking.{checkResult, RefinesCheckStore};
 ghost use Rattle.bits.specs.Bounds.{longestStream};
-ghost use Rattle.bits.specs.Runs.{placeOf};
+ghost use Rattle.bits.specs.Runs.{positionOf};
 ghost use Rattle.header.specs.Sequences.{restOf};
 
 // `answer`: 0 where the call goes on, else the number of the first "no".
-pub struct Asked {
+pub struct CheckResult {
     pub decoder: Decoder,
     pub answer: u32,
 }
@@ -44,7 +44,7 @@ fn find_sequence(s: &[u8], mut d: Decoder) -> Decoder
 fn accepted(rest: RestRead, mut d: Decoder) -> Decoder
     requires { ⌜ Fit d ⌝ }
     requires { ⌜ rest .«picture_rate» < 16 ⌝ }
-    ensures { λ r. ⌜ r ≡ Headers.accepted (record { value = restOf rest; at = placeOf (rest .reader) }) d ⌝ }
+    ensures { λ r. ⌜ r ≡ Headers.accepted (record { value = restOf rest; at = positionOf (rest .reader) }) d ⌝ }
 {
     let old = d.sequence;
     let width = old.width;
@@ -84,10 +84,10 @@ fn accepted(rest: RestRead, mut d: Decoder) -> Decoder
 }
 
 // RULES Q5: width and height, and with both above 0 the rest of the header.
-fn ask_size(s: &[u8], mut d: Decoder) -> Asked
+fn check_size(s: &[u8], mut d: Decoder) -> CheckResult
     requires { ⌜ Fit d ⌝ }
     requires { ⌜ length (now s) ≤ longestStream ⌝ }
-    ensures { λ r. ⌜ asked (r .answer) (r .decoder) ≡ Headers.askSize (now (s .entry)) d ⌝ }
+    ensures { λ r. ⌜ checkResult (r .answer) (r .decoder) ≡ Headers.checkSize (now (s .entry)) d ⌝ }
     ensures { λ r. ⌜ Fit (r .decoder) ⌝ }
 {
     let size = read_size(s, Reader::from_position(d.state.position));
@@ -103,45 +103,45 @@ fn ask_size(s: &[u8], mut d: Decoder) -> Asked
     sequence.height = height;
     d.sequence = sequence;
     if (width == 0) | (height == 0) {
-        return Asked {
+        return CheckResult {
             decoder: d,
             answer: 5,
         };
     }
     let rest = read_rest(s, reader);
-    Asked {
+    CheckResult {
         decoder: accepted(rest, d),
         answer: 0,
     }
 }
 
 // RULES Q3, Q4, Q5. 1,088 bits are the longest header, behind its start code.
-pub fn ask_header(s: &[u8], before: Decoder) -> Asked
+pub fn check_header(s: &[u8], before: Decoder) -> CheckResult
     requires { ⌜ Fit before ⌝ }
     requires { ⌜ length (now s) ≤ longestStream ⌝ }
-    ensures { λ r. ⌜ asked (r .answer) (r .decoder) ≡ Headers.askHeader (now (s .entry)) before ⌝ }
+    ensures { λ r. ⌜ checkResult (r .answer) (r .decoder) ≡ Headers.checkHeader (now (s .entry)) before ⌝ }
     ensures { λ r. ⌜ Fit (r .decoder) ⌝ }
 {
     let d = find_sequence(s, before);
     if has_code(d.state.picture, -1) {
-        return Asked {
+        return CheckResult {
             decoder: d,
             answer: 3,
         };
     }
     if !Reader::from_position(d.state.position).has(s, 1088).value {
-        return Asked {
+        return CheckResult {
             decoder: d,
             answer: 4,
         };
     }
-    ask_size(s, d)
+    check_size(s, d)
 }
 
 // RULES Q6: is there room for the three stores? Where not, d, the record passed in, is left as it was.
-pub fn ask_store(d: Decoder, room: usize, before: Asked) -> Asked
+pub fn check_store(d: Decoder, room: usize, before: CheckResult) -> CheckResult
     requires { ⌜ Fit (before .decoder) ⌝ }
-    ensures { λ r. ⌜ Roomed d room before r ⌝ }
+    ensures { λ r. ⌜ RefinesCheckStore d room before r ⌝ }
 {
     let answer = before.answer;
     if answer != 0 {
@@ -150,7 +150,7 @@ pub fn ask_store(d: Decoder, room: usize, before: Asked) -> Asked
     if store_bytes(before.decoder) <= room {
         return before;
     }
-    Asked {
+    CheckResult {
         decoder: d,
         answer: 6,
     }

@@ -21,19 +21,19 @@ use Rattle.decoder.specs.declared.answers.Opening.the-variants as O
 use Rattle.playback.specs.declared.outcome.Shown.{Shown}
 use Rattle.playback.specs.declared.outcome.Outcome.{Outcome}
 use Rattle.playback.specs.declared.outcome.Outcome.the-variants as H
-use Rattle.playback.specs.Turns.{Ended}
-use Rattle.decoder.specs.Record.{Left, given, fresh, storeBytes}
+use Rattle.playback.specs.Steps.{LoopEnd}
+use Rattle.decoder.specs.Record.{CallResult, decodingStateOf, fresh, storeBytes}
 use Rattle.decoder.specs.Possible.{possibleMark, possible, possibleWith}
-use Rattle.decoder.specs.Headers.{Asked, refused, passed, accepted, askHeader, askStore}
+use Rattle.decoder.specs.Headers.{CheckResult, refused, passed, accepted, checkHeader, checkStore}
 use Rattle.decoder.specs.Opening.{opened, openingFrom, opening}
-use Rattle.decoder.specs.HandOut.{ended, askFirst, begun, goOn, handOut}
+use Rattle.decoder.specs.Decode.{callResultOf, checkHeaderAndStore, startState, afterChecks, decode}
 use Rattle.decoder.proofs.Fits.{possible-parts}
-use Rattle.demands.specs.Questions.{withHeader, headed}
+use Rattle.demands.specs.Checks.{withHeader, withHeaderRead}
 use Rattle.demands.specs.Stores.{SameFrom}
 use Rattle.demands.specs.After as A
-use Rattle.demands.specs.After.{AfterOpening, AfterHandOut}
-use Rattle.demands.specs.Handing.{Opened, HandsOut}
-use Rattle.demands.proofs.AfterHeader.{AskAfter, IsHeaded, header-after, header-passed}
+use Rattle.demands.specs.After.{AfterOpening, AfterDecode}
+use Rattle.demands.specs.Outputs.{OpeningLeaves, DecodeOutputs}
+use Rattle.demands.proofs.AfterHeader.{CheckAfter, IsHeaded, header-after, header-passed}
 use Rattle.demands.proofs.Reached.{same-from, then-same, RoomFor, CallEnd, hands, seven, stops, pictures-end}
 use Rattle.demands.proofs.Keeps.{sized}
 use Rattle.bits.specs.Bounds.{longestStream}
@@ -41,13 +41,13 @@ use Rattle.bits.specs.Bounds.{longestStream}
 -- ---- opening
 
 abbrev OpeningRow : List ℕ → List ℕ → Opening → Decoder → List ℕ → Type 0
-OpeningRow s l o x m = elim o [ O.Ready ↦ Opened s l x m | O.Refused n ↦ AfterOpening s l n x × (m ≡ l) ]
+OpeningRow s l o x m = elim o [ O.Ready ↦ OpeningLeaves s l x m | O.Refused n ↦ AfterOpening s l n x × (m ≡ l) ]
 
-abbrev OpenedRow : List ℕ → List ℕ → Left Opening → Type 0
+abbrev OpenedRow : List ℕ → List ℕ → CallResult Opening → Type 0
 OpenedRow s l r = OpeningRow s l (r .answer) (r .decoder) (r .store)
 
-opened-row : (s l : List ℕ) (a : Asked) → AskAfter s fresh a → IsHeaded s fresh a → OpenedRow s l (opened l (askStore fresh l a))
-unfolding opened askStore
+opened-row : (s l : List ℕ) (a : CheckResult) → CheckAfter s fresh a → IsHeaded s fresh a → OpenedRow s l (opened l (checkStore fresh l a))
+unfolding opened checkStore
 opened-row s l (refused n x) h e = (A.after-header h, refl)
 opened-row s l (passed x) h e =
     by-case (λ a. OpenedRow s l (opened l a)) (leb (storeBytes x) (length l))
@@ -58,13 +58,13 @@ opening-row : (s l : List ℕ) → OpenedRow s l (opening s l)
 unfolding opening openingFrom
 opening-row s l =
     by-case (OpenedRow s l) (leb (length s) longestStream)
-    (λ e. opened-row s l (askHeader s fresh) (header-after s fresh (leb-true (length s) longestStream e)) (header-passed s fresh))
+    (λ e. opened-row s l (checkHeader s fresh) (header-after s fresh (leb-true (length s) longestStream e)) (header-passed s fresh))
     (λ e. (A.after-1 (leb-false (length s) longestStream e), refl))
 
 pub opening-after : (s l : List ℕ) (n : ℕ) → opening s l .answer ≡ O.Refused n → AfterOpening s l n (opening s l .decoder) × (opening s l .store ≡ l)
 opening-after s l n e = subst (λ (o : Opening). OpeningRow s l o (opening s l .decoder) (opening s l .store)) e (opening-row s l)
 
-pub opening-ready : (s l : List ℕ) → opening s l .answer ≡ O.Ready → Opened s l (opening s l .decoder) (opening s l .store)
+pub opening-ready : (s l : List ℕ) → opening s l .answer ≡ O.Ready → OpeningLeaves s l (opening s l .decoder) (opening s l .store)
 opening-ready s l e = subst (λ (o : Opening). OpeningRow s l o (opening s l .decoder) (opening s l .store)) e (opening-row s l)
 
 -- ---- a possible record
@@ -94,17 +94,18 @@ module _ (d : Decoder) (s l : List ℕ) where
     same = λ i w. subst (λ (j : ℕ). getD (cleared n l) j 0 ≡ getD l j 0) (omega arith) (cleared-later n l (i - n));
   }
 
-  begun-same : (x : Decoder) → storeBytes x ≤ length l → SameFrom (storeBytes x) l (begun d x l .store)
-  unfolding begun
+  begun-same : (x : Decoder) → storeBytes x ≤ length l → SameFrom (storeBytes x) l (startState d x l .store)
+  unfolding startState
   begun-same x h =
       by-case (SameFrom (storeBytes x) l) (d .sequence .«has_sequence_header») (λ e. same-from) (λ e. cleared-same (storeBytes x) h)
 
-  begun-room : possible d ≡ true → storeBytes (headed s d) ≤ length l → RoomFor (headed s d .sequence .sizes) (begun d (headed s d) l)
-  unfolding begun accepted
+  begun-room : possible d ≡ true → storeBytes (withHeaderRead s d) ≤ length l
+      → RoomFor (withHeaderRead s d .sequence .sizes) (startState d (withHeaderRead s d) l)
+  unfolding startState accepted
   begun-room p = go (d .sequence .«has_sequence_header») refl
     where
       go : (b : Bool) → d .sequence .«has_sequence_header» ≡ b → storeBytes (cond b d (withHeader s d)) ≤ length l
-          → let x = cond b d (withHeader s d) in RoomFor (x .sequence .sizes) (given x (cond b l (cleared (storeBytes x) l)))
+          → let x = cond b d (withHeader s d) in RoomFor (x .sequence .sizes) (decodingStateOf x (cond b l (cleared (storeBytes x) l)))
       go true e h =
           let q = possible-parts d p in
           record { area = sized (d .sequence) e (q .sequence) .area; stores = picture-of (d .state .picture) (q .picture) .stores; long = h }
@@ -114,59 +115,60 @@ module _ (d : Decoder) (s l : List ℕ) where
   -- ---- a hand-out
 
   abbrev Answered : Outcome → Decoder → List ℕ → Type 0
-  Answered o x m = elim o [ H.Picture i ↦ HandsOut d s l i x m | H.Refused n ↦ AfterHandOut d s l n x m ]
+  Answered o x m = elim o [ H.Picture i ↦ DecodeOutputs d s l i x m | H.Refused n ↦ AfterDecode d s l n x m ]
 
-  record Row (r : Left Outcome) : Type 0 where
+  record Row (r : CallResult Outcome) : Type 0 where
     after : Answered (r .answer) (r .decoder) (r .store)
-    same : SameFrom (storeBytes (headed s d)) l (r .store)
+    same : SameFrom (storeBytes (withHeaderRead s d)) l (r .store)
 
   -- the sizes and the matrices of the header
   abbrev sizes : Sizes
-  sizes = headed s d .sequence .sizes
+  sizes = withHeaderRead s d .sequence .sizes
 
   abbrev matrices : Matrices
-  matrices = headed s d .sequence .matrices
+  matrices = withHeaderRead s d .sequence .matrices
 
-  module _ (long : storeBytes (headed s d) ≤ length l) where
-    on-to : {m : List ℕ} → SameFrom (storeBytes (headed s d)) (begun d (headed s d) l .store) m → SameFrom (storeBytes (headed s d)) l m
-    on-to h = then-same (begun-same (headed s d) long) h
+  module _ (long : storeBytes (withHeaderRead s d) ≤ length l) where
+    on-to : {m : List ℕ} → SameFrom (storeBytes (withHeaderRead s d)) (startState d (withHeaderRead s d) l .store) m
+        → SameFrom (storeBytes (withHeaderRead s d)) l m
+    on-to h = then-same (begun-same (withHeaderRead s d) long) h
 
-    ended-row : {e : Ended} → CallEnd s sizes matrices (begun d (headed s d) l) e → Row (ended d (headed s d) e)
-    unfolding ended
+    ended-row : {e : LoopEnd} → CallEnd s sizes matrices (startState d (withHeaderRead s d) l) e → Row (callResultOf d (withHeaderRead s d) e)
+    unfolding callResultOf
     ended-row (hands k i h) =
-        record { after = record { given = _; turn = k .turn; left = _; handing = i; decoder = refl; store = refl }; same = on-to h }
-    ended-row (seven k t u) = record { after = A.after-7 (k .turn) t u; same = on-to (k .same) }
-    ended-row (stops k e c h) = record { after = A.after-8-9 (k .turn) e c; same = on-to h }
+        record { after = record { given = _; step = k .step; left = _; outputs = i; decoder = refl; store = refl }; same = on-to h }
+    ended-row (seven k t u) = record { after = A.after-7 (k .step) t u; same = on-to (k .same) }
+    ended-row (stops k e c h) = record { after = A.after-8-9 (k .step) e c; same = on-to h }
 
-  store-row : possible d ≡ true → Row (goOn s d l (askStore d l (passed (headed s d))))
-  unfolding goOn askStore
+  store-row : possible d ≡ true → Row (afterChecks s d l (checkStore d l (passed (withHeaderRead s d))))
+  unfolding afterChecks checkStore
   store-row p =
-      by-case (λ a. Row (goOn s d l a)) (leb (storeBytes (headed s d)) (length l))
-      (λ e. let h = leb-true (storeBytes (headed s d)) (length l) e in
-      ended-row h (pictures-end s sizes matrices (begun d (headed s d) l) (begun-room p h)))
-      (λ e. record { after = A.after-6 (leb-false (storeBytes (headed s d)) (length l) e); same = same-from })
+      by-case (λ a. Row (afterChecks s d l a)) (leb (storeBytes (withHeaderRead s d)) (length l))
+      (λ e. let h = leb-true (storeBytes (withHeaderRead s d)) (length l) e in
+      ended-row h (pictures-end s sizes matrices (startState d (withHeaderRead s d) l) (begun-room p h)))
+      (λ e. record { after = A.after-6 (leb-false (storeBytes (withHeaderRead s d)) (length l) e); same = same-from })
 
-  header-row : possible d ≡ true → d .sequence .«has_sequence_header» ≡ false → (a : Asked) → AskAfter s d a → IsHeaded s d a
-      → Row (goOn s d l (askStore d l a))
-  unfolding goOn askStore
+  header-row : possible d ≡ true → d .sequence .«has_sequence_header» ≡ false → (a : CheckResult) → CheckAfter s d a → IsHeaded s d a
+      → Row (afterChecks s d l (checkStore d l a))
+  unfolding afterChecks checkStore
   header-row p f (refused n x) h e = record { after = A.after-header f h; same = same-from }
   header-row p f (passed x) h e =
-      let is : x ≡ headed s d = e ∙ sym (rw f refl) in
-      subst (λ (y : Decoder). Row (goOn s d l (askStore d l (passed y)))) (sym is) (store-row p)
+      let is : x ≡ withHeaderRead s d = e ∙ sym (rw f refl) in
+      subst (λ (y : Decoder). Row (afterChecks s d l (checkStore d l (passed y)))) (sym is) (store-row p)
 
-  first-row : length s ≤ longestStream → possible d ≡ true → Row (goOn s d l (askFirst s d l))
-  unfolding askFirst
+  first-row : length s ≤ longestStream → possible d ≡ true → Row (afterChecks s d l (checkHeaderAndStore s d l))
+  unfolding checkHeaderAndStore
   first-row h p = go (d .sequence .«has_sequence_header») refl
     where
-      go : (b : Bool) → d .sequence .«has_sequence_header» ≡ b → Row (goOn s d l (askStore d l (cond b (passed d) (askHeader s d))))
+      go : (b : Bool) → d .sequence .«has_sequence_header» ≡ b → Row (afterChecks s d l (checkStore d l (cond b (passed d) (checkHeader s d))))
       go true e =
-          let is : headed s d ≡ d = rw e refl in
-          subst (λ (y : Decoder). Row (goOn s d l (askStore d l (passed y)))) is (store-row p)
-      go false e = header-row p e (askHeader s d) (header-after s d h) (header-passed s d)
+          let is : withHeaderRead s d ≡ d = rw e refl in
+          subst (λ (y : Decoder). Row (afterChecks s d l (checkStore d l (passed y)))) is (store-row p)
+      go false e = header-row p e (checkHeader s d) (header-after s d h) (header-passed s d)
 
-  hand-row : Row (handOut d s l)
-  unfolding handOut
-  hand-row =
+  decode-row : Row (decode d s l)
+  unfolding decode
+  decode-row =
       by-case Row (not (leb (length s) longestStream))
       (λ e. record { after = A.after-1 (leb-false (length s) longestStream (not-true (leb (length s) longestStream) e)); same = same-from }) (λ e.
       by-case Row (not (possibleWith s d)) (λ f. record { after = A.after-2 (not-true (possible d) f); same = same-from }) (λ f.
@@ -175,12 +177,12 @@ module _ (d : Decoder) (s l : List ℕ) where
       record { after = A.after-mark (marks (d .stop) mark (not-true (eqb (d .stop) 0) g)); same = same-from })
       (λ g. first-row (leb-true (length s) longestStream (not-false (leb (length s) longestStream) e)) (not-false (possible d) f))))
 
-  pub hand-after : (n : ℕ) → handOut d s l .answer ≡ H.Refused n → AfterHandOut d s l n (handOut d s l .decoder) (handOut d s l .store)
-  hand-after n e = subst (λ (o : Outcome). Answered o (handOut d s l .decoder) (handOut d s l .store)) e (hand-row .after)
+  pub decode-after : (n : ℕ) → decode d s l .answer ≡ H.Refused n → AfterDecode d s l n (decode d s l .decoder) (decode d s l .store)
+  decode-after n e = subst (λ (o : Outcome). Answered o (decode d s l .decoder) (decode d s l .store)) e (decode-row .after)
 
-  pub hand-picture : (i : Shown) → handOut d s l .answer ≡ H.Picture i → HandsOut d s l i (handOut d s l .decoder) (handOut d s l .store)
-  hand-picture i e = subst (λ (o : Outcome). Answered o (handOut d s l .decoder) (handOut d s l .store)) e (hand-row .after)
+  pub hand-picture : (i : Shown) → decode d s l .answer ≡ H.Picture i → DecodeOutputs d s l i (decode d s l .decoder) (decode d s l .store)
+  hand-picture i e = subst (λ (o : Outcome). Answered o (decode d s l .decoder) (decode d s l .store)) e (decode-row .after)
 
   -- RULES D2.3
-  pub hand-same : SameFrom (storeBytes (headed s d)) l (handOut d s l .store)
-  hand-same = hand-row .same
+  pub hand-same : SameFrom (storeBytes (withHeaderRead s d)) l (decode d s l .store)
+  hand-same = decode-row .same

@@ -18,11 +18,11 @@ use Rattle.header.specs.Sequences.{size}
 use Rattle.decoder.specs.declared.record.Decoder.{Decoder}
 use Rattle.playback.specs.State as S
 use Rattle.playback.specs.Search.{nextCode}
-use Rattle.decoder.specs.Record.{place, startCode, stateAs, searchedAs}
-use Rattle.decoder.specs.Headers.{Asked, refused, passed, findSequence, askSize, askHeader}
+use Rattle.decoder.specs.Record.{position, startCode, stateAs, searchedAs}
+use Rattle.decoder.specs.Headers.{CheckResult, refused, passed, findSequence, checkSize, checkHeader}
 use Rattle.playback.proofs.Searches.{eqZ-is}
 use Rattle.demands.specs.Codes.{NoneFound}
-use Rattle.demands.specs.Questions.{withSize, withHeader}
+use Rattle.demands.specs.Checks.{withSize, withHeader}
 use Rattle.demands.specs.After.{AtCode, had-it, found-it, AfterHeader, after-3, after-4, after-5}
 use Rattle.demands.proofs.Codes.{SearchEnd, with-code, with-none, search-end}
 
@@ -30,13 +30,13 @@ use Rattle.demands.proofs.Codes.{SearchEnd, with-code, with-none, searc
 
 pub data Finds (s : List ℕ) (d : Decoder) : Decoder → Type 0 where
   a-code : {x : Decoder} → AtCode s d x → Finds s d x
-  no-code : {e : ℕ} → NoneFound s (place d) e → Finds s d (searchedAs (negsuc 0) e d)
+  no-code : {e : ℕ} → NoneFound s (position d) e → Finds s d (searchedAs (negsuc 0) e d)
 
 pub find-sequence : (s : List ℕ) (d : Decoder) → length s ≤ longestStream → Finds s d (findSequence s d)
 unfolding findSequence nextCode
-find-sequence s d h = go (eqZ (startCode d) (pos 0xb3)) refl (run (findStartCode (pos 0xb3)) s (place d)) (search-end s 0xb3 (place d) h)
+find-sequence s d h = go (eqZ (startCode d) (pos 0xb3)) refl (run (findStartCode (pos 0xb3)) s (position d)) (search-end s 0xb3 (position d) h)
   where
-    go : (b : Bool) → eqZ (startCode d) (pos 0xb3) ≡ b → (o : Out ℤ) → SearchEnd s 0xb3 (place d) o
+    go : (b : Bool) → eqZ (startCode d) (pos 0xb3) ≡ b → (o : Out ℤ) → SearchEnd s 0xb3 (position d) o
         → Finds s d (stateAs (cond b (d .state) (S.searchedAs (o .value) (o .at) (d .state))) d)
     go true e o k = a-code (had-it (eqZ-is (startCode d) (pos 0xb3) e))
     go false e o (with-code v k) = rw v (a-code (found-it k))
@@ -64,44 +64,44 @@ or-zero m n = go (eqb m 0) refl
 
 -- ---- what is left
 
-abbrev pub AskAfter : List ℕ → Decoder → Asked → Type 0
-AskAfter s d (refused n x) = AfterHeader s d n x
-AskAfter s d (passed x) = Unit {0}
+abbrev pub CheckAfter : List ℕ → Decoder → CheckResult → Type 0
+CheckAfter s d (refused n x) = AfterHeader s d n x
+CheckAfter s d (passed x) = Unit {0}
 
-size-after : (s : List ℕ) (d x : Decoder) → AtCode s d x → place x + 1088 ≤ length s * 8 → AskAfter s d (askSize s x)
-unfolding askSize
+size-after : (s : List ℕ) (d x : Decoder) → AtCode s d x → position x + 1088 ≤ length s * 8 → CheckAfter s d (checkSize s x)
+unfolding checkSize
 size-after s d x k h =
-    rw (size-read s (place x) (omega arith))
-    (by-case (AskAfter s d) (eqb (bitsAt s (place x) 12) 0 || eqb (bitsAt s (place x + 12) 12) 0)
-    (λ e. after-5 k h (or-zero (bitsAt s (place x) 12) (bitsAt s (place x + 12) 12) e)) (λ e. tt))
+    rw (size-read s (position x) (omega arith))
+    (by-case (CheckAfter s d) (eqb (bitsAt s (position x) 12) 0 || eqb (bitsAt s (position x + 12) 12) 0)
+    (λ e. after-5 k h (or-zero (bitsAt s (position x) 12) (bitsAt s (position x + 12) 12) e)) (λ e. tt))
 
-pub header-after : (s : List ℕ) (d : Decoder) → length s ≤ longestStream → AskAfter s d (askHeader s d)
-unfolding askHeader
+pub header-after : (s : List ℕ) (d : Decoder) → length s ≤ longestStream → CheckAfter s d (checkHeader s d)
+unfolding checkHeader
 header-after s d h = go (findSequence s d) (find-sequence s d h)
   where
     code : {x : Decoder} → AtCode s d x
-        → AskAfter s d (cond (eqZ (startCode x) (negsuc 0)) (refused 3 x) (cond (not (has s (place x) 1088)) (refused 4 x) (askSize s x)))
+        → CheckAfter s d (cond (eqZ (startCode x) (negsuc 0)) (refused 3 x) (cond (not (has s (position x) 1088)) (refused 4 x) (checkSize s x)))
     code {x} k =
         let found : eqZ (startCode x) (negsuc 0) ≡ false = ap (λ (c : ℤ). eqZ c (negsuc 0)) (at-code k) in
-        rw found (go (has s (place x) 1088) refl)
+        rw found (go (has s (position x) 1088) refl)
       where
-        go : (b : Bool) → has s (place x) 1088 ≡ b → AskAfter s d (cond (not b) (refused 4 x) (askSize s x))
-        go true e = size-after s d x k (omega (arith, leb-true 1088 (length s * 8 - place x) e))
-        go false e = after-4 k (omega (arith, leb-false 1088 (length s * 8 - place x) e))
+        go : (b : Bool) → has s (position x) 1088 ≡ b → CheckAfter s d (cond (not b) (refused 4 x) (checkSize s x))
+        go true e = size-after s d x k (omega (arith, leb-true 1088 (length s * 8 - position x) e))
+        go false e = after-4 k (omega (arith, leb-false 1088 (length s * 8 - position x) e))
 
     go : (x : Decoder) → Finds s d x
-        → AskAfter s d (cond (eqZ (startCode x) (negsuc 0)) (refused 3 x) (cond (not (has s (place x) 1088)) (refused 4 x) (askSize s x)))
+        → CheckAfter s d (cond (eqZ (startCode x) (negsuc 0)) (refused 3 x) (cond (not (has s (position x) 1088)) (refused 4 x) (checkSize s x)))
     go x (a-code k) = code k
     go x (no-code k) = after-3 k
 
 -- the record of a header that is accepted
-abbrev pub IsHeaded : List ℕ → Decoder → Asked → Type 0
+abbrev pub IsHeaded : List ℕ → Decoder → CheckResult → Type 0
 IsHeaded s d (refused n x) = Unit {0}
 IsHeaded s d (passed x) = x ≡ withHeader s d
 
-pub header-passed : (s : List ℕ) (d : Decoder) → IsHeaded s d (askHeader s d)
-unfolding askHeader askSize
+pub header-passed : (s : List ℕ) (d : Decoder) → IsHeaded s d (checkHeader s d)
+unfolding checkHeader checkSize
 header-passed s d =
     by-case (IsHeaded s d) (eqZ (startCode (findSequence s d)) (negsuc 0)) (λ e. tt) (λ e.
-    by-case (IsHeaded s d) (not (has s (place (findSequence s d)) 1088)) (λ e. tt) (λ e.
+    by-case (IsHeaded s d) (not (has s (position (findSequence s d)) 1088)) (λ e. tt) (λ e.
     by-case (IsHeaded s d) (eqb (withSize s d .sequence .width) 0 || eqb (withSize s d .sequence .height) 0) (λ e. tt) (λ e. refl)))

@@ -8,11 +8,11 @@ use lib.Dec.{eqb}
 use lib.IntN.{ℤ, pos, negsuc}
 use lib.ListN.{length, getD}
 use borrow.Author.Tests.{eqb-true}
-use Rattle.laws.specs.Turns.{again, stop}
+use Rattle.laws.specs.Loops.{continue, finish}
 use Rattle.laws.proofs.Tests.{both}
 use Rattle.bits.specs.Bounds.{longestStream}
 use Rattle.bits.specs.Bits.{Found, boundary, codePrefix, found}
-use Rattle.bits.specs.Programs.{Out, done, bind, run, eqZ, turn, loop, many, findTurn, findStartCode}
+use Rattle.bits.specs.Programs.{Out, done, bind, run, eqZ, continueWith, loop, many, findStep, findStartCode}
 use Rattle.bits.proofs.Start.{isCode, First, Searched, first, none, found-is-first}
 use Rattle.bits.proofs.Programs.{run-on}
 use Rattle.playback.proofs.Searches.{Barren, Sought, hit, miss, sought}
@@ -26,22 +26,24 @@ prefix-bytes s b c h e f =
     record { zeros = (eqb-true _ _ (y .0), eqb-true _ _ (y .1)); one = eqb-true _ _ (x .1); code = e; followed = f }
 
 -- the code that a search stops at is there
-code-from : (s : List ℕ) (c n a : ℕ) → run (loop n (findTurn (pos c)) (negsuc 0) tt) s a .value ≡ pos c
-    → CodeFound s c a (run (loop n (findTurn (pos c)) (negsuc 0) tt) s a .at)
-unfolding loop findTurn run bind
+code-from : (s : List ℕ) (c n a : ℕ) → run (loop n (findStep (pos c)) (negsuc 0) tt) s a .value ≡ pos c
+    → CodeFound s c a (run (loop n (findStep (pos c)) (negsuc 0) tt) s a .at)
+unfolding loop findStep run bind
 code-from s c zero a = λ h. absurd (true≢false (sym (ap isCode h)))
 code-from s c (suc n) a = go (found s a) (found-is-first s a) (λ e. code-from s c n e)
   where
     -- what the turns that are left find from each place on
     Further : Type 0
-    Further = (e : ℕ) → run (loop n (findTurn (pos c)) (negsuc 0) tt) s e .value ≡ pos c
-        → CodeFound s c e (run (loop n (findTurn (pos c)) (negsuc 0) tt) s e .at)
+    Further = (e : ℕ) → run (loop n (findStep (pos c)) (negsuc 0) tt) s e .value ≡ pos c
+        → CodeFound s c e (run (loop n (findStep (pos c)) (negsuc 0) tt) s e .at)
 
     test : (p : ℕ) → First s (boundary a) p → Further → (b : Bool) → eqb (getD s (p + 3) 0) c ≡ b
-        → run (bind (cond (b || false) (done (stop (pos (getD s (p + 3) 0)))) (done (again tt))) (turn (loop n (findTurn (pos c)) (negsuc 0)))) s ((p + 4) * 8)
+        → run (bind (cond (b || false) (done (finish (pos (getD s (p + 3) 0)))) (done (continue tt))) (continueWith (loop n (findStep (pos c)) (negsuc 0)))) s
+        ((p + 4) * 8)
         .value ≡ pos c
         → CodeFound s c a
-        (run (bind (cond (b || false) (done (stop (pos (getD s (p + 3) 0)))) (done (again tt))) (turn (loop n (findTurn (pos c)) (negsuc 0)))) s ((p + 4) * 8)
+        (run (bind (cond (b || false) (done (finish (pos (getD s (p + 3) 0)))) (done (continue tt))) (continueWith (loop n (findStep (pos c)) (negsuc 0)))) s
+        ((p + 4) * 8)
         .at)
     test p w r true t h = found-at p (w .from) (prefix-bytes s p c (w .here) (eqb-true _ _ t) (w .five))
     test p w r false t h = further (r ((p + 4) * 8) h)
@@ -50,11 +52,11 @@ code-from s c (suc n) a = go (found s a) (found-is-first s a) (λ e. code-from s
         further (found-at b f k) = found-at b (omega (arith, w .from)) k
 
     go : (f : Found) → Searched s (boundary a) f → Further
-        → run (bind (cond (eqZ (f .code) (pos c) || eqZ (f .code) (negsuc 0)) (done (stop (f .code))) (done (again tt)))
-        (turn (loop n (findTurn (pos c)) (negsuc 0)))) s (f .at) .value ≡ pos c
+        → run (bind (cond (eqZ (f .code) (pos c) || eqZ (f .code) (negsuc 0)) (done (finish (f .code))) (done (continue tt)))
+        (continueWith (loop n (findStep (pos c)) (negsuc 0)))) s (f .at) .value ≡ pos c
         → CodeFound s c a
-        (run (bind (cond (eqZ (f .code) (pos c) || eqZ (f .code) (negsuc 0)) (done (stop (f .code))) (done (again tt)))
-        (turn (loop n (findTurn (pos c)) (negsuc 0)))) s (f .at) .at)
+        (run (bind (cond (eqZ (f .code) (pos c) || eqZ (f .code) (negsuc 0)) (done (finish (f .code))) (done (continue tt)))
+        (continueWith (loop n (findStep (pos c)) (negsuc 0)))) s (f .at) .at)
     go f (first p w q) r = rw q (test p w r (eqb (getD s (p + 3) 0) c) refl)
     go f (none w q) r = rw q (λ h. absurd (true≢false (sym (ap isCode h))))
 

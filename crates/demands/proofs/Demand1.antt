@@ -16,21 +16,21 @@ use Rattle.decoder.specs.declared.answers.Opening.the-variants as O
 use Rattle.decoder.specs.declared.answers.Opened.{Opened}
 use Rattle.playback.specs.declared.outcome.Outcome.{Outcome}
 use Rattle.playback.specs.declared.outcome.Outcome.the-variants as H
-use Rattle.decoder.specs.declared.answers.Handed.{Handed}
+use Rattle.decoder.specs.declared.answers.DecodeResult.{DecodeResult}
 use Rattle.decoder.specs.declared.answers.Converted.{Converted}
 use Rattle.decoder.specs.declared.answers.Converted.the-variants as C
-use Rattle.decoder.specs.Record.{Left, fresh, storeBytes}
+use Rattle.decoder.specs.Record.{CallResult, fresh, storeBytes}
 use Rattle.decoder.specs.Possible.{possible}
 use Rattle.decoder.specs.Conversion.{Area}
-use Rattle.decoder.specs.Answers.{openingNumber, handOutNumber, conversionNumber}
+use Rattle.decoder.specs.Answers.{openingErrorCode, decodeErrorCode, conversionErrorCode}
 use Rattle.demands.specs.Calls.{Opens, Decodes, Converts}
-use Rattle.demands.specs.Questions.{firstNo, IsFirstNo, withHeader, headed, openingAsks, handOutAsks, conversionAsks}
-use Rattle.demands.specs.Numbers.{among, openingNumbers, handOutNumbers, conversionNumbers}
-use Rattle.demands.specs.After.{AfterHeader, AfterOpening, AfterHandOut}
+use Rattle.demands.specs.Checks.{firstFailing, IsFirstFailing, withHeader, withHeaderRead, openingChecks, decodeChecks, conversionChecks}
+use Rattle.demands.specs.ErrorCodes.{member, openingErrorCodes, decodeErrorCodes, conversionErrorCodes}
+use Rattle.demands.specs.After.{AfterHeader, AfterOpening, AfterDecode}
 use Rattle.demands.specs.Rows.{Row3, Row4, Row5, Row7, Row89}
-use Rattle.demands.proofs.Questions.{first-is, is-first, opening-asks, hand-asks, conversion-asks}
-use Rattle.demands.proofs.After.{opening-after, hand-after}
-use Rattle.demands.proofs.Numbers.{opening-named, opening-positive, hand-named, positive, conversion-after, conversion-positive}
+use Rattle.demands.proofs.Checks.{first-is, is-first, opening-checks, decode-checks, conversion-checks}
+use Rattle.demands.proofs.After.{opening-after, decode-after}
+use Rattle.demands.proofs.ErrorCodes.{opening-named, opening-positive, hand-named, positive, conversion-after, conversion-positive}
 use Rattle.demands.proofs.Rows as Rows
 use Rattle.bits.specs.Bounds.{longestStream}
 
@@ -38,28 +38,28 @@ use Rattle.bits.specs.Bounds.{longestStream}
 
 module _ (s l : List ℕ) (r : Opened) (m : List ℕ) (gave : Opens s l r m) where
   -- D1.4: the number of the first "no", and 0 where there is none
-  pub open-number : openingNumber (r .answer) ≡ firstNo (openingAsks s l)
-  open-number = ap (λ (x : Left Opening). openingNumber (x .answer)) gave ∙ opening-asks s l
+  pub open-number : openingErrorCode (r .answer) ≡ firstFailing (openingChecks s l)
+  open-number = ap (λ (x : CallResult Opening). openingErrorCode (x .answer)) gave ∙ opening-checks s l
 
   -- D1.5: what is left behind each number
   pub open-left : (n : ℕ) → r .answer ≡ O.Refused n → AfterOpening s l n (r .decoder) × (m ≡ l)
   open-left n e =
-      subst (λ (x : Left Opening). x .answer ≡ O.Refused n → AfterOpening s l n (x .decoder) × (x .store ≡ l)) (sym gave) (opening-after s l n) e
+      subst (λ (x : CallResult Opening). x .answer ≡ O.Refused n → AfterOpening s l n (x .decoder) × (x .store ≡ l)) (sym gave) (opening-after s l n) e
 
   -- D1.3
-  pub open-named : (n : ℕ) → r .answer ≡ O.Refused n → among n openingNumbers ≡ true
+  pub open-named : (n : ℕ) → r .answer ≡ O.Refused n → member n openingErrorCodes ≡ true
   open-named n e = opening-named (open-left n e .0)
 
   -- D1.4, both ways
-  pub open-says : (n : ℕ) → 0 < n → IsFirstNo n (openingAsks s l) → r .answer ≡ O.Refused n
-  open-says n h k = go (r .answer) (open-number ∙ first-is (openingAsks s l) k)
+  pub open-says : (n : ℕ) → 0 < n → IsFirstFailing n (openingChecks s l) → r .answer ≡ O.Refused n
+  open-says n h k = go (r .answer) (open-number ∙ first-is (openingChecks s l) k)
     where
-      go : (o : Opening) → openingNumber o ≡ n → o ≡ O.Refused n
+      go : (o : Opening) → openingErrorCode o ≡ n → o ≡ O.Refused n
       go O.Ready e = let no : ⊥ = omega arith in absurd no
       go (O.Refused i) e = ap O.Refused e
 
-  pub open-means : (n : ℕ) → r .answer ≡ O.Refused n → IsFirstNo n (openingAsks s l)
-  open-means n e = is-first (openingAsks s l) n (opening-positive n (open-named n e)) (sym open-number ∙ ap openingNumber e)
+  pub open-means : (n : ℕ) → r .answer ≡ O.Refused n → IsFirstFailing n (openingChecks s l)
+  open-means n e = is-first (openingChecks s l) n (opening-positive n (open-named n e)) (sym open-number ∙ ap openingErrorCode e)
 
   -- the rows of the table
   pub open-1 : r .answer ≡ O.Refused 1 → (longestStream < length s) × (r .decoder ≡ fresh)
@@ -83,30 +83,30 @@ module _ (s l : List ℕ) (r : Opened) (m : List ℕ) (gave : Opens s l r m) whe
 
 -- ---- decode
 
-module _ (d : Decoder) (s l : List ℕ) (r : Handed) (m : List ℕ) (gave : Decodes d s l r m) where
+module _ (d : Decoder) (s l : List ℕ) (r : DecodeResult) (m : List ℕ) (gave : Decodes d s l r m) where
   -- D1.4
-  pub decode-number : handOutNumber (r .outcome) ≡ firstNo (handOutAsks d s l)
-  decode-number = ap (λ (x : Left Outcome). handOutNumber (x .answer)) gave ∙ hand-asks d s l
+  pub decode-number : decodeErrorCode (r .outcome) ≡ firstFailing (decodeChecks d s l)
+  decode-number = ap (λ (x : CallResult Outcome). decodeErrorCode (x .answer)) gave ∙ decode-checks d s l
 
   -- D1.5
-  pub decode-left : (n : ℕ) → r .outcome ≡ H.Refused n → AfterHandOut d s l n (r .decoder) m
+  pub decode-left : (n : ℕ) → r .outcome ≡ H.Refused n → AfterDecode d s l n (r .decoder) m
   decode-left n e =
-      subst (λ (x : Left Outcome). x .answer ≡ H.Refused n → AfterHandOut d s l n (x .decoder) (x .store)) (sym gave) (hand-after d s l n) e
+      subst (λ (x : CallResult Outcome). x .answer ≡ H.Refused n → AfterDecode d s l n (x .decoder) (x .store)) (sym gave) (decode-after d s l n) e
 
   -- D1.3
-  pub decode-named : (n : ℕ) → r .outcome ≡ H.Refused n → among n handOutNumbers ≡ true
+  pub decode-named : (n : ℕ) → r .outcome ≡ H.Refused n → member n decodeErrorCodes ≡ true
   decode-named n e = hand-named (decode-left n e)
 
   -- D1.4, both ways
-  pub decode-says : (n : ℕ) → 0 < n → IsFirstNo n (handOutAsks d s l) → r .outcome ≡ H.Refused n
-  decode-says n h k = go (r .outcome) (decode-number ∙ first-is (handOutAsks d s l) k)
+  pub decode-says : (n : ℕ) → 0 < n → IsFirstFailing n (decodeChecks d s l) → r .outcome ≡ H.Refused n
+  decode-says n h k = go (r .outcome) (decode-number ∙ first-is (decodeChecks d s l) k)
     where
-      go : (o : Outcome) → handOutNumber o ≡ n → o ≡ H.Refused n
+      go : (o : Outcome) → decodeErrorCode o ≡ n → o ≡ H.Refused n
       go (H.Picture i) e = let no : ⊥ = omega arith in absurd no
       go (H.Refused i) e = ap H.Refused e
 
-  pub decode-means : (n : ℕ) → r .outcome ≡ H.Refused n → IsFirstNo n (handOutAsks d s l)
-  decode-means n e = is-first (handOutAsks d s l) n (positive n (decode-named n e)) (sym decode-number ∙ ap handOutNumber e)
+  pub decode-means : (n : ℕ) → r .outcome ≡ H.Refused n → IsFirstFailing n (decodeChecks d s l)
+  decode-means n e = is-first (decodeChecks d s l) n (positive n (decode-named n e)) (sym decode-number ∙ ap decodeErrorCode e)
 
   -- the rows of the table
   pub decode-1 : r .outcome ≡ H.Refused 1 → (longestStream < length s) × (r .decoder ≡ d) × (m ≡ l)
@@ -117,7 +117,7 @@ module _ (d : Decoder) (s l : List ℕ) (r : Handed) (m : List ℕ) (gave : Deco
 
   header-left : (n : ℕ) → r .outcome ≡ H.Refused n → 2 < n → n < 6
       → (d .sequence .«has_sequence_header» ≡ false) × AfterHeader s d n (r .decoder) × (m ≡ l)
-  header-left n e p q = Rows.hand-header (decode-left n e) p q
+  header-left n e p q = Rows.decode-header (decode-left n e) p q
 
   pub decode-3 : r .outcome ≡ H.Refused 3 → (d .sequence .«has_sequence_header» ≡ false) × Row3 s d (r .decoder) × (m ≡ l)
   decode-3 e = let h = header-left 3 e (omega arith) (omega arith) in (h .0, Rows.header-3 (h .1) refl, h .2)
@@ -128,7 +128,7 @@ module _ (d : Decoder) (s l : List ℕ) (r : Handed) (m : List ℕ) (gave : Deco
   pub decode-5 : r .outcome ≡ H.Refused 5 → (d .sequence .«has_sequence_header» ≡ false) × Row5 s d (r .decoder) × (m ≡ l)
   decode-5 e = let h = header-left 5 e (omega arith) (omega arith) in (h .0, Rows.header-5 (h .1) refl, h .2)
 
-  pub decode-6 : r .outcome ≡ H.Refused 6 → (length l < storeBytes (headed s d)) × (r .decoder ≡ d) × (m ≡ l)
+  pub decode-6 : r .outcome ≡ H.Refused 6 → (length l < storeBytes (withHeaderRead s d)) × (r .decoder ≡ d) × (m ≡ l)
   decode-6 e = Rows.hand-6 (decode-left 6 e) refl
 
   pub decode-7 : r .outcome ≡ H.Refused 7 → Row7 d s l (r .decoder) m
@@ -136,34 +136,34 @@ module _ (d : Decoder) (s l : List ℕ) (r : Handed) (m : List ℕ) (gave : Deco
 
   -- QA: for the stop mark nothing is changed
   pub decode-8 : r .outcome ≡ H.Refused 8 → ((d .stop ≡ 8) × (r .decoder ≡ d) × (m ≡ l)) ⊎ Row89 d s l 8 (r .decoder) m
-  decode-8 e = Rows.hand-8-9 (decode-left 8 e) (omega arith)
+  decode-8 e = Rows.decode-8-9 (decode-left 8 e) (omega arith)
 
   pub decode-9 : r .outcome ≡ H.Refused 9 → ((d .stop ≡ 9) × (r .decoder ≡ d) × (m ≡ l)) ⊎ Row89 d s l 9 (r .decoder) m
-  decode-9 e = Rows.hand-8-9 (decode-left 9 e) (omega arith)
+  decode-9 e = Rows.decode-8-9 (decode-left 9 e) (omega arith)
 
 -- ---- write_rgb_scaled
 
 module _ (d : Decoder) (l : List ℕ) (k : ℕ) (a : List ℕ) (w h : ℕ) (r : Converted) (b : List ℕ) (gave : Converts d l k a w h r b) where
   -- D1.4
-  pub convert-number : conversionNumber r ≡ firstNo (conversionAsks d l k a w h)
-  convert-number = ap (λ (x : Area). conversionNumber (x .answer)) gave ∙ conversion-asks d l k a w h
+  pub convert-number : conversionErrorCode r ≡ firstFailing (conversionChecks d l k a w h)
+  convert-number = ap (λ (x : Area). conversionErrorCode (x .answer)) gave ∙ conversion-checks d l k a w h
 
   -- D1.3, D1.5: whatever the number, the area is as it was
-  pub convert-left : (n : ℕ) → r ≡ C.Refused n → (among n conversionNumbers ≡ true) × (b ≡ a)
+  pub convert-left : (n : ℕ) → r ≡ C.Refused n → (member n conversionErrorCodes ≡ true) × (b ≡ a)
   convert-left n e =
-      subst (λ (x : Area). x .answer ≡ C.Refused n → (among n conversionNumbers ≡ true) × (x .area ≡ a)) (sym gave) (conversion-after d l k a w h n) e
+      subst (λ (x : Area). x .answer ≡ C.Refused n → (member n conversionErrorCodes ≡ true) × (x .area ≡ a)) (sym gave) (conversion-after d l k a w h n) e
 
   -- D1.4, both ways: the questions 2, 6, 10 and 11
-  pub convert-says : (n : ℕ) → 0 < n → IsFirstNo n (conversionAsks d l k a w h) → r ≡ C.Refused n
-  convert-says n p q = go r (convert-number ∙ first-is (conversionAsks d l k a w h) q)
+  pub convert-says : (n : ℕ) → 0 < n → IsFirstFailing n (conversionChecks d l k a w h) → r ≡ C.Refused n
+  convert-says n p q = go r (convert-number ∙ first-is (conversionChecks d l k a w h) q)
     where
-      go : (o : Converted) → conversionNumber o ≡ n → o ≡ C.Refused n
+      go : (o : Converted) → conversionErrorCode o ≡ n → o ≡ C.Refused n
       go C.Written e = let no : ⊥ = omega arith in absurd no
       go (C.Refused i) e = ap C.Refused e
 
-  pub convert-means : (n : ℕ) → r ≡ C.Refused n → IsFirstNo n (conversionAsks d l k a w h)
+  pub convert-means : (n : ℕ) → r ≡ C.Refused n → IsFirstFailing n (conversionChecks d l k a w h)
   convert-means n e =
-      is-first (conversionAsks d l k a w h) n (conversion-positive n (convert-left n e .0)) (sym convert-number ∙ ap conversionNumber e)
+      is-first (conversionChecks d l k a w h) n (conversion-positive n (convert-left n e .0)) (sym convert-number ∙ ap conversionErrorCode e)
 
   -- the rows of the table
   pub convert-2 : r ≡ C.Refused 2 → possible d ≡ false

@@ -23,19 +23,19 @@ use Rattle.decoder.specs.declared.answers.Opened as D
 use Rattle.playback.specs.declared.outcome.Shown.{Shown}
 use Rattle.playback.specs.declared.outcome.Outcome.{Outcome}
 use Rattle.playback.specs.declared.outcome.Outcome.the-variants as H
-use Rattle.decoder.specs.declared.answers.Handed.{Handed}
+use Rattle.decoder.specs.declared.answers.DecodeResult.{DecodeResult}
 use Rattle.decoder.specs.declared.answers.Converted.{Converted}
 use Rattle.decoder.specs.declared.answers.Converted.the-variants as C
-use Rattle.decoder.specs.Record.{Left, fresh, storeBytes}
+use Rattle.decoder.specs.Record.{CallResult, fresh, storeBytes}
 use Rattle.decoder.specs.Possible.{possible}
 use Rattle.decoder.specs.Conversion.{Area}
-use Rattle.decoder.specs.Answers.{openingNumber, handOutNumber, conversionNumber}
+use Rattle.decoder.specs.Answers.{openingErrorCode, decodeErrorCode, conversionErrorCode}
 use Rattle.demands.specs.Calls.{Opens, Decodes, Converts}
-use Rattle.demands.specs.Questions.{ask, firstNo, this-one, withHeader, headed, openingAsks, handOutAsks, conversionAsks}
+use Rattle.demands.specs.Checks.{check, firstFailing, this-one, withHeader, withHeaderRead, openingChecks, decodeChecks, conversionChecks}
 use Rattle.demands.specs.Stores.{SameFrom}
-use Rattle.demands.specs.Handing.{Opened, HandsOut}
+use Rattle.demands.specs.Outputs.{OpeningLeaves, DecodeOutputs}
 use Rattle.demands.proofs.After.{opening-ready, hand-picture, hand-same, cleared-same}
-use Rattle.demands.proofs.Numbers.{opening-positive, positive, conversion-positive, conversion-written}
+use Rattle.demands.proofs.ErrorCodes.{opening-positive, positive, conversion-positive, conversion-written}
 use Rattle.demands.proofs.Demand1 as D1
 use Rattle.demands.proofs.Reached.{same-from}
 use Rattle.bits.specs.Bounds.{longestStream}
@@ -44,18 +44,18 @@ use Rattle.bits.specs.Bounds.{longestStream}
 
 module _ (s l : List ℕ) (r : D.Opened) (m : List ℕ) (gave : Opens s l r m) where
   -- D2.1: ready exactly where no question is answered "no"; the record with the header, the store cleared
-  pub open-ready : firstNo (openingAsks s l) ≡ 0 → r .answer ≡ O.Ready
+  pub open-ready : firstFailing (openingChecks s l) ≡ 0 → r .answer ≡ O.Ready
   open-ready e = go (r .answer) refl (D1.open-number s l r m gave ∙ e)
     where
-      go : (o : Opening) → r .answer ≡ o → openingNumber o ≡ 0 → o ≡ O.Ready
+      go : (o : Opening) → r .answer ≡ o → openingErrorCode o ≡ 0 → o ≡ O.Ready
       go O.Ready q z = refl
       go (O.Refused n) q z = let p = opening-positive n (D1.open-named s l r m gave n q) in let no : ⊥ = omega arith in absurd no
 
-  pub open-no-question : r .answer ≡ O.Ready → firstNo (openingAsks s l) ≡ 0
-  open-no-question e = sym (D1.open-number s l r m gave) ∙ ap openingNumber e
+  pub open-no-question : r .answer ≡ O.Ready → firstFailing (openingChecks s l) ≡ 0
+  open-no-question e = sym (D1.open-number s l r m gave) ∙ ap openingErrorCode e
 
-  pub open-opened : r .answer ≡ O.Ready → Opened s l (r .decoder) m
-  open-opened e = subst (λ (x : Left Opening). x .answer ≡ O.Ready → Opened s l (x .decoder) (x .store)) (sym gave) (opening-ready s l) e
+  pub open-opened : r .answer ≡ O.Ready → OpeningLeaves s l (r .decoder) m
+  open-opened e = subst (λ (x : CallResult Opening). x .answer ≡ O.Ready → OpeningLeaves s l (x .decoder) (x .store)) (sym gave) (opening-ready s l) e
 
   -- D2.3: bytes beyond 1,152 × macroblocks stay, whatever the answer
   pub open-same : SameFrom (storeBytes (withHeader s fresh)) l m
@@ -74,33 +74,34 @@ module _ (s l : List ℕ) (r : D.Opened) (m : List ℕ) (gave : Opens s l r m) w
 
 -- ---- decode
 
-module _ (d : Decoder) (s l : List ℕ) (r : Handed) (m : List ℕ) (gave : Decodes d s l r m) where
+module _ (d : Decoder) (s l : List ℕ) (r : DecodeResult) (m : List ℕ) (gave : Decodes d s l r m) where
   -- D2.1: a picture exactly where no question is answered "no"; its store and time, the record and the stores
-  pub decode-no-question : (i : Shown) → r .outcome ≡ H.Picture i → firstNo (handOutAsks d s l) ≡ 0
-  decode-no-question i e = sym (D1.decode-number d s l r m gave) ∙ ap handOutNumber e
+  pub decode-no-question : (i : Shown) → r .outcome ≡ H.Picture i → firstFailing (decodeChecks d s l) ≡ 0
+  decode-no-question i e = sym (D1.decode-number d s l r m gave) ∙ ap decodeErrorCode e
 
-  pub decode-picture : firstNo (handOutAsks d s l) ≡ 0 → (n : ℕ) → r .outcome ≡ H.Refused n → ⊥
+  pub decode-picture : firstFailing (decodeChecks d s l) ≡ 0 → (n : ℕ) → r .outcome ≡ H.Refused n → ⊥
   decode-picture e n q =
       let p = positive n (D1.decode-named d s l r m gave n q) in
-      let z : n ≡ 0 = ap handOutNumber (sym q) ∙ D1.decode-number d s l r m gave ∙ e in omega arith
+      let z : n ≡ 0 = ap decodeErrorCode (sym q) ∙ D1.decode-number d s l r m gave ∙ e in omega arith
 
-  pub decode-hands-out : (i : Shown) → r .outcome ≡ H.Picture i → HandsOut d s l i (r .decoder) m
-  decode-hands-out i e = subst (λ (x : Left Outcome). x .answer ≡ H.Picture i → HandsOut d s l i (x .decoder) (x .store)) (sym gave) (hand-picture d s l i) e
+  pub decode-hands-out : (i : Shown) → r .outcome ≡ H.Picture i → DecodeOutputs d s l i (r .decoder) m
+  decode-hands-out i e = subst (λ (x : CallResult Outcome). x .answer ≡ H.Picture i → DecodeOutputs d s l i (x .decoder) (x .store)) (sym gave)
+      (hand-picture d s l i) e
 
   -- D2.3: bytes beyond 1,152 × macroblocks of the header, accepted in this call or earlier, stay, whatever the answer
-  pub decode-same : SameFrom (storeBytes (headed s d)) l m
-  decode-same = subst (λ (x : Left Outcome). SameFrom (storeBytes (headed s d)) l (x .store)) (sym gave) (hand-same d s l)
+  pub decode-same : SameFrom (storeBytes (withHeaderRead s d)) l m
+  decode-same = subst (λ (x : CallResult Outcome). SameFrom (storeBytes (withHeaderRead s d)) l (x .store)) (sym gave) (hand-same d s l)
 
   -- D2.4: for 8 and 9 see `decode-says`, `decode-8`, `decode-9` in Demand1.antt
   pub decode-too-long : longestStream < length s → r .outcome ≡ H.Refused 1
-  unfolding handOutAsks
+  unfolding decodeChecks
   decode-too-long h = D1.decode-says d s l r m gave 1 (omega arith) (this-one refl (lt-leb (length s) longestStream h))
 
 -- ---- write_rgb_scaled
 
 -- no question of the conversion is answered "no": the last is answered "yes"
-all-yes : (p q t f : Bool) → firstNo (ask 2 p ∷ ask 6 q ∷ ask 10 t ∷ ask 11 f ∷ []) ≡ 0 → f ≡ true
-unfolding firstNo
+all-yes : (p q t f : Bool) → firstFailing (check 2 p ∷ check 6 q ∷ check 10 t ∷ check 11 f ∷ []) ≡ 0 → f ≡ true
+unfolding firstFailing
 all-yes true true true true e = refl
 all-yes true true true false e = let no : ⊥ = omega arith in absurd no
 all-yes true true false f e = let no : ⊥ = omega arith in absurd no
@@ -109,15 +110,15 @@ all-yes false q t f e = let no : ⊥ = omega arith in absurd no
 
 module _ (d : Decoder) (l : List ℕ) (k : ℕ) (a : List ℕ) (w h : ℕ) (r : Converted) (b : List ℕ) (gave : Converts d l k a w h r b) where
   -- D2.2: written exactly where no question is answered "no"
-  pub convert-written : firstNo (conversionAsks d l k a w h) ≡ 0 → r ≡ C.Written
+  pub convert-written : firstFailing (conversionChecks d l k a w h) ≡ 0 → r ≡ C.Written
   convert-written e = go r refl (D1.convert-number d l k a w h r b gave ∙ e)
     where
-      go : (o : Converted) → r ≡ o → conversionNumber o ≡ 0 → o ≡ C.Written
+      go : (o : Converted) → r ≡ o → conversionErrorCode o ≡ 0 → o ≡ C.Written
       go C.Written q z = refl
       go (C.Refused n) q z = let p = conversion-positive n (D1.convert-left d l k a w h r b gave n q .0) in let no : ⊥ = omega arith in absurd no
 
-  pub convert-no-question : r ≡ C.Written → firstNo (conversionAsks d l k a w h) ≡ 0
-  convert-no-question e = sym (D1.convert-number d l k a w h r b gave) ∙ ap conversionNumber e
+  pub convert-no-question : r ≡ C.Written → firstFailing (conversionChecks d l k a w h) ≡ 0
+  convert-no-question e = sym (D1.convert-number d l k a w h r b gave) ∙ ap conversionErrorCode e
 
   pub convert-area : r ≡ C.Written → b ≡ scaled (pictureIn (d .sequence) l k) w h a
   convert-area e =
@@ -150,7 +151,7 @@ module _ (d : Decoder) (l : List ℕ) (k : ℕ) (a : List ℕ) (w h : ℕ) (r : 
   -- QE: a size of 0 succeeds and writes nothing, whatever the area's length
   pub convert-nothing : possible d ≡ true → storeBytes d ≤ length l → d .sequence .«has_sequence_header» ≡ true → k ≤ 2 → w ≤ 4096 → h ≤ 4096
       → (w ≡ 0) ⊎ (h ≡ 0) → (r ≡ C.Written) × (b ≡ a)
-  unfolding firstNo
+  unfolding firstFailing
   convert-nothing p q e f u v z =
       let none : w * h ≡ 0 = ⊎-elim (λ g. ap (λ (n : ℕ). n * h) g ∙ zero-mul h) (λ g. ap (λ (n : ℕ). w * n) g ∙ mul-zero w) z in
       let fit : leb (w * h) (length a) ≡ true = le-leb (w * h) (length a) (omega arith) in

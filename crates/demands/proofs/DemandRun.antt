@@ -11,11 +11,11 @@ use Rattle.decoder.specs.declared.answers.Opening.{Opening}
 use Rattle.decoder.specs.declared.answers.Opened.{Opened}
 use Rattle.playback.specs.declared.outcome.Outcome.{Outcome}
 use Rattle.playback.specs.declared.outcome.Outcome.the-variants as H
-use Rattle.decoder.specs.declared.answers.Handed.{Handed}
-use Rattle.decoder.specs.Record.{Left}
+use Rattle.decoder.specs.declared.answers.DecodeResult.{DecodeResult}
+use Rattle.decoder.specs.Record.{CallResult}
 use Rattle.decoder.specs.Possible.{possible}
-use Rattle.decoder.specs.Run.{Going, going, behind, begin, pictureIn}
-use Rattle.decoder.specs.Answers.{handOutNumber}
+use Rattle.decoder.specs.Run.{CallState, callState, stateAfter, stateAfterOpening, pictureIn}
+use Rattle.decoder.specs.Answers.{decodeErrorCode}
 use Rattle.demands.specs.Calls.{Opens, Calls, none, and-then, picturesIn, AllSeven, StaySeven}
 use Rattle.demands.proofs.Waiting.{fresh-waits}
 use Rattle.demands.proofs.RunCall.{Between, Resting, waits-possible, stuck-call, call-on, few, admitted}
@@ -23,48 +23,48 @@ use Rattle.demands.proofs.Run.{by-length, opening-begins, long-call, lo
 use Rattle.bits.specs.Bounds.{longestStream}
 
 module _ (s : List ℕ) (short : length s ≤ longestStream) (bytes : (k : ℕ) → getD s k 0 < 256) where
-  calls-on : {x : Going} {n : ℕ} {rs : List Handed} {y : Going} → Between s x n → Calls s x rs y → Between s y (n + picturesIn rs)
+  calls-on : {x : CallState} {n : ℕ} {rs : List DecodeResult} {y : CallState} → Between s x n → Calls s x rs y → Between s y (n + picturesIn rs)
   unfolding picturesIn
   calls-on {x} {n} b none = subst (Between s x) (omega arith) b
   calls-on {x} {n} {y = y} b (and-then {r = r} {rs = rs} gave k) =
       subst (Between s y) (omega arith)
-      (calls-on (subst (λ (q : Left Outcome). Between s (behind q) (n + pictureIn (q .answer))) (sym gave) (call-on s short bytes b .0)) k)
+      (calls-on (subst (λ (q : CallResult Outcome). Between s (stateAfter q) (n + pictureIn (q .answer))) (sym gave) (call-on s short bytes b .0)) k)
 
-  rests : {x : Going} {rs : List Handed} {y : Going} → Resting s x → Calls s x rs y → AllSeven rs
+  rests : {x : CallState} {rs : List DecodeResult} {y : CallState} → Resting s x → Calls s x rs y → AllSeven rs
   rests k none = tt
   rests {x} k (and-then gave c) =
       let e = stuck-call s short (x .decoder) (x .store) (k .0) (k .1) in
-      (ap (λ (q : Left Outcome). q .answer) (gave ∙ e), rests (subst (λ (q : Left Outcome). Resting s (behind q)) (sym (gave ∙ e)) k) c)
+      (ap (λ (q : CallResult Outcome). q .answer) (gave ∙ e), rests (subst (λ (q : CallResult Outcome). Resting s (stateAfter q)) (sym (gave ∙ e)) k) c)
 
-  stays : {x : Going} {n : ℕ} {rs : List Handed} {y : Going} → Between s x n → Calls s x rs y → StaySeven rs
+  stays : {x : CallState} {n : ℕ} {rs : List DecodeResult} {y : CallState} → Between s x n → Calls s x rs y → StaySeven rs
   stays b none = tt
   stays {n = n} b (and-then {r = r} gave c) =
       let o = call-on s short bytes b in
-      let seven = subst (λ (q : Left Outcome). q .answer ≡ H.Refused 7 → Resting s (behind q)) (sym gave) (o .1) in
-      (λ h. rests (seven h) c, stays (subst (λ (q : Left Outcome). Between s (behind q) (n + pictureIn (q .answer))) (sym gave) (o .0)) c)
+      let seven = subst (λ (q : CallResult Outcome). q .answer ≡ H.Refused 7 → Resting s (stateAfter q)) (sym gave) (o .1) in
+      (λ h. rests (seven h) c, stays (subst (λ (q : CallResult Outcome). Between s (stateAfter q) (n + pictureIn (q .answer))) (sym gave) (o .0)) c)
 
 -- a stream that is too long
 module _ (s : List ℕ) (long : leb (length s) longestStream ≡ false) where
-  long-run : {x : Going} {rs : List Handed} {y : Going} → Calls s x rs y → (picturesIn rs ≡ 0) × StaySeven rs × (y .decoder ≡ x .decoder)
+  long-run : {x : CallState} {rs : List DecodeResult} {y : CallState} → Calls s x rs y → (picturesIn rs ≡ 0) × StaySeven rs × (y .decoder ≡ x .decoder)
   unfolding picturesIn
   long-run none = (refl, tt, refl)
   long-run {x} (and-then {r = r} gave c) =
       let e = gave ∙ long-call s [] long x in
-      let one : r .outcome ≡ H.Refused 1 = ap (λ (q : Left Outcome). q .answer) e in
+      let one : r .outcome ≡ H.Refused 1 = ap (λ (q : CallResult Outcome). q .answer) e in
       let k = long-run c in
       let z : pictureIn (r .outcome) ≡ 0 = ap pictureIn one in (
         omega (arith, k .0),
-        (λ h. let w : _≡_ {A = ℕ} 1 7 = ap handOutNumber (sym one ∙ h) in let no : ⊥ = omega arith in absurd no, k .1),
-        k .2 ∙ ap (λ (q : Left Outcome). q .decoder) e,
+        (λ h. let w : _≡_ {A = ℕ} 1 7 = ap decodeErrorCode (sym one ∙ h) in let no : ⊥ = omega arith in absurd no, k .1),
+        k .2 ∙ ap (λ (q : CallResult Outcome). q .decoder) e,
       )
 
-module _ (s l : List ℕ) (r : Opened) (m : List ℕ) (gave : Opens s l r m) (bytes : (k : ℕ) → getD s k 0 < 256) (rs : List Handed) (y : Going)
-    (calls : Calls s (going (r .decoder) m) rs y) where
-  opened : going (r .decoder) m ≡ begin s l
-  opened = ap (λ (x : Left Opening). going (x .decoder) (x .store)) gave
+module _ (s l : List ℕ) (r : Opened) (m : List ℕ) (gave : Opens s l r m) (bytes : (k : ℕ) → getD s k 0 < 256) (rs : List DecodeResult) (y : CallState)
+    (calls : Calls s (callState (r .decoder) m) rs y) where
+  opened : callState (r .decoder) m ≡ stateAfterOpening s l
+  opened = ap (λ (x : CallResult Opening). callState (x .decoder) (x .store)) gave
 
-  start : length s ≤ longestStream → Between s (going (r .decoder) m) 0
-  start h = subst (λ (x : Going). Between s x 0) (sym opened) (opening-begins s h bytes l)
+  start : length s ≤ longestStream → Between s (callState (r .decoder) m) 0
+  start h = subst (λ (x : CallState). Between s x 0) (sym opened) (opening-begins s h bytes l)
 
   -- R.1
   pub run-few : picturesIn rs ≤ 8 * length s / 29 + 1
@@ -80,4 +80,5 @@ module _ (s l : List ℕ) (r : Opened) (m : List ℕ) (gave : Opens s l r m) (by
   pub run-possible : possible (y .decoder) ≡ true
   run-possible =
       by-length s _ (λ h. admitted s h bytes (calls-on s h bytes (start h) calls))
-      (λ h. ap possible (long-run s h calls .2 ∙ ap (λ (x : Going). x .decoder) (opened ∙ long-begin s l h)) ∙ waits-possible [] (omega arith) (fresh-waits []))
+      (λ h. ap possible (long-run s h calls .2 ∙ ap (λ (x : CallState). x .decoder) (opened ∙ long-begin s l h))
+      ∙ waits-possible [] (omega arith) (fresh-waits []))

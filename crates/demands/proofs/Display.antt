@@ -11,11 +11,11 @@ use lib.ListN.{length, getD, drop, length-take, length-drop}
 use lib.Seq.{ext-getD, getD-drop, getD-take}
 use borrow.Rule.Slice.PartMut.{midOf}
 use Rattle.demands.specs.Stores.{SameBut}
-use Rattle.demands.specs.Display.{Coded, displayed, waiting, AllDecoded, samplesOf}
+use Rattle.demands.specs.Display.{CodedPicture, displayed, waiting, AllDecoded, samplesOf}
 
 -- ---- one list of pictures behind another
 
-pub waiting-on : (h : List (List ℕ)) (a b : List Coded) → waiting h (a ++ b) ≡ waiting (waiting h a) b
+pub waiting-on : (h : List (List ℕ)) (a b : List CodedPicture) → waiting h (a ++ b) ≡ waiting (waiting h a) b
 unfolding waiting
 waiting-on h [] b = refl
 waiting-on h (c ∷ a) b = go (c .isB) (waiting-on h a b) (waiting-on (c .samples ∷ []) a b)
@@ -26,7 +26,7 @@ waiting-on h (c ∷ a) b = go (c .isB) (waiting-on h a b) (waiting-on (c .sample
     go true p q = p
     go false p q = q
 
-pub displayed-on : (h : List (List ℕ)) (a b : List Coded) → displayed h (a ++ b) ≡ displayed h a ++ displayed (waiting h a) b
+pub displayed-on : (h : List (List ℕ)) (a b : List CodedPicture) → displayed h (a ++ b) ≡ displayed h a ++ displayed (waiting h a) b
 unfolding displayed waiting
 displayed-on h [] b = refl
 displayed-on h (c ∷ a) b = go (c .isB) (displayed-on h a b) (displayed-on (c .samples ∷ []) a b)
@@ -38,11 +38,11 @@ displayed-on h (c ∷ a) b = go (c .isB) (displayed-on h a b) (displayed-on (c .
     go true p q = ap (λ (z : List (List ℕ)). c .samples ∷ z) p
     go false p q = ap (λ (z : List (List ℕ)). h ++ z) q ∙ sym (append-assoc h _ _)
 
-pub decoded-first : (a b : List Coded) → AllDecoded (a ++ b) → AllDecoded a
+pub decoded-first : (a b : List CodedPicture) → AllDecoded (a ++ b) → AllDecoded a
 decoded-first [] b h = tt
 decoded-first (c ∷ a) b h = (h .0, decoded-first a b (h .1))
 
-pub decoded-rest : (a b : List Coded) → AllDecoded (a ++ b) → AllDecoded b
+pub decoded-rest : (a b : List CodedPicture) → AllDecoded (a ++ b) → AllDecoded b
 decoded-rest [] b h = h
 decoded-rest (c ∷ a) b h = decoded-rest a b (h .1)
 

@@ -9,7 +9,7 @@ use lib.Dec.{eqb}
 use lib.IntN.{pos}
 use lib.ListN.{length}
 use borrow.Author.Tests.{le-leb, lt-leb}
-use Rattle.laws.specs.Turns.{Turn, again, stop}
+use Rattle.laws.specs.Loops.{Step, continue, finish}
 use Rattle.laws.proofs.Tests.{by-case}
 use Rattle.bits.specs.Bounds.{longestStream}
 use Rattle.bits.specs.Programs.{eqZ}
@@ -18,71 +18,72 @@ use Rattle.decoder.specs.declared.record.Decoder.{Decoder}
 use Rattle.decoder.specs.declared.answers.Opening.the-variants as O
 use Rattle.decoder.specs.declared.answers.Opened.{Opened}
 use Rattle.playback.specs.declared.outcome.Outcome.the-variants as H
-use Rattle.decoder.specs.declared.answers.Handed.{Handed}
+use Rattle.decoder.specs.declared.answers.DecodeResult.{DecodeResult}
 use Rattle.picture_state.specs.declared.types.Matrices.{Matrices}
 use Rattle.picture_state.specs.declared.types.Sizes.{Sizes}
 use Rattle.playback.specs.State.{freshState}
-use Rattle.playback.specs.Turns.{TurnState, Ended, atPicture, pictureTurn}
+use Rattle.playback.specs.Steps.{DecodingState, LoopEnd, atPicture, pictureStep}
 use Rattle.playback.specs.Cases.{isThere}
-use Rattle.decoder.specs.Record.{fresh, given, place, startCode, storeBytes}
+use Rattle.decoder.specs.Record.{fresh, decodingStateOf, position, startCode, storeBytes}
 use Rattle.decoder.specs.Possible.{possible}
 use Rattle.demands.specs.Calls.{Opens, Decodes}
 use Rattle.demands.specs.Codes.{SequenceAt}
-use Rattle.demands.specs.Questions as Q
-use Rattle.demands.specs.Questions.{Question, ask, IsFirstNo, this-one, a-later, withHeader, pictureEnd, turnAsks, picturesAsk, openingAsks}
+use Rattle.demands.specs.Checks as Q
+use Rattle.demands.specs.Checks.{Check, check, IsFirstFailing, this-one, a-later, withHeader, pictureEnd, stepChecks, picturesChecks, openingChecks}
 use Rattle.demands.proofs.Demand1.{open-says, open-means, decode-means}
-use Rattle.demands.proofs.Order.{Begins, asks-unheaded, says-4}
+use Rattle.demands.proofs.Order.{Begins, checks-unheaded, says-4}
 use Rattle.demands.proofs.HeaderEdge.{edge-code, edge-bits}
 
 -- ---- the questions of pictures are 7, 8 and 9
 
-either : {n : ℕ} (a : List Question) {b : List Question} → IsFirstNo n (a ++ b) → IsFirstNo n a ⊎ IsFirstNo n b
+either : {n : ℕ} (a : List Check) {b : List Check} → IsFirstFailing n (a ++ b) → IsFirstFailing n a ⊎ IsFirstFailing n b
 either [] k = inr k
 either (q ∷ a) (this-one e z) = inl (this-one e z)
 either (q ∷ a) (a-later y k) = go (either a k)
   where
-    go : {m : ℕ} {b : List Question} → IsFirstNo m a ⊎ IsFirstNo m b → IsFirstNo m (q ∷ a) ⊎ IsFirstNo m b
+    go : {m : ℕ} {b : List Check} → IsFirstFailing m a ⊎ IsFirstFailing m b → IsFirstFailing m (q ∷ a) ⊎ IsFirstFailing m b
     go (inl i) = inl (a-later y i)
     go (inr i) = inr i
 
 -- those of a turn
-turn-number : {n : ℕ} (s : List ℕ) (z : Sizes) (m : Matrices) (x : TurnState) → IsFirstNo n (turnAsks s z m x) → 6 < n
-unfolding turnAsks
-turn-number {n} s z m x =
-    by-case (λ (qs : List Question). IsFirstNo n (Q.hasPicture s (x .state) ∷ qs) → 6 < n) (isThere s (x .state)) (λ t k. three k) (λ t k. one k)
+step-number : {n : ℕ} (s : List ℕ) (z : Sizes) (m : Matrices) (x : DecodingState) → IsFirstFailing n (stepChecks s z m x) → 6 < n
+unfolding stepChecks
+step-number {n} s z m x =
+    by-case (λ (qs : List Check). IsFirstFailing n (Q.hasPicture s (x .state) ∷ qs) → 6 < n) (isThere s (x .state)) (λ t k. three k) (λ t k. one k)
   where
-    three : IsFirstNo n (Q.hasPicture s (x .state) ∷ Q.isInside 8 (pictureEnd s z m x) ∷ Q.isInside 9 (pictureEnd s z m x) ∷ []) → 6 < n
+    three : IsFirstFailing n (Q.hasPicture s (x .state) ∷ Q.isInside 8 (pictureEnd s z m x) ∷ Q.isInside 9 (pictureEnd s z m x) ∷ []) → 6 < n
     three (this-one e z) = omega arith
     three (a-later y (this-one e z)) = omega arith
     three (a-later y (a-later u (this-one e z))) = omega arith
 
-    one : IsFirstNo n (Q.hasPicture s (x .state) ∷ []) → 6 < n
+    one : IsFirstFailing n (Q.hasPicture s (x .state) ∷ []) → 6 < n
     one (this-one e z) = omega arith
 
-pictures-number : {n : ℕ} (s : List ℕ) (z : Sizes) (m : Matrices) (x : TurnState) → IsFirstNo n (picturesAsk s z m x) → 6 < n
-unfolding picturesAsk
-pictures-number {n} s z m x k = go (pictureTurn s z m x) (either (turnAsks s z m (atPicture s x)) k)
+pictures-number : {n : ℕ} (s : List ℕ) (z : Sizes) (m : Matrices) (x : DecodingState) → IsFirstFailing n (picturesChecks s z m x) → 6 < n
+unfolding picturesChecks
+pictures-number {n} s z m x k = go (pictureStep s z m x) (either (stepChecks s z m (atPicture s x)) k)
   where
-    go : (t : Turn TurnState Ended)
-        → IsFirstNo n (turnAsks s z m (atPicture s x)) ⊎ IsFirstNo n (elim t [ again y ↦ turnAsks s z m (atPicture s y) | stop e ↦ [] ]) → 6 < n
-    go t (inl i) = turn-number s z m (atPicture s x) i
-    go (again y) (inr i) = turn-number s z m (atPicture s y) i
+    go : (t : Step DecodingState LoopEnd)
+        → IsFirstFailing n (stepChecks s z m (atPicture s x)) ⊎ IsFirstFailing n (elim t [ continue y ↦ stepChecks s z m (atPicture s y) | finish e ↦ [] ])
+        → 6 < n
+    go t (inl i) = step-number s z m (atPicture s x) i
+    go (continue y) (inr i) = step-number s z m (atPicture s y) i
 
 -- a number that is neither 3 nor 4
 other : {j n : ℕ} → (n ≡ 3) ⊎ (n ≡ 4) → j ≡ n → (j ≡ 3 → ⊥) → (j ≡ 4 → ⊥) → ⊥
 other {j} {n} w e p q = ⊎-elim (λ (g : n ≡ 3). p (e ∙ g)) (λ (g : n ≡ 4). q (e ∙ g)) w
 
 -- 136 bytes behind the code are enough: the code is there, and so are the bits
-module _ (s : List ℕ) (d : Decoder) (b : ℕ) (unread : eqZ (startCode d) (pos 0xb3) ≡ false) (k : SequenceAt s (place d) b) (f : b + 4 + 136 ≤ length s) where
-  code-there : Q.hasCode s d .yes ≡ false → ⊥
+module _ (s : List ℕ) (d : Decoder) (b : ℕ) (unread : eqZ (startCode d) (pos 0xb3) ≡ false) (k : SequenceAt s (position d) b) (f : b + 4 + 136 ≤ length s) where
+  code-there : Q.hasCode s d .passes ≡ false → ⊥
   code-there z = true≢false (sym (edge-code s d b unread k) ∙ z)
 
-  bits-there : Q.hasBits s d .yes ≡ false → ⊥
+  bits-there : Q.hasBits s d .passes ≡ false → ⊥
   bits-there z = true≢false (sym (edge-bits s d b unread k ∙ le-leb (b + 4 + 136) (length s) f) ∙ z)
 
 -- ---- open
 
-module _ (s l : List ℕ) (r : Opened) (m : List ℕ) (gave : Opens s l r m) (b : ℕ) (k : SequenceAt s (place fresh) b) where
+module _ (s l : List ℕ) (r : Opened) (m : List ℕ) (gave : Opens s l r m) (b : ℕ) (k : SequenceAt s (position fresh) b) where
   unread : eqZ (startCode fresh) (pos 0xb3) ≡ false
   unfolding fresh freshState
   unread = refl
@@ -96,7 +97,7 @@ module _ (s l : List ℕ) (r : Opened) (m : List ℕ) (gave : Opens s l r m) (b 
   pub open-edge-passes : b + 4 + 136 ≤ length s → (n : ℕ) → r .answer ≡ O.Refused n → (n ≡ 3) ⊎ (n ≡ 4) → ⊥
   open-edge-passes f n e w = go (open-means s l r m gave n e)
     where
-      go : IsFirstNo n (openingAsks s l) → ⊥
+      go : IsFirstFailing n (openingChecks s l) → ⊥
       go (this-one e z) = other w e (λ g. omega arith) (λ g. omega arith)
       go (a-later y (this-one e z)) = code-there s fresh b unread k f z
       go (a-later y (a-later u (this-one e z))) = bits-there s fresh b unread k f z
@@ -105,19 +106,20 @@ module _ (s l : List ℕ) (r : Opened) (m : List ℕ) (gave : Opens s l r m) (b 
 
 -- ---- decode, with no header and no start code of one in the record
 
-module _ (d : Decoder) (s l : List ℕ) (r : Handed) (m : List ℕ) (gave : Decodes d s l r m) (begins : Begins d s)
-    (none : d .sequence .«has_sequence_header» ≡ false) (no-code : eqZ (startCode d) (pos 0xb3) ≡ false) (b : ℕ) (k : SequenceAt s (place d) b) where
+module _ (d : Decoder) (s l : List ℕ) (r : DecodeResult) (m : List ℕ) (gave : Decodes d s l r m) (begins : Begins d s)
+    (none : d .sequence .«has_sequence_header» ≡ false) (no-code : eqZ (startCode d) (pos 0xb3) ≡ false) (b : ℕ) (k : SequenceAt s (position d) b) where
   pub decode-edge-fails : length s < b + 4 + 136 → r .outcome ≡ H.Refused 4
   decode-edge-fails f =
       says-4 d s l r m gave begins none (edge-code s d b no-code k) (edge-bits s d b no-code k ∙ lt-leb (b + 4 + 136) (length s) f)
 
   pub decode-edge-passes : b + 4 + 136 ≤ length s → (n : ℕ) → r .outcome ≡ H.Refused n → (n ≡ 3) ⊎ (n ≡ 4) → ⊥
   decode-edge-passes f n e w =
-      go (given (withHeader s d) (cleared (storeBytes (withHeader s d)) l)) (subst (IsFirstNo n) (asks-unheaded d s l none) (decode-means d s l r m gave n e))
+      go (decodingStateOf (withHeader s d) (cleared (storeBytes (withHeader s d)) l))
+          (subst (IsFirstFailing n) (checks-unheaded d s l none) (decode-means d s l r m gave n e))
     where
-      go : (x : TurnState)
-          → IsFirstNo n (Q.isShort s ∷ ask 2 (possible d) ∷ ask (d .stop) (eqb (d .stop) 0) ∷ Q.hasCode s d ∷ Q.hasBits s d ∷ Q.hasSize s d ∷
-          Q.hasStore (withHeader s d) l ∷ picturesAsk s (withHeader s d .sequence .sizes) (withHeader s d .sequence .matrices) x)
+      go : (x : DecodingState)
+          → IsFirstFailing n (Q.isShort s ∷ check 2 (possible d) ∷ check (d .stop) (eqb (d .stop) 0) ∷ Q.hasCode s d ∷ Q.hasBits s d ∷ Q.hasSize s d ∷
+          Q.hasStore (withHeader s d) l ∷ picturesChecks s (withHeader s d .sequence .sizes) (withHeader s d .sequence .matrices) x)
           → ⊥
       go x (this-one e z) = other w e (λ g. omega arith) (λ g. omega arith)
       go x (a-later y (this-one e z)) = other w e (λ g. omega arith) (λ g. omega arith)

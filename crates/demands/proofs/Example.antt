@@ -7,11 +7,11 @@ use lib.IntN.{pos}
 use lib.ListN.{replicate, take, drop}
 use Rattle.laws.specs.Signed.{clamp255, half0, odd}
 use Rattle.laws.specs.Stores.{storeRow, storeRows}
-use Rattle.laws.specs.Turns.{turns}
-use Rattle.bits.specs.Bits.{bitAt, bitsAt, got, next, codePrefix, codeFrom, found}
-use Rattle.bits.specs.Programs.{run, bind, forBelow, loop, findTurn, findStartCode}
+use Rattle.laws.specs.Loops.{iterate}
+use Rattle.bits.specs.Bits.{bitAt, bitsAt, readAt, afterRead, codePrefix, codeFrom, found}
+use Rattle.bits.specs.Programs.{run, bind, forBelow, loop, findStep, findStartCode}
 use Rattle.codes.specs.Tables as Tables
-use Rattle.codes.specs.Walk.{walkTurn, walk, vlc}
+use Rattle.codes.specs.Walk.{walkStep, walk, vlc}
 use Rattle.codes.specs.Codes as Codes
 use Rattle.codes.specs.Matrices.{downFrom, diagonals, zigZag, intraQuantMatrix, nonIntraQuantMatrix, premultiplierMatrix, bounded}
 use Rattle.codes.specs.Rates.{pixelAspectRatio, pictureRate}
@@ -26,29 +26,29 @@ use Rattle.transform.specs.Butterfly.{butterfly}
 use Rattle.transform.specs.Idct.{columns, rows, idct, dcOnly}
 use Rattle.prediction.specs.Samples.{sample}
 use Rattle.prediction.specs.Predict.{fetch, predicted}
-use Rattle.prediction.specs.Planes.{follow, next as following, predictedPlanes}
-use Rattle.prediction.specs.Writers.{setConst, overwrite, blockPlace}
-use Rattle.picture_state.specs.Ways.{also, leave, onward, plain}
-use Rattle.macroblock_head.specs.Increments.{incrementTurn, increment}
+use Rattle.prediction.specs.Planes.{follow, thenPlane as following, predictedPlanes}
+use Rattle.prediction.specs.Writers.{setConst, overwrite, blockAddress}
+use Rattle.picture_state.specs.Result.{andThen, ifOk, bindResult, lift}
+use Rattle.macroblock_head.specs.Increments.{incrementStep, increment}
 use Rattle.macroblock_head.specs.Predictions.{unlessRefused, predictFrom, predictBoth, predict, predictSkipped}
 use Rattle.macroblock_head.specs.Heads.{macroblockType, scale, vector, forward, backward, vectors, head, pattern}
 use Rattle.blocks.specs.Blocks.{results, written, blockEnd, oneBlock, blocks}
-use Rattle.macroblock.specs.Macroblocks.{skipReset, advance, predictUnlessIntra, body, firstOf, laterOf, macroblock}
-use Rattle.slice.specs.Slices.{extraTurn, extra, pastMacroblock, sliceTurn, slice}
+use Rattle.macroblock.specs.Macroblocks.{skipReset, advance, predictUnlessIntra, body, firstMacroblock, laterMacroblock, macroblock}
+use Rattle.slice.specs.Slices.{extraStep, extra, afterMacroblock, sliceStep, slice}
 use Rattle.picture.specs.Pictures as P
 use Rattle.header.specs.Store.{cleared}
 use Rattle.header.specs.Sequences.{matrix, size, rest}
-use Rattle.decoder.specs.Record.{Left, fresh}
-use Rattle.decoder.specs.Answers.{picture, number, outcomeSays}
+use Rattle.decoder.specs.Record.{CallResult, fresh}
+use Rattle.decoder.specs.Answers.{picture, number, decodeAnswer}
 use Rattle.laws.specs.Each.{allBelow}
 use Rattle.decoder.specs.Possible.{possible}
-use Rattle.decoder.specs.Headers.{findSequence, accepted, askSize, askHeader, askStore}
+use Rattle.decoder.specs.Headers.{findSequence, accepted, checkSize, checkHeader, checkStore}
 use Rattle.decoder.specs.Opening.{opened, openingFrom, opening}
 use Rattle.playback.specs.State.{freshState, possibleDisplay}
 use Rattle.playback.specs.Search.{nextCode, isFollowed}
-use Rattle.playback.specs.Display.{timeOf, counted, handed, shown, flushed}
-use Rattle.playback.specs.Turns.{pastPicture, decoded, searched, pictureTurn, pictures}
-use Rattle.decoder.specs.HandOut.{ended, askFirst, begun, goOn, handOut}
+use Rattle.playback.specs.Display.{timeOf, counted, outputPicture, shown, flushed}
+use Rattle.playback.specs.Steps.{afterPicture, decoded, searched, pictureStep, pictures}
+use Rattle.decoder.specs.Decode.{callResultOf, checkHeaderAndStore, startState, afterChecks, decode}
 use Rattle.decoder.specs.declared.answers.Opening.{Opening}
 use Rattle.playback.specs.declared.outcome.Outcome.{Outcome}
 
@@ -89,14 +89,14 @@ laterBytes = 0x00 ∷ 0x00 ∷ 0x01 ∷ 0x00 ∷ 0x00 ∷ 0x08 ∷ 0xff ∷ 0xff
 abbrev stream : List ℕ
 stream = headerBytes ++ (replicate 104 0xff ++ (intraBytes ++ (predictiveBytes ++ (bothWaysBytes ++ (laterBytes ++ laterBytes)))))
 
-abbrev first : Left Opening
+abbrev first : CallResult Opening
 first = opening stream (replicate 2304 7)
 
-abbrev second : Left Outcome
-second = handOut (first .decoder) stream (first .store)
+abbrev second : CallResult Outcome
+second = decode (first .decoder) stream (first .store)
 
-abbrev third : Left Outcome
-third = handOut (second .decoder) stream (second .store)
+abbrev third : CallResult Outcome
+third = decode (second .decoder) stream (second .store)
 
 -- 48 × 16 samples: three macroblocks
 abbrev wideBytes : List ℕ
@@ -118,8 +118,8 @@ skippingBothBytes = typeB ++ (sliceCode ++ (0x0a ∷ 0x4a ∷ 0xd3 ∷ 0x80 ∷ 
 abbrev skipping : List ℕ
 skipping = wideBytes ++ (replicate 104 0xff ++ (threeBytes ++ (skippingBytes ++ (skippingBothBytes ++ (laterBytes ++ laterBytes)))))
 
-abbrev skips : Left Outcome
-skips = let x = opening skipping (replicate 3456 7) in let y = handOut (x .decoder) skipping (x .store) in handOut (y .decoder) skipping (y .store)
+abbrev skips : CallResult Outcome
+skips = let x = opening skipping (replicate 3456 7) in let y = decode (x .decoder) skipping (x .store) in decode (y .decoder) skipping (y .store)
 
 -- 16 × 16 samples
 abbrev smallBytes : List ℕ
@@ -132,22 +132,22 @@ overBytes = typeI ++ (sliceCode ++ (0x0b ∷ 0x99 ∷ 0x81 ∷ 0x00 ∷ 0x00 ∷
 abbrev flushing : List ℕ
 flushing = smallBytes ++ (replicate 104 0xff ++ overBytes)
 
-abbrev flush : Left Outcome
-flush = let x = opening flushing (replicate 1152 7) in handOut (x .decoder) flushing (x .store)
+abbrev flush : CallResult Outcome
+flush = let x = opening flushing (replicate 1152 7) in decode (x .decoder) flushing (x .store)
 
-abbrev behindFlush : Left Outcome
-behindFlush = handOut (flush .decoder) flushing (flush .store)
+abbrev behindFlush : CallResult Outcome
+behindFlush = decode (flush .decoder) flushing (flush .store)
 
 -- what the hand-outs give
 pub record Pictures : Type 0 where
   -- the I picture, out of store 0
-  pub hands : outcomeSays (second .answer) ≡ picture 0 (ofInt binary64 (pos 0))
+  pub hands : decodeAnswer (second .answer) ≡ picture 0 (ofInt binary64 (pos 0))
   -- the first row of its plane Y
   pub intra-row : take 32 (second .store) ≡ replicate 16 133 ++ replicate 16 128
   -- and of that of the P picture in store 1, where one sample is the average of 133 and 128
   pub predictive-row : take 32 (drop 768 (second .store)) ≡ replicate 16 133 ++ (131 ∷ replicate 15 128)
   -- the B picture, out of store 2, a 25th of a second later (RULES 8.9)
-  pub hands-next : outcomeSays (third .answer) ≡ picture 2 (div binary64 (ofInt binary64 (pos 1)) (ofInt binary64 (pos 25)))
+  pub hands-next : decodeAnswer (third .answer) ≡ picture 2 (div binary64 (ofInt binary64 (pos 1)) (ofInt binary64 (pos 25)))
   -- its first row, where 132 is the average of 131, by which the I picture predicts, and of 133, by which the P picture does
   pub both-ways-row : take 32 (drop 1536 (third .store)) ≡ replicate 15 133 ++ (132 ∷ 132 ∷ 130 ∷ replicate 14 128)
   -- RULES 7.19: a skip in a P picture sets the vector to 0
@@ -155,30 +155,31 @@ pub record Pictures : Type 0 where
   -- and one in a B picture does not: the last of its samples is the average of 128 and 138
   pub skipped-both-row : take 48 (drop 2304 (skips .store)) ≡ replicate 15 133 ++ (131 ∷ replicate 15 128) ++ (133 ∷ 131 ∷ 136 ∷ replicate 14 138)
   -- RULES 8.8, 8.11: the picture that is held at the exact end is flushed, with the time shown before
-  pub flushes : outcomeSays (flush .answer) ≡ picture 0 (ofInt binary64 (pos 0))
+  pub flushes : decodeAnswer (flush .answer) ≡ picture 0 (ofInt binary64 (pos 0))
   -- once
-  pub flushes-once : outcomeSays (behindFlush .answer) ≡ number 7
+  pub flushes-once : decodeAnswer (behindFlush .answer) ≡ number 7
 
 pub shown-pictures : Pictures
-unfolding clamp255 half0 odd storeRow storeRows turns allBelow ofInt div
-    bitAt bitsAt got next codePrefix codeFrom found run bind forBelow loop findTurn findStartCode
+unfolding clamp255 half0 odd storeRow storeRows iterate allBelow ofInt div
+    bitAt bitsAt readAt afterRead codePrefix codeFrom found run bind forBelow loop findStep findStartCode
     Tables.macroblockAddressIncrementIndex Tables.macroblockAddressIncrementValue Tables.macroblockTypeIntraIndex Tables.macroblockTypeIntraValue
     Tables.macroblockTypePredictiveIndex Tables.macroblockTypePredictiveValue Tables.macroblockTypeBIndex Tables.macroblockTypeBValue
     Tables.motionIndex Tables.motionValue Tables.dctSizeLuminanceIndex Tables.dctSizeLuminanceValue Tables.dctSizeChrominanceIndex
     Tables.dctSizeChrominanceValue Tables.dctCoeffIndex Tables.dctCoeffValue
-    walkTurn walk vlc Codes.macroblockAddressIncrement Codes.macroblockTypeIntra Codes.macroblockTypePredictive Codes.macroblockTypeB Codes.motion
+    walkStep walk vlc Codes.macroblockAddressIncrement Codes.macroblockTypeIntra Codes.macroblockTypePredictive Codes.macroblockTypeB Codes.motion
     Codes.dctSizeLuminance Codes.dctSizeChrominance Codes.dctCoeff
     downFrom diagonals zigZag intraQuantMatrix nonIntraQuantMatrix premultiplierMatrix bounded pixelAspectRatio pictureRate
     displacement motionVector corrected Dcs.dcSize Dcs.added Dcs.dcDifference
     Coefficients.escapeLevel Coefficients.escape Coefficients.runLevel Coefficients.coefficient dequantised
-    Syntax.pairTurn Syntax.pairs Syntax.intraCoded Syntax.codedBlock Block.allPlaced Block.reconstructed Block.block Block.leftOver
+    Syntax.pairStep Syntax.pairs Syntax.intraCoded Syntax.codedBlock Block.allPlaced Block.reconstructed Block.block Block.blockDataAfter
     butterfly columns rows idct dcOnly sample fetch predicted setConst overwrite
-    also leave onward plain incrementTurn increment follow following predictedPlanes unlessRefused predictFrom predictBoth predictSkipped predict
-    macroblockType scale vector forward backward vectors head pattern blockPlace results written blockEnd oneBlock blocks skipReset
-    advance predictUnlessIntra body firstOf laterOf macroblock extraTurn extra pastMacroblock sliceTurn slice P.direction
-    P.pictureHeader P.pastSlice P.slicesTurn P.slices P.coded P.picture
-    fresh freshState possibleDisplay cleared possible matrix size rest findSequence accepted askSize askHeader askStore opened openingFrom opening
-    nextCode isFollowed timeOf counted handed shown flushed pastPicture decoded searched pictureTurn pictures ended askFirst begun goOn handOut
+    andThen ifOk bindResult lift incrementStep increment follow following predictedPlanes unlessRefused predictFrom predictBoth predictSkipped predict
+    macroblockType scale vector forward backward vectors head pattern blockAddress results written blockEnd oneBlock blocks skipReset
+    advance predictUnlessIntra body firstMacroblock laterMacroblock macroblock extraStep extra afterMacroblock sliceStep slice P.direction
+    P.pictureHeader P.afterSlice P.slicesStep P.slices P.slicesInRoles P.picture
+    fresh freshState possibleDisplay cleared possible matrix size rest findSequence accepted checkSize checkHeader checkStore opened openingFrom opening
+    nextCode isFollowed timeOf counted outputPicture shown flushed afterPicture decoded searched pictureStep pictures callResultOf checkHeaderAndStore
+        startState afterChecks decode
 shown-pictures = record {
   hands = refl;
   intra-row = refl;

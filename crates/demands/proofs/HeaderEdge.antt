@@ -16,11 +16,11 @@ use Rattle.bits.proofs.Start.{Searched, first, none, found-is-first}
 use Rattle.bits.proofs.Programs.{served-has, refused-has}
 use Rattle.bits.proofs.Rules.{at-find}
 use Rattle.decoder.specs.declared.record.Decoder.{Decoder}
-use Rattle.decoder.specs.Record.{place, startCode, searchedAs}
+use Rattle.decoder.specs.Record.{position, startCode, searchedAs}
 use Rattle.playback.specs.Search.{nextCode}
 use Rattle.decoder.specs.Headers.{findSequence}
 use Rattle.demands.specs.Codes.{CodeAt, SequenceAt}
-use Rattle.demands.specs.Questions.{hasCode, hasBits}
+use Rattle.demands.specs.Checks.{hasCode, hasBits}
 
 prefix-is : {s : List ℕ} {c b : ℕ} → CodeAt s c b → codePrefix s b ≡ true
 unfolding codePrefix
@@ -54,16 +54,16 @@ found-there s a b k = go (found s a) (found-is-first s a)
 seeks : (s : List ℕ) (a b : ℕ) → SequenceAt s a b → RunsAt (findStartCode (pos 0xb3)) s a (pos 0xb3) ((b + 4) * 8)
 seeks s a b k = at-find (pos 0xb3) (found-there s a b k) refl
 
-module _ (s : List ℕ) (d : Decoder) (b : ℕ) (no-code : eqZ (startCode d) (pos 0xb3) ≡ false) (k : SequenceAt s (place d) b) where
+module _ (s : List ℕ) (d : Decoder) (b : ℕ) (no-code : eqZ (startCode d) (pos 0xb3) ≡ false) (k : SequenceAt s (position d) b) where
   pub finds : findSequence s d ≡ searchedAs (pos 0xb3) ((b + 4) * 8) d
   unfolding findSequence nextCode
-  finds = rw no-code (ap (λ (o : Out ℤ). searchedAs (o .value) (o .at) d) (seeks s (place d) b k .is))
+  finds = rw no-code (ap (λ (o : Out ℤ). searchedAs (o .value) (o .at) d) (seeks s (position d) b k .is))
 
   -- question 3 is answered "yes", and question 4 exactly if 136 bytes are behind the code
-  pub edge-code : hasCode s d .yes ≡ true
+  pub edge-code : hasCode s d .passes ≡ true
   edge-code = rw finds refl
 
-  pub edge-bits : hasBits s d .yes ≡ leb (b + 4 + 136) (length s)
+  pub edge-bits : hasBits s d .passes ≡ leb (b + 4 + 136) (length s)
   edge-bits = rw finds (go (decLt (length s) (b + 4 + 136)))
     where
       go : Dec (length s < b + 4 + 136) → has s ((b + 4) * 8) 1088 ≡ leb (b + 4 + 136) (length s)

@@ -20,16 +20,16 @@ use Rattle.header.specs.declared.state.Sequence.{Sequence}
 use Rattle.header.specs.Possible.{across, sizesOf, sameSizes, possibleSequence}
 use Rattle.prediction.specs.Planes.{storesBytes}
 use Rattle.playback.specs.declared.state.Display.{Display}
-use Rattle.playback.specs.State.{place, frames, possibleDisplay, searchedAs, heldAs}
+use Rattle.playback.specs.State.{position, frames, possibleDisplay, searchedAs, hasReferenceFrameAs}
 use Rattle.playback.specs.Display.{counted}
-use Rattle.playback.specs.Turns.{TurnState, inState}
+use Rattle.playback.specs.Steps.{DecodingState, withState}
 use Rattle.playback.proofs.Displays.{held-possible, counted-possible}
 use Rattle.decoder.specs.declared.record.Decoder.{Decoder}
-use Rattle.decoder.specs.Record.{given, resumed}
+use Rattle.decoder.specs.Record.{decodingStateOf, withDecodingState}
 
 -- what the turns keep, of the sizes, the place, the picture, the left-over coefficients, what is shown and the store: 29 bits are read for each
 -- picture handed out; before a picture start code that is in the state bits are left
-pub record TurnKeeps (s : List ℕ) (z : Sizes) (a : ℕ) (p : Picture) (c : List ℤ) (v : Display) (l : List ℕ) : Type 0 where
+pub record StepKeeps (s : List ℕ) (z : Sizes) (a : ℕ) (p : Picture) (c : List ℤ) (v : Display) (l : List ℕ) : Type 0 where
   pub picture : possiblePicture p ≡ true
   pub block : bounded c ≡ true
   pub long : storesBytes (z .«mb_size») ≤ length l
@@ -38,20 +38,20 @@ pub record TurnKeeps (s : List ℕ) (z : Sizes) (a : ℕ) (p : Picture) (c : Lis
   pub display : possibleDisplay v ≡ true
   pub count : 29 * v .«frames_decoded» ≤ a
 
-abbrev pub KeepsAt : List ℕ → Sizes → TurnState → Type 0
-KeepsAt s z x = TurnKeeps s z (place (x .state)) (x .state .picture) (x .«block_data») (x .state .display) (x .store)
+abbrev pub KeepsAt : List ℕ → Sizes → DecodingState → Type 0
+KeepsAt s z x = StepKeeps s z (position (x .state)) (x .state .picture) (x .«block_data») (x .state .display) (x .store)
 
 -- what a record keeps from an accepted header on, with no stop mark
 pub record Keeps (s : List ℕ) (d : Decoder) (l : List ℕ) : Type 0 where
   pub header : d .sequence .«has_sequence_header» ≡ true
   pub sequence : possibleSequence (d .sequence) ≡ true
   pub mark : d .stop ≡ 0
-  pub turn : KeepsAt s (d .sequence .sizes) (given d l)
+  pub step : KeepsAt s (d .sequence .sizes) (decodingStateOf d l)
 
 -- behind turns
-pub keeps-resumed : {s : List ℕ} {d : Decoder} {l : List ℕ} {x : TurnState} → Keeps s d l → KeepsAt s (d .sequence .sizes) x
-    → Keeps s (resumed d x) (x .store)
-keeps-resumed k h = record { header = k .header; sequence = k .sequence; mark = k .mark; turn = h }
+pub keeps-resumed : {s : List ℕ} {d : Decoder} {l : List ℕ} {x : DecodingState} → Keeps s d l → KeepsAt s (d .sequence .sizes) x
+    → Keeps s (withDecodingState d x) (x .store)
+keeps-resumed k h = record { header = k .header; sequence = k .sequence; mark = k .mark; step = h }
 
 -- ---- changes of a state that keep it
 
@@ -62,8 +62,8 @@ code-possible c p h k =
     let x = picture-of p k in
     picture-by {p = startCodeAs c p} (record { type = x .type; code = h; stores = x .stores; slice = x .slice })
 
-module _ {s : List ℕ} {z : Sizes} (x : TurnState) (k : KeepsAt s z x) where
-  pub keeps-counted : length s ≤ longestStream → 29 * frames (x .state) + 29 ≤ place (x .state) → KeepsAt s z (inState (counted (x .state)) x)
+module _ {s : List ℕ} {z : Sizes} (x : DecodingState) (k : KeepsAt s z x) where
+  pub keeps-counted : length s ≤ longestStream → 29 * frames (x .state) + 29 ≤ position (x .state) → KeepsAt s z (withState (counted (x .state)) x)
   unfolding counted
   keeps-counted short h = record {
     picture = k .picture;
@@ -75,7 +75,7 @@ module _ {s : List ℕ} {z : Sizes} (x : TurnState) (k : KeepsAt s z x) where
     count = omega arith;
   }
 
-  pub keeps-held : (b : Bool) → KeepsAt s z (inState (heldAs b (x .state)) x)
+  pub keeps-held : (b : Bool) → KeepsAt s z (withState (hasReferenceFrameAs b (x .state)) x)
   keeps-held b = record {
     picture = k .picture;
     block = k .block;
@@ -86,9 +86,9 @@ module _ {s : List ℕ} {z : Sizes} (x : TurnState) (k : KeepsAt s z x) where
     count = k .count;
   }
 
-  pub keeps-searched : (c : ℤ) (e : ℕ) → between (negℤ (pos 1)) (pos 255) c ≡ true → place (x .state) ≤ e → e ≤ length s * 8
+  pub keeps-searched : (c : ℤ) (e : ℕ) → between (negℤ (pos 1)) (pos 255) c ≡ true → position (x .state) ≤ e → e ≤ length s * 8
       → (c ≡ pos 0 → e < length s * 8)
-      → KeepsAt s z (inState (searchedAs c e (x .state)) x)
+      → KeepsAt s z (withState (searchedAs c e (x .state)) x)
   keeps-searched c e h f m a = record {
     picture = code-possible c (x .state .picture) h (k .picture);
     block = k .block;

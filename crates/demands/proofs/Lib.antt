@@ -1,4 +1,4 @@
-pub mod Questions
+pub mod Checks
 pub mod Causes
 pub mod OtherStores
 pub mod PictureLeft
@@ -7,7 +7,7 @@ pub mod Codes
 pub mod AfterHeader
 pub mod HeaderEdge
 pub mod Keeps
-pub mod RunTurns
+pub mod RunSteps
 pub mod Waiting
 pub mod RunCall
 pub mod Run
@@ -16,14 +16,14 @@ pub mod Example
 pub mod Listing
 pub mod Converts
 pub mod After
-pub mod Numbers
+pub mod ErrorCodes
 pub mod Rows
 pub mod Demand1
 pub mod Demand2
 pub mod DemandRun
 pub mod Display
-pub mod DisplayTurn
-pub mod DisplayTurns
+pub mod DisplayStep
+pub mod DisplaySteps
 pub mod DisplayCall
 pub mod DisplayRun
 pub mod Order

@@ -15,11 +15,11 @@ use Rattle.decoder.specs.declared.answers.Opening.the-variants as O
 use Rattle.playback.specs.declared.outcome.Outcome.{Outcome}
 use Rattle.playback.specs.declared.outcome.Outcome.the-variants as H
 use Rattle.decoder.specs.Opening.{opening}
-use Rattle.decoder.specs.Run.{Going, going, call, pictureIn}
+use Rattle.decoder.specs.Run.{CallState, callState, call, pictureIn}
 use Rattle.decoder.specs.Listing.{Line, line, linesFrom, linesOf, listing}
 use Rattle.demands.specs.Lines.{Lines, a-picture, the-number}
-use Rattle.demands.proofs.Numbers.{opening-named, hand-named, positive, opening-positive}
-use Rattle.demands.proofs.After.{opening-after, hand-after}
+use Rattle.demands.proofs.ErrorCodes.{opening-named, hand-named, positive, opening-positive}
+use Rattle.demands.proofs.After.{opening-after, decode-after}
 use Rattle.demands.proofs.RunCall.{Between, call-on, few}
 use Rattle.demands.proofs.Run.{opening-begins}
 
@@ -28,18 +28,18 @@ abbrev lines : ℕ → Outcome → Decoder → List Line → List Line
 lines n o d t = elim o [ H.Picture p ↦ line (n + 1) (p .store) (d .state .picture .«picture_type») 0 ∷ t | H.Refused a ↦ line n 0 0 a ∷ [] ]
 
 module _ (s : List ℕ) (most : length s ≤ longestStream) (bytes : (k : ℕ) → getD s k 0 < 256) where
-  lines-from : (j n : ℕ) (x : Going) → Between s x n → 8 * length s / 29 + 1 < n + j → Lines n (linesFrom j s n (x .decoder) (x .store))
+  lines-from : (j n : ℕ) (x : CallState) → Between s x n → 8 * length s / 29 + 1 < n + j → Lines n (linesFrom j s n (x .decoder) (x .store))
   unfolding linesFrom
   lines-from zero n x b p = let f = few s most bytes b in let no : ⊥ = omega arith in absurd no
   lines-from (suc j) n x b p =
       go (call s x .answer) (call s x .decoder) (call s x .store) (call-on s most bytes b .0)
-      (λ a e. positive a (hand-named (hand-after (x .decoder) s (x .store) a e)))
+      (λ a e. positive a (hand-named (decode-after (x .decoder) s (x .store) a e)))
       (λ y c. lines-from j (n + 1) y c (omega arith))
     where
-      go : (o : Outcome) (d : Decoder) (l : List ℕ) → Between s (going d l) (n + pictureIn o) → ((a : ℕ) → o ≡ H.Refused a → 1 ≤ a)
-          → ((y : Going) → Between s y (n + 1) → Lines (n + 1) (linesFrom j s (n + 1) (y .decoder) (y .store)))
+      go : (o : Outcome) (d : Decoder) (l : List ℕ) → Between s (callState d l) (n + pictureIn o) → ((a : ℕ) → o ≡ H.Refused a → 1 ≤ a)
+          → ((y : CallState) → Between s y (n + 1) → Lines (n + 1) (linesFrom j s (n + 1) (y .decoder) (y .store)))
           → Lines n (lines n o d (linesFrom j s (n + 1) d l))
-      go (H.Picture i) d l c q r = a-picture (i .store) (d .state .picture .«picture_type») (r (going d l) c)
+      go (H.Picture i) d l c q r = a-picture (i .store) (d .state .picture .«picture_type») (r (callState d l) c)
       go (H.Refused a) d l c q r = the-number a (q a refl)
 
   lines-of : (l : List ℕ) → Lines 0 (linesOf s (opening s l))
@@ -47,9 +47,9 @@ module _ (s : List ℕ) (most : length s ≤ longestStream) (bytes : (k : ℕ) �
   lines-of l = go (opening s l .answer) (opening s l .decoder) (opening s l .store) (opening-begins s most bytes l)
       (λ a e. opening-positive a (opening-named (opening-after s l a e .0)))
     where
-      go : (o : Opening) (d : Decoder) (m : List ℕ) → Between s (going d m) 0 → ((a : ℕ) → o ≡ O.Refused a → 1 ≤ a)
+      go : (o : Opening) (d : Decoder) (m : List ℕ) → Between s (callState d m) 0 → ((a : ℕ) → o ≡ O.Refused a → 1 ≤ a)
           → Lines 0 (elim o [ O.Ready ↦ linesFrom many s 0 d m | O.Refused a ↦ line 0 0 0 a ∷ [] ])
-      go O.Ready d m b q = lines-from many 0 (going d m) b (omega arith)
+      go O.Ready d m b q = lines-from many 0 (callState d m) b (omega arith)
       go (O.Refused a) d m b q = the-number a (q a refl)
 
 -- RULES L.1 to L.3: of every stream of bytes

@@ -8,42 +8,42 @@ use native.Mathlib.Omega.{arith}
 use lib.Dec.{eqb}
 use lib.ListN.{length}
 use borrow.Author.Tests.{le-leb, lt-leb, eq-eqb, ne-eqb}
-use Rattle.picture_state.specs.Ways.{Way, out}
-use Rattle.picture.specs.Pictures.{Frame}
+use Rattle.picture_state.specs.Result.{Result, error}
+use Rattle.picture.specs.Pictures.{PictureState}
 use Rattle.header.specs.Store.{cleared}
 use Rattle.decoder.specs.declared.record.Decoder.{Decoder}
 use Rattle.playback.specs.declared.state.State.{State}
 use Rattle.playback.specs.declared.outcome.Outcome.the-variants as H
-use Rattle.decoder.specs.declared.answers.Handed.{Handed}
-use Rattle.decoder.specs.Record.{given, storeBytes}
+use Rattle.decoder.specs.declared.answers.DecodeResult.{DecodeResult}
+use Rattle.decoder.specs.Record.{decodingStateOf, storeBytes}
 use Rattle.decoder.specs.Possible.{possible}
-use Rattle.playback.specs.Turns.{atPicture}
+use Rattle.playback.specs.Steps.{atPicture}
 use Rattle.playback.specs.Cases.{isThere, isFlush}
-use Rattle.decoder.specs.HandOut.{begun}
+use Rattle.decoder.specs.Decode.{startState}
 use Rattle.demands.specs.Calls.{Decodes}
-use Rattle.demands.specs.Questions as Q
-use Rattle.demands.specs.Questions.{Question, ask, firstNo, withHeader, pictureEnd, turnAsks, picturesAsk, handOutAsks}
-use Rattle.demands.proofs.Questions.{is-first}
+use Rattle.demands.specs.Checks as Q
+use Rattle.demands.specs.Checks.{Check, check, firstFailing, withHeader, pictureEnd, stepChecks, picturesChecks, decodeChecks}
+use Rattle.demands.proofs.Checks.{is-first}
 use Rattle.demands.proofs.Demand1.{decode-says}
 use Rattle.bits.specs.Bounds.{longestStream}
 
 module _ (d : Decoder) (s l : List ℕ) where
   -- with a header: 1, 2, the stop mark, 6, and the pictures' 7, 8, 9
-  pub asks-headed : d .sequence .«has_sequence_header» ≡ true
-      → handOutAsks d s l
-      ≡ Q.isShort s ∷ ask 2 (possible d) ∷ ask (d .stop) (eqb (d .stop) 0) ∷ Q.hasStore d l ∷
-      picturesAsk s (d .sequence .sizes) (d .sequence .matrices) (given d l)
-  unfolding handOutAsks begun
-  asks-headed h = rw h refl
+  pub checks-headed : d .sequence .«has_sequence_header» ≡ true
+      → decodeChecks d s l
+      ≡ Q.isShort s ∷ check 2 (possible d) ∷ check (d .stop) (eqb (d .stop) 0) ∷ Q.hasStore d l ∷
+      picturesChecks s (d .sequence .sizes) (d .sequence .matrices) (decodingStateOf d l)
+  unfolding decodeChecks startState
+  checks-headed h = rw h refl
 
   -- with none: 3, 4, 5 before 6, and the store is cleared before the pictures
-  pub asks-unheaded : d .sequence .«has_sequence_header» ≡ false
-      → handOutAsks d s l
-      ≡ Q.isShort s ∷ ask 2 (possible d) ∷ ask (d .stop) (eqb (d .stop) 0) ∷ Q.hasCode s d ∷ Q.hasBits s d ∷ Q.hasSize s d ∷
-      Q.hasStore (withHeader s d) l ∷ picturesAsk s (withHeader s d .sequence .sizes) (withHeader s d .sequence .matrices)
-      (given (withHeader s d) (cleared (storeBytes (withHeader s d)) l))
-  unfolding handOutAsks begun
-  asks-unheaded h = rw h refl
+  pub checks-unheaded : d .sequence .«has_sequence_header» ≡ false
+      → decodeChecks d s l
+      ≡ Q.isShort s ∷ check 2 (possible d) ∷ check (d .stop) (eqb (d .stop) 0) ∷ Q.hasCode s d ∷ Q.hasBits s d ∷ Q.hasSize s d ∷
+      Q.hasStore (withHeader s d) l ∷ picturesChecks s (withHeader s d .sequence .sizes) (withHeader s d .sequence .matrices)
+      (decodingStateOf (withHeader s d) (cleared (storeBytes (withHeader s d)) l))
+  unfolding decodeChecks startState
+  checks-unheaded h = rw h refl
 
 -- the questions 1 and 2 and the stop mark are passed
 pub record Begins (d : Decoder) (s : List ℕ) : Type 0 where
@@ -51,72 +51,72 @@ pub record Begins (d : Decoder) (s : List ℕ) : Type 0 where
   pub possible : possible d ≡ true
   pub mark : d .stop ≡ 0
 
-module _ (d : Decoder) (s l : List ℕ) (r : Handed) (m : List ℕ) (gave : Decodes d s l r m) where
-  says : (n : ℕ) → 0 < n → firstNo (handOutAsks d s l) ≡ n → r .outcome ≡ H.Refused n
-  says n h e = decode-says d s l r m gave n h (is-first (handOutAsks d s l) n h e)
+module _ (d : Decoder) (s l : List ℕ) (r : DecodeResult) (m : List ℕ) (gave : Decodes d s l r m) where
+  says : (n : ℕ) → 0 < n → firstFailing (decodeChecks d s l) ≡ n → r .outcome ≡ H.Refused n
+  says n h e = decode-says d s l r m gave n h (is-first (decodeChecks d s l) n h e)
 
   pub says-1 : longestStream < length s → r .outcome ≡ H.Refused 1
-  unfolding handOutAsks firstNo
+  unfolding decodeChecks firstFailing
   says-1 h = says 1 (omega arith) (rw (lt-leb (length s) longestStream h) refl)
 
   pub says-2 : length s ≤ longestStream → possible d ≡ false → r .outcome ≡ H.Refused 2
-  unfolding handOutAsks firstNo
+  unfolding decodeChecks firstFailing
   says-2 h p = says 2 (omega arith) (rw (le-leb (length s) longestStream h, p))
 
   -- QA
   pub says-mark : length s ≤ longestStream → possible d ≡ true → 0 < d .stop → r .outcome ≡ H.Refused (d .stop)
-  unfolding handOutAsks firstNo
+  unfolding decodeChecks firstFailing
   says-mark h p z = says (d .stop) z (rw (le-leb (length s) longestStream h, p, ne-eqb (d .stop) 0 (λ e. omega arith)))
 
   -- the questions behind these
-  from : (qs : List Question) → Begins d s
-      → handOutAsks d s l ≡ Q.isShort s ∷ ask 2 (possible d) ∷ ask (d .stop) (eqb (d .stop) 0) ∷ qs → firstNo (handOutAsks d s l) ≡ firstNo qs
-  unfolding firstNo
-  from qs b e = ap firstNo e ∙ rw (le-leb (length s) longestStream (b .short), b .possible, eq-eqb (d .stop) 0 (b .mark)) refl
+  from : (qs : List Check) → Begins d s
+      → decodeChecks d s l ≡ Q.isShort s ∷ check 2 (possible d) ∷ check (d .stop) (eqb (d .stop) 0) ∷ qs → firstFailing (decodeChecks d s l) ≡ firstFailing qs
+  unfolding firstFailing
+  from qs b e = ap firstFailing e ∙ rw (le-leb (length s) longestStream (b .short), b .possible, eq-eqb (d .stop) 0 (b .mark)) refl
 
   module _ (b : Begins d s) (none : d .sequence .«has_sequence_header» ≡ false) where
-    pub says-3 : Q.hasCode s d .yes ≡ false → r .outcome ≡ H.Refused 3
-    unfolding firstNo
-    says-3 c = says 3 (omega arith) (from _ b (asks-unheaded d s l none) ∙ rw c refl)
+    pub says-3 : Q.hasCode s d .passes ≡ false → r .outcome ≡ H.Refused 3
+    unfolding firstFailing
+    says-3 c = says 3 (omega arith) (from _ b (checks-unheaded d s l none) ∙ rw c refl)
 
-    pub says-4 : Q.hasCode s d .yes ≡ true → Q.hasBits s d .yes ≡ false → r .outcome ≡ H.Refused 4
-    unfolding firstNo
-    says-4 c h = says 4 (omega arith) (from _ b (asks-unheaded d s l none) ∙ rw (c, h))
+    pub says-4 : Q.hasCode s d .passes ≡ true → Q.hasBits s d .passes ≡ false → r .outcome ≡ H.Refused 4
+    unfolding firstFailing
+    says-4 c h = says 4 (omega arith) (from _ b (checks-unheaded d s l none) ∙ rw (c, h))
 
-    pub says-5 : Q.hasCode s d .yes ≡ true → Q.hasBits s d .yes ≡ true → Q.hasSize s d .yes ≡ false → r .outcome ≡ H.Refused 5
-    unfolding firstNo
-    says-5 c h z = says 5 (omega arith) (from _ b (asks-unheaded d s l none) ∙ rw (c, h, z))
+    pub says-5 : Q.hasCode s d .passes ≡ true → Q.hasBits s d .passes ≡ true → Q.hasSize s d .passes ≡ false → r .outcome ≡ H.Refused 5
+    unfolding firstFailing
+    says-5 c h z = says 5 (omega arith) (from _ b (checks-unheaded d s l none) ∙ rw (c, h, z))
 
     -- the store is too short for the header that this call reads
-    pub says-6-new : Q.hasCode s d .yes ≡ true → Q.hasBits s d .yes ≡ true → Q.hasSize s d .yes ≡ true → length l < storeBytes (withHeader s d)
+    pub says-6-new : Q.hasCode s d .passes ≡ true → Q.hasBits s d .passes ≡ true → Q.hasSize s d .passes ≡ true → length l < storeBytes (withHeader s d)
         → r .outcome ≡ H.Refused 6
-    unfolding firstNo
-    says-6-new c h z k = says 6 (omega arith) (from _ b (asks-unheaded d s l none) ∙ rw (c, h, z, lt-leb (storeBytes (withHeader s d)) (length l) k))
+    unfolding firstFailing
+    says-6-new c h z k = says 6 (omega arith) (from _ b (checks-unheaded d s l none) ∙ rw (c, h, z, lt-leb (storeBytes (withHeader s d)) (length l) k))
 
   module _ (b : Begins d s) (header : d .sequence .«has_sequence_header» ≡ true) where
     -- how the first picture ends
-    abbrev endAt : Way Frame
-    endAt = pictureEnd s (d .sequence .sizes) (d .sequence .matrices) (atPicture s (given d l))
+    abbrev endAt : Result PictureState
+    endAt = pictureEnd s (d .sequence .sizes) (d .sequence .matrices) (atPicture s (decodingStateOf d l))
 
     -- the state before it
     abbrev before : State
-    before = atPicture s (given d l) .state
+    before = atPicture s (decodingStateOf d l) .state
 
     -- the store is too short for the header that an earlier call read
     pub says-6 : length l < storeBytes d → r .outcome ≡ H.Refused 6
-    unfolding firstNo
-    says-6 k = says 6 (omega arith) (from _ b (asks-headed d s l header) ∙ rw (lt-leb (storeBytes d) (length l) k) refl)
+    unfolding firstFailing
+    says-6 k = says 6 (omega arith) (from _ b (checks-headed d s l header) ∙ rw (lt-leb (storeBytes d) (length l) k) refl)
 
     -- no picture to decode, and none to flush
     pub says-7 : storeBytes d ≤ length l → isThere s before ≡ false → isFlush s before ≡ false → r .outcome ≡ H.Refused 7
-    unfolding firstNo picturesAsk turnAsks
-    says-7 k t u = says 7 (omega arith) (from _ b (asks-headed d s l header) ∙ rw (le-leb (storeBytes d) (length l) k, t, u))
+    unfolding firstFailing picturesChecks stepChecks
+    says-7 k t u = says 7 (omega arith) (from _ b (checks-headed d s l header) ∙ rw (le-leb (storeBytes d) (length l) k, t, u))
 
     -- the picture leaves early with 8
-    pub says-8 : storeBytes d ≤ length l → isThere s before ≡ true → {x : List ℕ} → endAt ≡ out 8 x → r .outcome ≡ H.Refused 8
-    unfolding firstNo picturesAsk turnAsks
-    says-8 k t e = says 8 (omega arith) (from _ b (asks-headed d s l header) ∙ rw (le-leb (storeBytes d) (length l) k, t, e))
+    pub says-8 : storeBytes d ≤ length l → isThere s before ≡ true → {x : List ℕ} → endAt ≡ error 8 x → r .outcome ≡ H.Refused 8
+    unfolding firstFailing picturesChecks stepChecks
+    says-8 k t e = says 8 (omega arith) (from _ b (checks-headed d s l header) ∙ rw (le-leb (storeBytes d) (length l) k, t, e))
 
-    pub says-9 : storeBytes d ≤ length l → isThere s before ≡ true → {x : List ℕ} → endAt ≡ out 9 x → r .outcome ≡ H.Refused 9
-    unfolding firstNo picturesAsk turnAsks
-    says-9 k t e = says 9 (omega arith) (from _ b (asks-headed d s l header) ∙ rw (le-leb (storeBytes d) (length l) k, t, e))
+    pub says-9 : storeBytes d ≤ length l → isThere s before ≡ true → {x : List ℕ} → endAt ≡ error 9 x → r .outcome ≡ H.Refused 9
+    unfolding firstFailing picturesChecks stepChecks
+    says-9 k t e = says 9 (omega arith) (from _ b (checks-headed d s l header) ∙ rw (le-leb (storeBytes d) (length l) k, t, e))

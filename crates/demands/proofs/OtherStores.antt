@@ -15,23 +15,23 @@ use Rattle.bits.specs.Programs.{nextStartCode}
 use Rattle.bits.proofs.Gives.{g-any, g-as}
 use Rattle.coefficients.specs.declared.quantiser.Quantiser.{Quantiser}
 use Rattle.coefficients.specs.Blocks.{Filled, firstOnly}
-use Rattle.prediction.specs.declared.place.Place.{Place}
-use Rattle.prediction.specs.declared.place.Fetch.{Fetch}
-use Rattle.prediction.specs.declared.place.Fetch.the-variants.{Alone, Past, Copied}
+use Rattle.prediction.specs.declared.position.BlockPosition.{BlockPosition}
+use Rattle.prediction.specs.declared.position.Fetch.{Fetch}
+use Rattle.prediction.specs.declared.position.Fetch.the-variants.{Alone, Past, Copied}
 use Rattle.prediction.specs.declared.planes.Plane.{Plane}
 use Rattle.prediction.specs.declared.planes.Plane.the-variants.{Y, Cr, Cb}
 use Rattle.prediction.specs.declared.predict.Predicted.{Predicted}
 use Rattle.prediction.specs.declared.predict.Predicted.the-variants.{Done, Refused}
 use Rattle.prediction.specs.Predict.{macroblockAt, blockOf, bytes, fetch, predicted, address, width, chroma}
-use Rattle.prediction.specs.Planes.{After, blockSize, planeOf, planeLength, planeStart, offset, follow, next, predictedPlanes, storesBytes}
-use Rattle.prediction.specs.Writers.{setConst, overwrite, addConst, addBlock, blockWidth, blockPlace}
+use Rattle.prediction.specs.Planes.{After, blockSize, planeOf, planeLength, planeStart, offset, follow, thenPlane, predictedPlanes, storesBytes}
+use Rattle.prediction.specs.Writers.{setConst, overwrite, addConst, addBlock, blockWidth, blockAddress}
 use Rattle.picture_state.specs.declared.types.Context.{Context}
 use Rattle.picture_state.specs.declared.types.Matrices.{Matrices}
 use Rattle.blocks.specs.Blocks.{results, written}
 use Rattle.macroblock_head.specs.Heads.{head}
 use Rattle.macroblock_head.specs.Increments.{increment}
 use Rattle.macroblock_head.specs.Predictions.{unlessRefused}
-use Rattle.picture_state.proofs.Exits.{Ways}
+use Rattle.picture_state.proofs.Exits.{OnResult}
 use Rattle.picture.proofs.Walk.{Invariant, Keeps}
 use Rattle.demands.specs.Causes.{Cause, dc, prediction}
 use Rattle.demands.specs.Stores.{SameBut}
@@ -61,7 +61,7 @@ results-length q f di dw d =
     (λ e. by-case P (q .intra) (λ e. length-rows d di dw 8 _ 8) (λ e. length-rows d di dw 8 _ 8))
     (λ e. by-case P (q .intra) (λ e. length-rows d di dw 8 _ 8) (λ e. length-rows d di dw 8 _ 8))
 
-predicted-length : (p : Place) (x d : List ℕ) (h v : ℤ) (interpolate : Bool) (from : ℕ) → length (predicted p x d h v interpolate from) ≡ length d
+predicted-length : (p : BlockPosition) (x d : List ℕ) (h v : ℤ) (interpolate : Bool) (from : ℕ) → length (predicted p x d h v interpolate from) ≡ length d
 unfolding predicted
 predicted-length p x d h v interpolate from = length-rows d (address p) (width p) (p .size) _ (p .size)
 
@@ -78,12 +78,12 @@ plane-in Cr k n w h e = rw e (record { from = omega arith; to = omega arith })
 plane-in Cb k n w h e = rw e (record { from = omega arith; to = omega arith })
 
 module _ (S : List ℕ → Type 0) (O : ℕ → List ℕ → Type 0) where
-  next-ways : (o : After) (f : List ℕ → After) → Ways S O (unlessRefused o) → ((l : List ℕ) → S l → Ways S O (unlessRefused (f l)))
-      → Ways S O (unlessRefused (next o f))
-  unfolding next unlessRefused
-  next-ways o f h k = go (o .answer) refl
+  next-results : (o : After) (f : List ℕ → After) → OnResult S O (unlessRefused o) → ((l : List ℕ) → S l → OnResult S O (unlessRefused (f l)))
+      → OnResult S O (unlessRefused (thenPlane o f))
+  unfolding thenPlane unlessRefused
+  next-results o f h k = go (o .answer) refl
     where
-      go : (a : Predicted) → o .answer ≡ a → Ways S O (unlessRefused (elim a as (λ x. After) [ Done ↦ f (o .store) | Refused ↦ o ]))
+      go : (a : Predicted) → o .answer ≡ a → OnResult S O (unlessRefused (elim a as (λ x. After) [ Done ↦ f (o .store) | Refused ↦ o ]))
       go Done e = k (o .store) (rw e at h)
       go Refused e = h
 
@@ -100,7 +100,7 @@ module _ (s : List ℕ) (g : Context) (l : List ℕ) (area : g .sizes .«mb_size
   stores-end = omega (arith, mul-le-mul-right (384 * g .sizes .«mb_size») cur)
 
   -- the macroblock's block in a plane, and the plane's part of the store number j
-  abbrev blockIn : ℕ → Plane → Place
+  abbrev blockIn : ℕ → Plane → BlockPosition
   blockIn a q = blockOf (macroblockAt (g .sizes .«mb_width») (g .sizes .«mb_height») a) (blockSize q)
 
   abbrev begins : ℕ → Plane → ℕ
@@ -113,13 +113,13 @@ module _ (s : List ℕ) (g : Context) (l : List ℕ) (area : g .sizes .«mb_size
       let fit : begins (g .stores .cur) q + bytes (blockIn a q) ≤ length m = omega (arith, i .to, e .long, stores-end) in
       put-same-but (g .sizes .«mb_size») (g .stores .cur) _ _ l m ys (i .from) (i .to) fit (h ∙ length-mid _ _ m fit) e
 
-  plane-ways : (a from : ℕ) (interpolate : Bool) (q : Plane) (h v : ℤ) (m : List ℕ) → S m
-      → Ways S O (unlessRefused (follow (fetch (blockIn a q) h v) (blockIn a q) (begins from q) (begins (g .stores .cur) q) h v interpolate m))
+  plane-results : (a from : ℕ) (interpolate : Bool) (q : Plane) (h v : ℤ) (m : List ℕ) → S m
+      → OnResult S O (unlessRefused (follow (fetch (blockIn a q) h v) (blockIn a q) (begins from q) (begins (g .stores .cur) q) h v interpolate m))
   unfolding follow unlessRefused
-  plane-ways a from interpolate q h v m e = go (fetch (blockIn a q) h v) refl
+  plane-results a from interpolate q h v m e = go (fetch (blockIn a q) h v) refl
     where
       go : (w : Fetch) → fetch (blockIn a q) h v ≡ w
-          → Ways S O (unlessRefused (follow w (blockIn a q) (begins from q) (begins (g .stores .cur) q) h v interpolate m))
+          → OnResult S O (unlessRefused (follow w (blockIn a q) (begins from q) (begins (g .stores .cur) q) h v interpolate m))
       go Alone w = e
       go Past w = (e, prediction (fetch-past (g .sizes) (blockIn a q) refl refl h v w))
       go (Copied i) w =
@@ -136,9 +136,9 @@ module _ (s : List ℕ) (g : Context) (l : List ℕ) (area : g .sizes .«mb_size
       let size = planeLength p (g .sizes .«mb_size») in
       let end = plane-ends p (g .sizes .«mb_size») in
       let fit : at + size ≤ length m = omega (arith, e .long, stores-end) in
-      let ys = results q f (blockPlace b number) (blockWidth b number) (midOf at size m) in
+      let ys = results q f (blockAddress b number) (blockWidth b number) (midOf at size m) in
       put-same-but (g .sizes .«mb_size») (g .stores .cur) at size l m ys (omega arith) (omega arith) fit
-      (results-length q f (blockPlace b number) (blockWidth b number) (midOf at size m) ∙ length-mid at size m fit) e
+      (results-length q f (blockAddress b number) (blockWidth b number) (midOf at size m) ∙ length-mid at size m fit) e
 
   abbrev pub otherStores : Invariant
   otherStores = record {
@@ -163,7 +163,7 @@ module _ (s : List ℕ) (g : Context) (l : List ℕ) (area : g .sizes .«mb_size
         g-as (λ r e. record { slice = tt; block = tt; outside = λ o m i. (i, dc (e (ap isOutside o))) }) (block-caused _ _ _ _ _);
     writes = written-same;
     predicts = λ a from h v interpolate m e.
-        next-ways S O _ _ (plane-ways a from interpolate Y h v m e) (λ m₁ e₁.
-        next-ways S O _ _ (plane-ways a from interpolate Cr (chroma h) (chroma v) m₁ e₁)
-        (λ m₂ e₂. plane-ways a from interpolate Cb (chroma h) (chroma v) m₂ e₂));
+        next-results S O _ _ (plane-results a from interpolate Y h v m e) (λ m₁ e₁.
+        next-results S O _ _ (plane-results a from interpolate Cr (chroma h) (chroma v) m₁ e₁)
+        (λ m₂ e₂. plane-results a from interpolate Cb (chroma h) (chroma v) m₂ e₂));
   }

@@ -8,7 +8,7 @@ use native.Mathlib.Omega.{arith}
 use native.Mathlib.Nat.{mul-le-mul-right}
 use lib.Dec.{eqb}
 use lib.ListN.{length}
-use Rattle.laws.specs.Turns.{Turn, again, stop}
+use Rattle.laws.specs.Loops.{Step, continue, finish}
 use Rattle.laws.proofs.Tests.{by-case}
 use Rattle.bits.specs.Programs.{Out, run}
 use Rattle.prediction.specs.Planes.{storesBytes}
@@ -16,23 +16,24 @@ use Rattle.picture_state.specs.declared.types.Matrices.{Matrices}
 use Rattle.picture_state.specs.declared.types.Sizes.{Sizes}
 use Rattle.picture_state.specs.declared.types.Stores.{Stores}
 use Rattle.picture_state.specs.Possible.{PossibleStores}
-use Rattle.picture_state.specs.Ways.{Way, out}
+use Rattle.picture_state.specs.Result.{Result, error}
 use Rattle.picture.specs.Pictures as P
-use Rattle.picture_state.proofs.Exits.{Ways}
+use Rattle.picture_state.proofs.Exits.{OnResult}
 use Rattle.picture.proofs.Kept.{after-kept}
 use Rattle.playback.specs.declared.outcome.Shown.{Shown}
 use Rattle.playback.specs.declared.outcome.Outcome.the-variants as H
-use Rattle.playback.specs.State.{place}
-use Rattle.playback.specs.Turns.{TurnState, Ended, gave, stopped, frameOf, atPicture, pictureRun, pictureTurn, pictures}
-use Rattle.playback.specs.Cases.{isThere, isFlush, Reads, Handing, b-picture, held-picture, flushed-picture, TurnIs, gives, holds, leaves, is-seven}
+use Rattle.playback.specs.State.{position}
+use Rattle.playback.specs.Steps.{DecodingState, LoopEnd, finished, aborted, pictureStateOf, atPicture, pictureRun, pictureStep, pictures}
+use Rattle.playback.specs.Cases.{isThere, isFlush, ReadsPicture, Outputs, b-picture, reference-picture, flushed-picture, StepCase, outputs, keeps-reference}
+use Rattle.playback.specs.Cases.{aborts, is-seven}
 use Rattle.playback.proofs.Next.{next-stores}
-use Rattle.playback.proofs.Cases.{turn-is}
-use Rattle.playback.proofs.TwoTurns.{Each, by-turns}
+use Rattle.playback.proofs.Cases.{picture-step-is}
+use Rattle.playback.proofs.TwoSteps.{Each, by-steps}
 use Rattle.demands.specs.Causes.{Cause}
 use Rattle.demands.specs.Stores.{SameBut, SameFrom}
-use Rattle.demands.specs.Questions.{pictureEnd}
-use Rattle.demands.specs.After.{InTurn, in-the-first, in-the-second}
-use Rattle.demands.proofs.PictureLeft.{Left, Stopped, picture-left}
+use Rattle.demands.specs.Checks.{pictureEnd}
+use Rattle.demands.specs.After.{InStep, in-the-first, in-the-second}
+use Rattle.demands.proofs.PictureLeft.{PictureLeaves, Stopped, picture-left}
 
 -- ---- what of the store stays
 
@@ -52,32 +53,32 @@ pub record Room (z : Sizes) (t : Stores) (l : List ℕ) : Type 0 where
   pub stores : PossibleStores t
   pub long : storesBytes (z .«mb_size») ≤ length l
 
-abbrev pub RoomFor : Sizes → TurnState → Type 0
+abbrev pub RoomFor : Sizes → DecodingState → Type 0
 RoomFor z x = Room z (x .state .picture .stores) (x .store)
 
-pub next-room : (s : List ℕ) {z : Sizes} (x : TurnState) → RoomFor z x → RoomFor z (atPicture s x)
+pub next-room : (s : List ℕ) {z : Sizes} (x : DecodingState) → RoomFor z x → RoomFor z (atPicture s x)
 next-room s {z} x k = rw (next-stores s (x .state)) k
 
 -- whether the picture at the state's place is decoded
-abbrev pub isDecoded : List ℕ → TurnState → Bool
-isDecoded s x = P.isDecoded (run P.pictureHeader s (place (x .state)) .value)
+abbrev pub isDecoded : List ℕ → DecodingState → Bool
+isDecoded s x = P.isDecoded (run P.pictureHeader s (position (x .state)) .value)
 
 -- a picture that is read to its end, or leaves early
-module _ (s : List ℕ) (z : Sizes) (m : Matrices) (x : TurnState) (k : RoomFor z x) where
-  run-left : Ways (Left z (frameOf x) (isDecoded s x)) (Stopped s z m (k .area) (frameOf x)) (pictureRun s z m x .value)
-  run-left = picture-left s z m (k .area) (frameOf x) (k .stores .cur) (k .long) (place (x .state))
+module _ (s : List ℕ) (z : Sizes) (m : Matrices) (x : DecodingState) (k : RoomFor z x) where
+  run-left : OnResult (PictureLeaves z (pictureStateOf x) (isDecoded s x)) (Stopped s z m (k .area) (pictureStateOf x)) (pictureRun s z m x .value)
+  run-left = picture-left s z m (k .area) (pictureStateOf x) (k .stores .cur) (k .long) (position (x .state))
 
-  abbrev LeftBy : Out (Way P.Frame) → Type 0
-  LeftBy o = Ways (Left z (frameOf x) (isDecoded s x)) (Stopped s z m (k .area) (frameOf x)) (o .value)
+  abbrev LeftBy : Out (Result P.PictureState) → Type 0
+  LeftBy o = OnResult (PictureLeaves z (pictureStateOf x) (isDecoded s x)) (Stopped s z m (k .area) (pictureStateOf x)) (o .value)
 
-  pub frame-left : {f : P.Frame} {a : ℕ} → Reads s z m x f a → Left z (frameOf x) (isDecoded s x) f
+  pub frame-left : {f : P.PictureState} {a : ℕ} → ReadsPicture s z m x f a → PictureLeaves z (pictureStateOf x) (isDecoded s x) f
   frame-left r = subst LeftBy r run-left
 
-  stopped-left : {n a : ℕ} {l : List ℕ} → pictureRun s z m x ≡ record { value = out n l; at = a }
+  stopped-left : {n a : ℕ} {l : List ℕ} → pictureRun s z m x ≡ record { value = error n l; at = a }
       → SameBut (z .«mb_size») (x .state .picture .stores .cur) (x .store) l × Cause s z n
   stopped-left r = subst LeftBy r run-left
 
-  pub past-room : {f : P.Frame} {a : ℕ} → Reads s z m x f a → Room z (f .picture .stores) (f .store)
+  pub past-room : {f : P.PictureState} {a : ℕ} → ReadsPicture s z m x f a → Room z (f .picture .stores) (f .store)
   past-room {f} r =
       let j = frame-left r in
       record { area = k .area; stores = go (isDecoded s x) refl; long = omega (arith, k .long, j .store .long) }
@@ -88,48 +89,48 @@ module _ (s : List ℕ) (z : Sizes) (m : Matrices) (x : TurnState) (k : RoomFor 
           (by-case PossibleStores (eqb (f .picture .«picture_type») 3) (λ b. k .stores) (λ b. after-kept (k .stores)))
       go false e = rw (frame-left r .others e) (k .stores)
 
-  past-same : {f : P.Frame} {a : ℕ} → Reads s z m x f a → SameFrom (storesBytes (z .«mb_size»)) (x .store) (f .store)
+  past-same : {f : P.PictureState} {a : ℕ} → ReadsPicture s z m x f a → SameFrom (storesBytes (z .«mb_size»)) (x .store) (f .store)
   past-same r = but-from (k .stores .cur) (frame-left r .store)
 
 -- ---- the turns
 
 module _ (s : List ℕ) (z : Sizes) (m : Matrices) where
   -- a turn is given y, in a call whose first turn was given x
-  pub record Reached (x y : TurnState) : Type 0 where
-    pub turn : InTurn s z m x y
+  pub record Reached (x y : DecodingState) : Type 0 where
+    pub step : InStep s z m x y
     pub room : RoomFor z y
     pub same : SameFrom (storesBytes (z .«mb_size»)) (x .store) (y .store)
 
-  pub data CallEnd (x : TurnState) : Ended → Type 0 where
-    hands : {y left : TurnState} {i : Shown} → Reached x y → Handing s z m (atPicture s y) i left
-        → SameFrom (storesBytes (z .«mb_size»)) (x .store) (left .store) → CallEnd x (gave (H.Picture i) left)
-    seven : {y : TurnState} → Reached x y → isThere s (atPicture s y .state) ≡ false → isFlush s (atPicture s y .state) ≡ false
-        → CallEnd x (gave (H.Refused 7) (atPicture s y))
-    stops : {y : TurnState} {n : ℕ} {l : List ℕ} → Reached x y → pictureEnd s z m (atPicture s y) ≡ out n l → Cause s z n
-        → SameFrom (storesBytes (z .«mb_size»)) (x .store) l → CallEnd x (stopped n l)
+  pub data CallEnd (x : DecodingState) : LoopEnd → Type 0 where
+    hands : {y left : DecodingState} {i : Shown} → Reached x y → Outputs s z m (atPicture s y) i left
+        → SameFrom (storesBytes (z .«mb_size»)) (x .store) (left .store) → CallEnd x (finished (H.Picture i) left)
+    seven : {y : DecodingState} → Reached x y → isThere s (atPicture s y .state) ≡ false → isFlush s (atPicture s y .state) ≡ false
+        → CallEnd x (finished (H.Refused 7) (atPicture s y))
+    stops : {y : DecodingState} {n : ℕ} {l : List ℕ} → Reached x y → pictureEnd s z m (atPicture s y) ≡ error n l → Cause s z n
+        → SameFrom (storesBytes (z .«mb_size»)) (x .store) l → CallEnd x (aborted n l)
 
   -- what a turn that goes on leaves to the next
-  abbrev Follows : TurnState → TurnState → Type 0
+  abbrev Follows : DecodingState → DecodingState → Type 0
   Follows y v = RoomFor z v × SameFrom (storesBytes (z .«mb_size»)) (y .store) (v .store)
 
-  turn-end : (x y : TurnState) → Reached x y → (t : Turn TurnState Ended) → pictureTurn s z m y ≡ t → Each (Follows y) (CallEnd x) t
-  turn-end x y k t e = go (subst (TurnIs s z m (atPicture s y)) e (turn-is s z m y))
+  step-end : (x y : DecodingState) → Reached x y → (t : Step DecodingState LoopEnd) → pictureStep s z m y ≡ t → Each (Follows y) (CallEnd x) t
+  step-end x y k t e = go (subst (StepCase s z m (atPicture s y)) e (picture-step-is s z m y))
     where
       room : RoomFor z (atPicture s y)
       room = next-room s y (k .room)
 
-      go : {t : Turn TurnState Ended} → TurnIs s z m (atPicture s y) t → Each (Follows y) (CallEnd x) t
-      go (gives (b-picture t r b)) = hands k (b-picture t r b) (then-same (k .same) (past-same s z m (atPicture s y) room r))
-      go (gives (held-picture t r b h)) = hands k (held-picture t r b h) (then-same (k .same) (past-same s z m (atPicture s y) room r))
-      go (gives (flushed-picture t u)) = hands k (flushed-picture t u) (k .same)
-      go (holds t r b h) = (past-room s z m (atPicture s y) room r, past-same s z m (atPicture s y) room r)
-      go (leaves t r) =
+      go : {t : Step DecodingState LoopEnd} → StepCase s z m (atPicture s y) t → Each (Follows y) (CallEnd x) t
+      go (outputs (b-picture t r b)) = hands k (b-picture t r b) (then-same (k .same) (past-same s z m (atPicture s y) room r))
+      go (outputs (reference-picture t r b h)) = hands k (reference-picture t r b h) (then-same (k .same) (past-same s z m (atPicture s y) room r))
+      go (outputs (flushed-picture t u)) = hands k (flushed-picture t u) (k .same)
+      go (keeps-reference t r b h) = (past-room s z m (atPicture s y) room r, past-same s z m (atPicture s y) room r)
+      go (aborts t r) =
           let j = stopped-left s z m (atPicture s y) room r in
-          stops k (ap (λ (o : Out (Way P.Frame)). o .value) r) (j .1) (then-same (k .same) (but-from (room .stores .cur) (j .0)))
+          stops k (ap (λ (o : Out (Result P.PictureState)). o .value) r) (j .1) (then-same (k .same) (but-from (room .stores .cur) (j .0)))
       go (is-seven t u) = seven k t u
 
   -- RULES 8.7: how the turns of a hand-out end
-  pub pictures-end : (x : TurnState) → RoomFor z x → CallEnd x (pictures s z m x)
+  pub pictures-end : (x : DecodingState) → RoomFor z x → CallEnd x (pictures s z m x)
   pictures-end x k =
-      by-turns s z m x (Follows x) Follows (CallEnd x) (turn-end x x (record { turn = in-the-first; room = k; same = same-from }))
-      (λ y e h. turn-end x y (record { turn = in-the-second e; room = h .0; same = h .1 }))
+      by-steps s z m x (Follows x) Follows (CallEnd x) (step-end x x (record { step = in-the-first; room = k; same = same-from }))
+      (λ y e h. step-end x y (record { step = in-the-second e; room = h .0; same = h .1 }))

@@ -11,9 +11,9 @@ use Rattle.decoder.specs.declared.record.Decoder.{Decoder}
 use Rattle.decoder.specs.Record.{fresh, storeBytes}
 use Rattle.decoder.specs.Possible.{possible}
 use Rattle.demands.specs.Causes.{Cause, dc, prediction}
-use Rattle.demands.specs.Questions.{ask, IsFirstNo, this-one, a-later, headed, withHeader}
+use Rattle.demands.specs.Checks.{check, IsFirstFailing, this-one, a-later, withHeaderRead, withHeader}
 use Rattle.demands.specs.After as A
-use Rattle.demands.specs.After.{AfterHeader, AfterOpening, AfterHandOut}
+use Rattle.demands.specs.After.{AfterHeader, AfterOpening, AfterDecode}
 use Rattle.demands.specs.Rows.{Row3, Row4, Row5, Row7, Row89}
 use Rattle.bits.specs.Bounds.{longestStream}
 
@@ -26,7 +26,7 @@ module _ {s : List ℕ} {d : Decoder} where
   header-number (A.after-5 e h z) = (omega arith, omega arith)
 
   pub header-3 : {n : ℕ} {x : Decoder} → AfterHeader s d n x → n ≡ 3 → Row3 s d x
-  header-3 (A.after-3 e) q = record { place = _; ended = e; is = refl }
+  header-3 (A.after-3 e) q = record { position = _; ended = e; is = refl }
   header-3 (A.after-4 e h) q = let no : ⊥ = omega arith in absurd no
   header-3 (A.after-5 e h z) q = let no : ⊥ = omega arith in absurd no
 
@@ -38,7 +38,7 @@ module _ {s : List ℕ} {d : Decoder} where
   pub header-5 : {n : ℕ} {x : Decoder} → AfterHeader s d n x → n ≡ 5 → Row5 s d x
   header-5 (A.after-3 e) q = let no : ⊥ = omega arith in absurd no
   header-5 (A.after-4 e h) q = let no : ⊥ = omega arith in absurd no
-  header-5 (A.after-5 {x = b} e h z) q = record { behind = b; code = e; bits = h; zero = z; is = refl }
+  header-5 (A.after-5 {x = b} e h z) q = record { atCode = b; code = e; bits = h; zero = z; is = refl }
 
 -- ---- opening
 
@@ -65,7 +65,7 @@ cause-number (dc o) = inl refl
 cause-number (prediction o) = inr refl
 
 module _ {d : Decoder} {s l : List ℕ} where
-  pub hand-1 : {n : ℕ} {x : Decoder} {m : List ℕ} → AfterHandOut d s l n x m → n ≡ 1 → (longestStream < length s) × (x ≡ d) × (m ≡ l)
+  pub hand-1 : {n : ℕ} {x : Decoder} {m : List ℕ} → AfterDecode d s l n x m → n ≡ 1 → (longestStream < length s) × (x ≡ d) × (m ≡ l)
   hand-1 (A.after-1 h) p = (h, refl, refl)
   hand-1 (A.after-2 h) p = let no : ⊥ = omega arith in absurd no
   hand-1 (A.after-mark h) p = let no : ⊥ = ⊎-elim (λ (e : d .stop ≡ 8). omega arith) (λ (e : d .stop ≡ 9). omega arith) h in absurd no
@@ -74,7 +74,7 @@ module _ {d : Decoder} {s l : List ℕ} where
   hand-1 (A.after-7 i t u) p = let no : ⊥ = omega arith in absurd no
   hand-1 (A.after-8-9 i e c) p = let no : ⊥ = ⊎-elim (λ g. omega arith) (λ g. omega arith) (cause-number c) in absurd no
 
-  pub hand-2 : {n : ℕ} {x : Decoder} {m : List ℕ} → AfterHandOut d s l n x m → n ≡ 2 → (possible d ≡ false) × (x ≡ d) × (m ≡ l)
+  pub hand-2 : {n : ℕ} {x : Decoder} {m : List ℕ} → AfterDecode d s l n x m → n ≡ 2 → (possible d ≡ false) × (x ≡ d) × (m ≡ l)
   hand-2 (A.after-1 h) p = let no : ⊥ = omega arith in absurd no
   hand-2 (A.after-2 h) p = (h, refl, refl)
   hand-2 (A.after-mark h) p = let no : ⊥ = ⊎-elim (λ (e : d .stop ≡ 8). omega arith) (λ (e : d .stop ≡ 9). omega arith) h in absurd no
@@ -83,17 +83,17 @@ module _ {d : Decoder} {s l : List ℕ} where
   hand-2 (A.after-7 i t u) p = let no : ⊥ = omega arith in absurd no
   hand-2 (A.after-8-9 i e c) p = let no : ⊥ = ⊎-elim (λ g. omega arith) (λ g. omega arith) (cause-number c) in absurd no
 
-  pub hand-header : {n : ℕ} {x : Decoder} {m : List ℕ} → AfterHandOut d s l n x m → 2 < n → n < 6
+  pub decode-header : {n : ℕ} {x : Decoder} {m : List ℕ} → AfterDecode d s l n x m → 2 < n → n < 6
       → (d .sequence .«has_sequence_header» ≡ false) × AfterHeader s d n x × (m ≡ l)
-  hand-header (A.after-1 h) p q = let no : ⊥ = omega arith in absurd no
-  hand-header (A.after-2 h) p q = let no : ⊥ = omega arith in absurd no
-  hand-header (A.after-mark h) p q = let no : ⊥ = ⊎-elim (λ (e : d .stop ≡ 8). omega arith) (λ (e : d .stop ≡ 9). omega arith) h in absurd no
-  hand-header (A.after-header f h) p q = (f, h, refl)
-  hand-header (A.after-6 h) p q = let no : ⊥ = omega arith in absurd no
-  hand-header (A.after-7 i t u) p q = let no : ⊥ = omega arith in absurd no
-  hand-header (A.after-8-9 i e c) p q = let no : ⊥ = ⊎-elim (λ g. omega arith) (λ g. omega arith) (cause-number c) in absurd no
+  decode-header (A.after-1 h) p q = let no : ⊥ = omega arith in absurd no
+  decode-header (A.after-2 h) p q = let no : ⊥ = omega arith in absurd no
+  decode-header (A.after-mark h) p q = let no : ⊥ = ⊎-elim (λ (e : d .stop ≡ 8). omega arith) (λ (e : d .stop ≡ 9). omega arith) h in absurd no
+  decode-header (A.after-header f h) p q = (f, h, refl)
+  decode-header (A.after-6 h) p q = let no : ⊥ = omega arith in absurd no
+  decode-header (A.after-7 i t u) p q = let no : ⊥ = omega arith in absurd no
+  decode-header (A.after-8-9 i e c) p q = let no : ⊥ = ⊎-elim (λ g. omega arith) (λ g. omega arith) (cause-number c) in absurd no
 
-  pub hand-6 : {n : ℕ} {x : Decoder} {m : List ℕ} → AfterHandOut d s l n x m → n ≡ 6 → (length l < storeBytes (headed s d)) × (x ≡ d) × (m ≡ l)
+  pub hand-6 : {n : ℕ} {x : Decoder} {m : List ℕ} → AfterDecode d s l n x m → n ≡ 6 → (length l < storeBytes (withHeaderRead s d)) × (x ≡ d) × (m ≡ l)
   hand-6 (A.after-1 h) p = let no : ⊥ = omega arith in absurd no
   hand-6 (A.after-2 h) p = let no : ⊥ = omega arith in absurd no
   hand-6 (A.after-mark h) p = let no : ⊥ = ⊎-elim (λ (e : d .stop ≡ 8). omega arith) (λ (e : d .stop ≡ 9). omega arith) h in absurd no
@@ -102,47 +102,47 @@ module _ {d : Decoder} {s l : List ℕ} where
   hand-6 (A.after-7 i t u) p = let no : ⊥ = omega arith in absurd no
   hand-6 (A.after-8-9 i e c) p = let no : ⊥ = ⊎-elim (λ g. omega arith) (λ g. omega arith) (cause-number c) in absurd no
 
-  pub hand-7 : {n : ℕ} {x : Decoder} {m : List ℕ} → AfterHandOut d s l n x m → n ≡ 7 → Row7 d s l x m
+  pub hand-7 : {n : ℕ} {x : Decoder} {m : List ℕ} → AfterDecode d s l n x m → n ≡ 7 → Row7 d s l x m
   hand-7 (A.after-1 h) p = let no : ⊥ = omega arith in absurd no
   hand-7 (A.after-2 h) p = let no : ⊥ = omega arith in absurd no
   hand-7 (A.after-mark h) p = let no : ⊥ = ⊎-elim (λ (e : d .stop ≡ 8). omega arith) (λ (e : d .stop ≡ 9). omega arith) h in absurd no
   hand-7 (A.after-header f h) p = let k = header-number h in let no : ⊥ = omega arith in absurd no
   hand-7 (A.after-6 h) p = let no : ⊥ = omega arith in absurd no
-  hand-7 (A.after-7 i t u) p = record { given = _; turn = i; none = t; kept = u; decoder = refl; store = refl }
+  hand-7 (A.after-7 i t u) p = record { given = _; step = i; none = t; kept = u; decoder = refl; store = refl }
   hand-7 (A.after-8-9 i e c) p = let no : ⊥ = ⊎-elim (λ g. omega arith) (λ g. omega arith) (cause-number c) in absurd no
 
   -- RULES QA: at once, for the stop mark; else for the picture
-  pub hand-8-9 : {n : ℕ} {x : Decoder} {m : List ℕ} → AfterHandOut d s l n x m → 7 < n → ((d .stop ≡ n) × (x ≡ d) × (m ≡ l)) ⊎ Row89 d s l n x m
-  hand-8-9 (A.after-1 h) p = let no : ⊥ = omega arith in absurd no
-  hand-8-9 (A.after-2 h) p = let no : ⊥ = omega arith in absurd no
-  hand-8-9 (A.after-mark h) p = inl (refl, refl, refl)
-  hand-8-9 (A.after-header f h) p = let k = header-number h in let no : ⊥ = omega arith in absurd no
-  hand-8-9 (A.after-6 h) p = let no : ⊥ = omega arith in absurd no
-  hand-8-9 (A.after-7 i t u) p = let no : ⊥ = omega arith in absurd no
-  hand-8-9 (A.after-8-9 i e c) p = inr (record { given = _; turn = i; left = e; cause = c; decoder = refl })
+  pub decode-8-9 : {n : ℕ} {x : Decoder} {m : List ℕ} → AfterDecode d s l n x m → 7 < n → ((d .stop ≡ n) × (x ≡ d) × (m ≡ l)) ⊎ Row89 d s l n x m
+  decode-8-9 (A.after-1 h) p = let no : ⊥ = omega arith in absurd no
+  decode-8-9 (A.after-2 h) p = let no : ⊥ = omega arith in absurd no
+  decode-8-9 (A.after-mark h) p = inl (refl, refl, refl)
+  decode-8-9 (A.after-header f h) p = let k = header-number h in let no : ⊥ = omega arith in absurd no
+  decode-8-9 (A.after-6 h) p = let no : ⊥ = omega arith in absurd no
+  decode-8-9 (A.after-7 i t u) p = let no : ⊥ = omega arith in absurd no
+  decode-8-9 (A.after-8-9 i e c) p = inr (record { given = _; step = i; left = e; cause = c; decoder = refl })
 
 -- ---- the conversion
 
 module _ {p q t f : Bool} where
-  pub convert-2 : IsFirstNo 2 (ask 2 p ∷ ask 6 q ∷ ask 10 t ∷ ask 11 f ∷ []) → p ≡ false
+  pub convert-2 : IsFirstFailing 2 (check 2 p ∷ check 6 q ∷ check 10 t ∷ check 11 f ∷ []) → p ≡ false
   convert-2 (this-one e z) = z
   convert-2 (a-later u (this-one e z)) = let no : ⊥ = omega arith in absurd no
   convert-2 (a-later u (a-later v (this-one e z))) = let no : ⊥ = omega arith in absurd no
   convert-2 (a-later u (a-later v (a-later w (this-one e z)))) = let no : ⊥ = omega arith in absurd no
 
-  pub convert-6 : IsFirstNo 6 (ask 2 p ∷ ask 6 q ∷ ask 10 t ∷ ask 11 f ∷ []) → (p ≡ true) × (q ≡ false)
+  pub convert-6 : IsFirstFailing 6 (check 2 p ∷ check 6 q ∷ check 10 t ∷ check 11 f ∷ []) → (p ≡ true) × (q ≡ false)
   convert-6 (this-one e z) = let no : ⊥ = omega arith in absurd no
   convert-6 (a-later u (this-one e z)) = (u, z)
   convert-6 (a-later u (a-later v (this-one e z))) = let no : ⊥ = omega arith in absurd no
   convert-6 (a-later u (a-later v (a-later w (this-one e z)))) = let no : ⊥ = omega arith in absurd no
 
-  pub convert-10 : IsFirstNo 10 (ask 2 p ∷ ask 6 q ∷ ask 10 t ∷ ask 11 f ∷ []) → (p ≡ true) × (q ≡ true) × (t ≡ false)
+  pub convert-10 : IsFirstFailing 10 (check 2 p ∷ check 6 q ∷ check 10 t ∷ check 11 f ∷ []) → (p ≡ true) × (q ≡ true) × (t ≡ false)
   convert-10 (this-one e z) = let no : ⊥ = omega arith in absurd no
   convert-10 (a-later u (this-one e z)) = let no : ⊥ = omega arith in absurd no
   convert-10 (a-later u (a-later v (this-one e z))) = (u, v, z)
   convert-10 (a-later u (a-later v (a-later w (this-one e z)))) = let no : ⊥ = omega arith in absurd no
 
-  pub convert-11 : IsFirstNo 11 (ask 2 p ∷ ask 6 q ∷ ask 10 t ∷ ask 11 f ∷ []) → (p ≡ true) × (q ≡ true) × (t ≡ true) × (f ≡ false)
+  pub convert-11 : IsFirstFailing 11 (check 2 p ∷ check 6 q ∷ check 10 t ∷ check 11 f ∷ []) → (p ≡ true) × (q ≡ true) × (t ≡ true) × (f ≡ false)
   convert-11 (this-one e z) = let no : ⊥ = omega arith in absurd no
   convert-11 (a-later u (this-one e z)) = let no : ⊥ = omega arith in absurd no
   convert-11 (a-later u (a-later v (this-one e z))) = let no : ⊥ = omega arith in absurd no

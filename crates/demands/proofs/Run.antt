@@ -14,13 +14,13 @@ use Rattle.decoder.specs.declared.record.Decoder.{Decoder}
 use Rattle.decoder.specs.declared.answers.Opening.{Opening}
 use Rattle.playback.specs.declared.outcome.Outcome.{Outcome}
 use Rattle.playback.specs.declared.outcome.Outcome.the-variants as H
-use Rattle.decoder.specs.Record.{Left, left, fresh, storeBytes}
+use Rattle.decoder.specs.Record.{CallResult, callResult, fresh, storeBytes}
 use Rattle.decoder.specs.Possible.{possibleWith}
-use Rattle.decoder.specs.Headers.{Asked, refused, passed, askHeader, askStore}
+use Rattle.decoder.specs.Headers.{CheckResult, refused, passed, checkHeader, checkStore}
 use Rattle.decoder.specs.Opening.{opened, openingFrom, opening}
-use Rattle.decoder.specs.HandOut.{handOut}
-use Rattle.decoder.specs.Run.{Going, going, call, behind, begin, before, answer, handedOut}
-use Rattle.decoder.specs.Answers.{handOutNumber}
+use Rattle.decoder.specs.Decode.{decode}
+use Rattle.decoder.specs.Run.{CallState, callState, call, stateAfter, stateAfterOpening, before, answer, picturesOutput}
+use Rattle.decoder.specs.Answers.{decodeErrorCode}
 use Rattle.demands.proofs.Waiting.{Waits, Accepted, fresh-waits, Accepts, header-accepts}
 use Rattle.demands.proofs.RunCall.{Between, waiting, live, Resting, accepted-keeps, waits-possible, stuck-call, call-on, few, admitted}
 use Rattle.bits.specs.Bounds.{longestStream}
@@ -34,32 +34,32 @@ by-length s P f g = go (leb (length s) longestStream) refl
     go false e = g e
 
 -- what opening leaves: a record that waits for a header, or one that has accepted it, and its store cleared
-module _ (s : List ℕ) (short : length s ≤ longestStream) (P : Going → Type 0) (waits : (x : Decoder) (l : List ℕ) → Waits s x → P (going x l))
-    (accepts : (x : Decoder) (l : List ℕ) → Accepted s x → leb (storeBytes x) (length l) ≡ true → P (going x (cleared (storeBytes x) l))) where
-  abbrev Leaves : Left Opening → Type 0
-  Leaves r = P (going (r .decoder) (r .store))
+module _ (s : List ℕ) (short : length s ≤ longestStream) (P : CallState → Type 0) (waits : (x : Decoder) (l : List ℕ) → Waits s x → P (callState x l))
+    (accepts : (x : Decoder) (l : List ℕ) → Accepted s x → leb (storeBytes x) (length l) ≡ true → P (callState x (cleared (storeBytes x) l))) where
+  abbrev Leaves : CallResult Opening → Type 0
+  Leaves r = P (callState (r .decoder) (r .store))
 
-  asked-leaves : (l : List ℕ) (a : Asked) → Accepts s a → Leaves (opened l (askStore fresh l a))
-  unfolding opened askStore
-  asked-leaves l (refused n x) h = waits x l h
-  asked-leaves l (passed x) h =
+  checked-leaves : (l : List ℕ) (a : CheckResult) → Accepts s a → Leaves (opened l (checkStore fresh l a))
+  unfolding opened checkStore
+  checked-leaves l (refused n x) h = waits x l h
+  checked-leaves l (passed x) h =
       by-case (λ a. Leaves (opened l a)) (leb (storeBytes x) (length l)) (λ e. accepts x l h e) (λ e. waits fresh l (fresh-waits s))
 
   pub opening-leaves : (l : List ℕ) → Leaves (opening s l)
   unfolding opening openingFrom
   opening-leaves l =
-      by-case Leaves (leb (length s) longestStream) (λ e. asked-leaves l (askHeader s fresh) (header-accepts (fresh-waits s) short))
+      by-case Leaves (leb (length s) longestStream) (λ e. checked-leaves l (checkHeader s fresh) (header-accepts (fresh-waits s) short))
       (λ e. waits fresh l (fresh-waits s))
 
 -- ---- a stream that is not too long
 
 module _ (s : List ℕ) (short : length s ≤ longestStream) (bytes : (k : ℕ) → getD s k 0 < 256) where
-  pub run-on : {x : Going} → Between s x 0 → (n : ℕ) → Between s (before s x n) (handedOut s x n)
-  unfolding before handedOut answer
+  pub run-on : {x : CallState} → Between s x 0 → (n : ℕ) → Between s (before s x n) (picturesOutput s x n)
+  unfolding before picturesOutput answer
   run-on b zero = b
   run-on b (suc n) = call-on s short bytes (run-on b n) .0
 
-  rests-on : (x : Going) (n k : ℕ) → Resting s (before s x n) → Resting s (before s x (n + k))
+  rests-on : (x : CallState) (n k : ℕ) → Resting s (before s x n) → Resting s (before s x (n + k))
   unfolding before
   rests-on x n zero r = rw (add-zero n) r
   rests-on x n (suc k) r =
@@ -67,63 +67,63 @@ module _ (s : List ℕ) (short : length s ≤ longestStream) (bytes : (k : ℕ) 
       let q = rests-on x n k r in
       rw (add-suc n k) (rw (stuck-call s short (y .decoder) (y .store) (q .0) (q .1)) q)
 
-  seven-again : (x : Going) (n : ℕ) → Resting s (before s x n) → answer s x n ≡ H.Refused 7
+  seven-again : (x : CallState) (n : ℕ) → Resting s (before s x n) → answer s x n ≡ H.Refused 7
   unfolding answer
-  seven-again x n r = let y = before s x n in ap (λ (r : Left Outcome). r .answer) (stuck-call s short (y .decoder) (y .store) (r .0) (r .1))
+  seven-again x n r = let y = before s x n in ap (λ (r : CallResult Outcome). r .answer) (stuck-call s short (y .decoder) (y .store) (r .0) (r .1))
 
-  pub seven-stays : (x : Going) (n k : ℕ) → Between s x 0 → answer s x n ≡ H.Refused 7 → answer s x (n + k) ≡ H.Refused 7
+  pub seven-stays : (x : CallState) (n k : ℕ) → Between s x 0 → answer s x n ≡ H.Refused 7 → answer s x (n + k) ≡ H.Refused 7
   unfolding before answer
   seven-stays x n zero b h = rw (add-zero n) h
   seven-stays x n (suc k) b h =
       rw (add-suc n k) (seven-again x (suc (n + k)) (rw (suc-add n k) at (rests-on x (suc n) k (call-on s short bytes (run-on b n) .1 h))))
 
-  pub opening-begins : (l : List ℕ) → Between s (going (opening s l .decoder) (opening s l .store)) 0
+  pub opening-begins : (l : List ℕ) → Between s (callState (opening s l .decoder) (opening s l .store)) 0
   opening-begins =
       opening-leaves s short (λ x. Between s x 0) (λ x l h. waiting h refl) (λ x l h e. live (accepted-keeps s short l h e) (sym (h .count)))
 
 -- ---- a stream that is too long: every call answers 1 and changes nothing
 
 module _ (s l : List ℕ) (long : leb (length s) longestStream ≡ false) where
-  pub long-call : (x : Going) → call s x ≡ left (H.Refused 1) (x .decoder) (x .store)
-  unfolding handOut
+  pub long-call : (x : CallState) → call s x ≡ callResult (H.Refused 1) (x .decoder) (x .store)
+  unfolding decode
   long-call x = rw long refl
 
-  pub long-begin : begin s l ≡ going fresh l
+  pub long-begin : stateAfterOpening s l ≡ callState fresh l
   unfolding opening
   long-begin = rw long refl
 
-  long-before : (x : Going) (n : ℕ) → before s x n ≡ x
+  long-before : (x : CallState) (n : ℕ) → before s x n ≡ x
   unfolding before
   long-before x zero = refl
-  long-before x (suc n) = rw (long-before x n) (ap behind (long-call x))
+  long-before x (suc n) = rw (long-before x n) (ap stateAfter (long-call x))
 
-  long-answer : (x : Going) (n : ℕ) → answer s x n ≡ H.Refused 1
+  long-answer : (x : CallState) (n : ℕ) → answer s x n ≡ H.Refused 1
   unfolding answer
-  long-answer x n = ap (λ (r : Left Outcome). r .answer) (long-call (before s x n))
+  long-answer x n = ap (λ (r : CallResult Outcome). r .answer) (long-call (before s x n))
 
-  long-handed : (x : Going) (n : ℕ) → handedOut s x n ≡ 0
-  unfolding handedOut
-  long-handed x zero = refl
-  long-handed x (suc n) = rw (long-handed x n, long-answer x n)
+  long-output : (x : CallState) (n : ℕ) → picturesOutput s x n ≡ 0
+  unfolding picturesOutput
+  long-output x zero = refl
+  long-output x (suc n) = rw (long-output x n, long-answer x n)
 
 -- ---- every stream and every store
 
 module _ (s l : List ℕ) (bytes : (k : ℕ) → getD s k 0 < 256) where
   -- R.1
-  pub few-pictures : (n : ℕ) → handedOut s (begin s l) n ≤ 8 * length s / 29 + 1
+  pub few-pictures : (n : ℕ) → picturesOutput s (stateAfterOpening s l) n ≤ 8 * length s / 29 + 1
   few-pictures n =
       by-length s _ (λ h. few s h bytes (run-on s h bytes (opening-begins s h bytes l) n))
-      (λ h. omega (arith, long-handed s l h (begin s l) n))
+      (λ h. omega (arith, long-output s l h (stateAfterOpening s l) n))
 
   -- R.2
-  pub seven-for-good : (n k : ℕ) → answer s (begin s l) n ≡ H.Refused 7 → answer s (begin s l) (n + k) ≡ H.Refused 7
+  pub seven-for-good : (n k : ℕ) → answer s (stateAfterOpening s l) n ≡ H.Refused 7 → answer s (stateAfterOpening s l) (n + k) ≡ H.Refused 7
   seven-for-good n k e =
-      by-length s _ (λ h. seven-stays s h bytes (begin s l) n k (opening-begins s h bytes l) e)
-      (λ h. let z : _≡_ {A = ℕ} 1 7 = ap handOutNumber (sym (long-answer s l h (begin s l) n) ∙ e) in let no : ⊥ = omega arith in absurd no)
+      by-length s _ (λ h. seven-stays s h bytes (stateAfterOpening s l) n k (opening-begins s h bytes l) e)
+      (λ h. let z : _≡_ {A = ℕ} 1 7 = ap decodeErrorCode (sym (long-answer s l h (stateAfterOpening s l) n) ∙ e) in let no : ⊥ = omega arith in absurd no)
 
   -- R.3
-  pub always-possible : (n : ℕ) → possibleWith s (before s (begin s l) n .decoder) ≡ true
+  pub always-possible : (n : ℕ) → possibleWith s (before s (stateAfterOpening s l) n .decoder) ≡ true
   always-possible n =
       by-length s _ (λ h. admitted s h bytes (run-on s h bytes (opening-begins s h bytes l) n))
-      (λ h. subst (λ (y : Going). possibleWith s (y .decoder) ≡ true) (sym (long-before s l h (begin s l) n ∙ long-begin s l h))
+      (λ h. subst (λ (y : CallState). possibleWith s (y .decoder) ≡ true) (sym (long-before s l h (stateAfterOpening s l) n ∙ long-begin s l h))
       (waits-possible [] (omega arith) (fresh-waits [])))

@@ -9,7 +9,7 @@ use lib.IntN.{ℤ, pos, negsuc, natAbs}
 use lib.ListN.{length}
 use borrow.Author.Tests.{le-leb, eq-eqb}
 use Rattle.bits.specs.Bounds.{longestStream}
-use Rattle.bits.specs.Bits.{has, got, next}
+use Rattle.bits.specs.Bits.{has, readAt, afterRead}
 use Rattle.bits.specs.Programs.{run, bind, eqZ, findStartCode}
 use Rattle.bits.proofs.Bits.{bits-lt}
 use Rattle.bits.proofs.Programs.{run-most}
@@ -24,12 +24,12 @@ use Rattle.header.specs.Possible.{across, sizesOf, sameSizes, possibleSequence}
 use Rattle.header.specs.Sequences.{size, rest}
 use Rattle.playback.specs.declared.state.State.{State}
 use Rattle.playback.specs.State as S
-use Rattle.playback.specs.State.{held, frames, freshState, possibleDisplay}
+use Rattle.playback.specs.State.{hasReferenceFrame, frames, freshState, possibleDisplay}
 use Rattle.playback.proofs.Displays.{timed-possible}
 use Rattle.playback.specs.Search.{nextCode}
 use Rattle.decoder.specs.declared.record.Decoder.{Decoder}
-use Rattle.decoder.specs.Record.{fresh, place, startCode, searchedAs, storeBytes}
-use Rattle.decoder.specs.Headers.{Asked, refused, passed, findSequence, accepted, askSize, askHeader}
+use Rattle.decoder.specs.Record.{fresh, position, startCode, searchedAs, storeBytes}
+use Rattle.decoder.specs.Headers.{CheckResult, refused, passed, findSequence, accepted, checkSize, checkHeader}
 use Rattle.decoder.proofs.Starts.{fresh-starts}
 use Rattle.demands.specs.After.{had-it, found-it}
 use Rattle.demands.proofs.AfterHeader.{Finds, a-code, no-code, find-sequence, at-code}
@@ -47,10 +47,10 @@ pub record Waits (s : List ℕ) (d : Decoder) : Type 0 where
   pub picture : possiblePicture (d .state .picture) ≡ true
   pub block : bounded (d .«block_data») ≡ true
   pub mark : d .stop ≡ 0
-  pub inside : place d ≤ length s * 8
+  pub inside : position d ≤ length s * 8
   pub display : possibleDisplay (d .state .display) ≡ true
   pub count : frames (d .state) ≡ 0
-  pub held : held (d .state) ≡ false
+  pub hasReferenceFrame : hasReferenceFrame (d .state) ≡ false
 
 pub fresh-waits : (s : List ℕ) → Waits s fresh
 unfolding fresh freshState
@@ -65,7 +65,7 @@ fresh-waits s = record {
   inside = omega arith;
   display = fresh-starts .display;
   count = refl;
-  held = refl;
+  hasReferenceFrame = refl;
 }
 
 pub waits-sequence : {s : List ℕ} {d : Decoder} → Waits s d → possibleSequence (d .sequence) ≡ true
@@ -86,29 +86,29 @@ module _ {s : List ℕ} {d : Decoder} (k : Waits s d) where
     inside = m;
     display = k .display;
     count = k .count;
-    held = k .held;
+    hasReferenceFrame = k .hasReferenceFrame;
   }
 
-  find-inside : place (findSequence s d) ≤ length s * 8
+  find-inside : position (findSequence s d) ≤ length s * 8
   unfolding findSequence nextCode
   find-inside =
-      by-case (λ (x : State). S.place x ≤ length s * 8) (eqZ (startCode d) (pos 0xb3)) (λ e. k .inside)
-      (λ e. run-most (findStartCode (pos 0xb3)) s (place d) (length s) (k .inside) (omega arith))
+      by-case (λ (x : State). S.position x ≤ length s * 8) (eqZ (startCode d) (pos 0xb3)) (λ e. k .inside)
+      (λ e. run-most (findStartCode (pos 0xb3)) s (position d) (length s) (k .inside) (omega arith))
 
-  found-waits : {x : Decoder} → Finds s d x → place x ≤ length s * 8 → Waits s x
+  found-waits : {x : Decoder} → Finds s d x → position x ≤ length s * 8 → Waits s x
   found-waits (a-code (had-it e)) i = k
   found-waits (a-code (found-it c)) i = searched-waits (pos 0xb3) _ (code-possible (pos 0xb3) (d .state .picture) refl (k .picture)) i
   found-waits (no-code c) i = searched-waits (negsuc 0) _ (code-possible (negsuc 0) (d .state .picture) refl (k .picture)) i
 
 -- ---- width and height: numbers of 12 bits (RULES O.3)
 
-twelve : (s : List ℕ) (a : ℕ) → got s a 12 ≤ 4095
-unfolding got
+twelve : (s : List ℕ) (a : ℕ) → readAt s a 12 ≤ 4095
+unfolding readAt
 twelve s a = by-case (λ n. n ≤ 4095) (has s a 12) (λ e. omega (arith, bits-lt s a 12)) (λ e. omega arith)
 
 size-small : (s : List ℕ) (a : ℕ) → (run size s a .value .width ≤ 4095) × (run size s a .value .height ≤ 4095)
 unfolding size run bind
-size-small s a = (twelve s a, twelve s (next s a 12))
+size-small s a = (twelve s a, twelve s (afterRead s a 12))
 
 or-split : (a b : Bool) → (a || b) ≡ false → (a ≡ false) × (b ≡ false)
 or-split true b h = absurd (true≢false h)
@@ -128,9 +128,9 @@ sequence-first w h a b c d =
 pub record Accepted (s : List ℕ) (d : Decoder) : Type 0 where
   pub keeps : (l : List ℕ) → storeBytes d ≤ length l → Keeps s d l
   pub count : frames (d .state) ≡ 0
-  pub held : held (d .state) ≡ false
+  pub hasReferenceFrame : hasReferenceFrame (d .state) ≡ false
 
-abbrev pub Accepts : List ℕ → Asked → Type 0
+abbrev pub Accepts : List ℕ → CheckResult → Type 0
 Accepts s (refused n x) = Waits s x
 Accepts s (passed x) = Accepted s x
 
@@ -139,13 +139,13 @@ first-stores p h =
     let x = picture-of p h in
     picture-by {p = storesAs firstStores p} (record { type = x .type; code = x .code; stores = stores-of firstStores refl; slice = x .slice })
 
-size-accepts : {s : List ℕ} {d : Decoder} → Waits s d → startCode d ≡ pos 0xb3 → Accepts s (askSize s d)
-unfolding askSize accepted
+size-accepts : {s : List ℕ} {d : Decoder} → Waits s d → startCode d ≡ pos 0xb3 → Accepts s (checkSize s d)
+unfolding checkSize accepted
 size-accepts {s} {d} k c =
-    let w = run size s (place d) .value .width in
-    let v = run size s (place d) .value .height in
-    let small = size-small s (place d) in
-    let there = run-most size s (place d) (length s) (k .inside) (omega arith) in
+    let w = run size s (position d) .value .width in
+    let v = run size s (position d) .value .height in
+    let small = size-small s (position d) in
+    let there = run-most size s (position d) (length s) (k .inside) (omega arith) in
     by-case (Accepts s) (eqb w 0 || eqb v 0)
     (λ z. record {
       header = k .header;
@@ -158,7 +158,7 @@ size-accepts {s} {d} k c =
       inside = there;
       display = k .display;
       count = k .count;
-      held = k .held;
+      hasReferenceFrame = k .hasReferenceFrame;
     })
     (λ z. let q = or-split (eqb w 0) (eqb v 0) z in
     record {
@@ -166,18 +166,18 @@ size-accepts {s} {d} k c =
         header = refl;
         sequence = sequence-first w v (small .0) (small .1) (above w (q .0)) (above v (q .1));
         mark = k .mark;
-        turn = record {
+        step = record {
           picture = first-stores (d .state .picture) (k .picture);
           block = k .block;
           long = long;
-          inside = run-most rest s (run size s (place d) .at) (length s) there (omega arith);
+          inside = run-most rest s (run size s (position d) .at) (length s) there (omega arith);
           ahead = λ e. never (ap natAbs (sym c ∙ e));
           display = timed-possible _ (d .state .display) (k .display);
           count = omega (arith, k .count);
         };
       };
       count = k .count;
-      held = k .held;
+      hasReferenceFrame = k .hasReferenceFrame;
     })
   where
     above : (n : ℕ) → eqb n 0 ≡ false → 1 ≤ n
@@ -187,17 +187,17 @@ size-accepts {s} {d} k c =
     never : {A : Type 0} → _≡_ {A = ℕ} 0xb3 0 → A
     never e = let no : ⊥ = omega arith in absurd no
 
-pub header-accepts : {s : List ℕ} {d : Decoder} → Waits s d → length s ≤ longestStream → Accepts s (askHeader s d)
-unfolding askHeader
+pub header-accepts : {s : List ℕ} {d : Decoder} → Waits s d → length s ≤ longestStream → Accepts s (checkHeader s d)
+unfolding checkHeader
 header-accepts {s} {d} k h = go (findSequence s d) (find-sequence s d h) (find-inside k)
   where
     code : {x : Decoder} → startCode x ≡ pos 0xb3 → Waits s x
-        → Accepts s (cond (eqZ (startCode x) (negsuc 0)) (refused 3 x) (cond (not (has s (place x) 1088)) (refused 4 x) (askSize s x)))
+        → Accepts s (cond (eqZ (startCode x) (negsuc 0)) (refused 3 x) (cond (not (has s (position x) 1088)) (refused 4 x) (checkSize s x)))
     code {x} c w =
         let found : eqZ (startCode x) (negsuc 0) ≡ false = ap (λ (z : ℤ). eqZ z (negsuc 0)) c in
-        rw found (by-case (Accepts s) (not (has s (place x) 1088)) (λ e. w) (λ e. size-accepts w c))
+        rw found (by-case (Accepts s) (not (has s (position x) 1088)) (λ e. w) (λ e. size-accepts w c))
 
-    go : (x : Decoder) → Finds s d x → place x ≤ length s * 8
-        → Accepts s (cond (eqZ (startCode x) (negsuc 0)) (refused 3 x) (cond (not (has s (place x) 1088)) (refused 4 x) (askSize s x)))
+    go : (x : Decoder) → Finds s d x → position x ≤ length s * 8
+        → Accepts s (cond (eqZ (startCode x) (negsuc 0)) (refused 3 x) (cond (not (has s (position x) 1088)) (refused 4 x) (checkSize s x)))
     go x (a-code c) i = code (at-code c) (found-waits k (a-code c) i)
     go x (no-code c) i = found-waits k (no-code c) i

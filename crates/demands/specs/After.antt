@@ -6,42 +6,42 @@ use mathlib.Core.Logic.{_⊎_}
 use Prim.Native.Nat.{ℕ, _+_, _*_, _≤_, _<_}
 use lib.IntN.{pos, negsuc}
 use lib.ListN.{length}
-use Rattle.laws.specs.Turns.{again}
+use Rattle.laws.specs.Loops.{continue}
 use Rattle.bits.specs.Bits.{bitsAt}
 use Rattle.picture_state.specs.declared.types.Matrices.{Matrices}
 use Rattle.picture_state.specs.declared.types.Sizes.{Sizes}
-use Rattle.picture_state.specs.Ways.{Way, out}
-use Rattle.picture.specs.Pictures.{Frame}
-use Rattle.playback.specs.Turns.{TurnState, atPicture, pictureTurn}
+use Rattle.picture_state.specs.Result.{Result, error}
+use Rattle.picture.specs.Pictures.{PictureState}
+use Rattle.playback.specs.Steps.{DecodingState, atPicture, pictureStep}
 use Rattle.playback.specs.Cases.{isThere, isFlush}
 use Rattle.decoder.specs.declared.record.Decoder.{Decoder}
-use Rattle.decoder.specs.Record.{fresh, place, startCode, placeAs, sequenceAs, searchedAs, stopAs, resumed, storeBytes}
+use Rattle.decoder.specs.Record.{fresh, position, startCode, positionAs, sequenceAs, searchedAs, stopAs, withDecodingState, storeBytes}
 use Rattle.decoder.specs.Possible.{possible}
-use Rattle.decoder.specs.HandOut.{begun}
+use Rattle.decoder.specs.Decode.{startState}
 use Rattle.demands.specs.Codes.{CodeFound, NoneFound}
-use Rattle.demands.specs.Questions.{withHeader, headed, pictureEnd}
+use Rattle.demands.specs.Checks.{withHeader, withHeaderRead, pictureEnd}
 use Rattle.demands.specs.Causes.{Cause}
 
 -- RULES Q4: the record at the sequence start code: it has the code already, or has found it; nothing but place and start code differs from d
 pub data AtCode (s : List ℕ) (d : Decoder) : Decoder → Type 0 where
   had-it : startCode d ≡ pos 0xb3 → AtCode s d d
-  found-it : {e : ℕ} → CodeFound s 0xb3 (place d) e → AtCode s d (searchedAs (pos 0xb3) e d)
+  found-it : {e : ℕ} → CodeFound s 0xb3 (position d) e → AtCode s d (searchedAs (pos 0xb3) e d)
 
 -- RULES Q5: width and height as read at the record's place, which goes 24 bits further; nothing else differs from d
 abbrev pub sizeRead : List ℕ → Decoder → Decoder
-sizeRead s d = placeAs (place d + 24) (sequenceAs (record {
+sizeRead s d = positionAs (position d + 24) (sequenceAs (record {
   «has_sequence_header» = d .sequence .«has_sequence_header»;
-  width = bitsAt s (place d) 12;
-  height = bitsAt s (place d + 12) 12;
+  width = bitsAt s (position d) 12;
+  height = bitsAt s (position d + 12) 12;
   sizes = d .sequence .sizes;
   matrices = d .sequence .matrices;
 }) d)
 
 -- RULES Q3, Q4, Q5, QG: a call that was to read a header with the record d: the number, and the record then
 pub data AfterHeader (s : List ℕ) (d : Decoder) : ℕ → Decoder → Type 0 where
-  after-3 : {e : ℕ} → NoneFound s (place d) e → AfterHeader s d 3 (searchedAs (negsuc 0) e d)
-  after-4 : {x : Decoder} → AtCode s d x → length s * 8 < place x + 1088 → AfterHeader s d 4 x
-  after-5 : {x : Decoder} → AtCode s d x → place x + 1088 ≤ length s * 8 → (bitsAt s (place x) 12 ≡ 0) ⊎ (bitsAt s (place x + 12) 12 ≡ 0)
+  after-3 : {e : ℕ} → NoneFound s (position d) e → AfterHeader s d 3 (searchedAs (negsuc 0) e d)
+  after-4 : {x : Decoder} → AtCode s d x → length s * 8 < position x + 1088 → AfterHeader s d 4 x
+  after-5 : {x : Decoder} → AtCode s d x → position x + 1088 ≤ length s * 8 → (bitsAt s (position x) 12 ≡ 0) ⊎ (bitsAt s (position x + 12) 12 ≡ 0)
       → AfterHeader s d 5 (sizeRead s x)
 
 -- RULES O.2, Q: opening of the stream s with the store l, which is l still: the number, and the record then
@@ -51,28 +51,28 @@ pub data AfterOpening (s l : List ℕ) : ℕ → Decoder → Type 0 where
   after-6 : length l < storeBytes (withHeader s fresh) → AfterOpening s l 6 fresh
 
 -- RULES 8.7: the turn of a hand-out in which it came to its number: the first, given x, or the second, given what the first left
-pub data InTurn (s : List ℕ) (z : Sizes) (m : Matrices) (x : TurnState) : TurnState → Type 0 where
-  in-the-first : InTurn s z m x x
-  in-the-second : {y : TurnState} → pictureTurn s z m x ≡ again y → InTurn s z m x y
+pub data InStep (s : List ℕ) (z : Sizes) (m : Matrices) (x : DecodingState) : DecodingState → Type 0 where
+  in-the-first : InStep s z m x x
+  in-the-second : {y : DecodingState} → pictureStep s z m x ≡ continue y → InStep s z m x y
 
 -- of a hand-out with the record d, the stream s and the store l
-abbrev pub InCall : Decoder → List ℕ → List ℕ → TurnState → Type 0
-InCall d s l y = let q = headed s d .sequence in InTurn s (q .sizes) (q .matrices) (begun d (headed s d) l) y
+abbrev pub InCall : Decoder → List ℕ → List ℕ → DecodingState → Type 0
+InCall d s l y = let q = withHeaderRead s d .sequence in InStep s (q .sizes) (q .matrices) (startState d (withHeaderRead s d) l) y
 
 -- how the picture ends that such a turn decodes
-abbrev pub endIn : Decoder → List ℕ → TurnState → Way Frame
-endIn d s y = let q = headed s d .sequence in pictureEnd s (q .sizes) (q .matrices) (atPicture s y)
+abbrev pub endIn : Decoder → List ℕ → DecodingState → Result PictureState
+endIn d s y = let q = withHeaderRead s d .sequence in pictureEnd s (q .sizes) (q .matrices) (atPicture s y)
 
 -- RULES Q: a hand-out with the record d, the stream s and the store l: the number, and record and store then
-pub data AfterHandOut (d : Decoder) (s l : List ℕ) : ℕ → Decoder → List ℕ → Type 0 where
-  after-1 : 16777216 < length s → AfterHandOut d s l 1 d l
-  after-2 : possible d ≡ false → AfterHandOut d s l 2 d l
-  after-mark : (d .stop ≡ 8) ⊎ (d .stop ≡ 9) → AfterHandOut d s l (d .stop) d l
-  after-header : {n : ℕ} {x : Decoder} → d .sequence .«has_sequence_header» ≡ false → AfterHeader s d n x → AfterHandOut d s l n x l
-  after-6 : length l < storeBytes (headed s d) → AfterHandOut d s l 6 d l
+pub data AfterDecode (d : Decoder) (s l : List ℕ) : ℕ → Decoder → List ℕ → Type 0 where
+  after-1 : 16777216 < length s → AfterDecode d s l 1 d l
+  after-2 : possible d ≡ false → AfterDecode d s l 2 d l
+  after-mark : (d .stop ≡ 8) ⊎ (d .stop ≡ 9) → AfterDecode d s l (d .stop) d l
+  after-header : {n : ℕ} {x : Decoder} → d .sequence .«has_sequence_header» ≡ false → AfterHeader s d n x → AfterDecode d s l n x l
+  after-6 : length l < storeBytes (withHeaderRead s d) → AfterDecode d s l 6 d l
   -- no picture is there to decode or to flush: the record is the one behind that search, and nothing is written since
-  after-7 : {y : TurnState} → InCall d s l y → isThere s (atPicture s y .state) ≡ false → isFlush s (atPicture s y .state) ≡ false
-      → AfterHandOut d s l 7 (resumed (headed s d) (atPicture s y)) (y .store)
+  after-7 : {y : DecodingState} → InCall d s l y → isThere s (atPicture s y .state) ≡ false → isFlush s (atPicture s y .state) ≡ false
+      → AfterDecode d s l 7 (withDecodingState (withHeaderRead s d) (atPicture s y)) (y .store)
   -- the picture leaves early: the store is what it has written up to there
-  after-8-9 : {y : TurnState} {n : ℕ} {m : List ℕ} → InCall d s l y → endIn d s y ≡ out n m → Cause s (headed s d .sequence .sizes) n
-      → AfterHandOut d s l n (stopAs n d) m
+  after-8-9 : {y : DecodingState} {n : ℕ} {m : List ℕ} → InCall d s l y → endIn d s y ≡ error n m → Cause s (withHeaderRead s d .sequence .sizes) n
+      → AfterDecode d s l n (stopAs n d) m

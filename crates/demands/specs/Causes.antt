@@ -7,7 +7,7 @@ use lib.IntN.{ℤ, pos, natAbs, _+ℤ_}
 use lib.Signed.{leZ}
 use Rattle.bits.specs.Programs.{run}
 use Rattle.coefficients.specs.Dcs.{dcDifference, dcInside}
-use Rattle.prediction.specs.declared.place.Place.{Place}
+use Rattle.prediction.specs.declared.position.BlockPosition.{BlockPosition}
 use Rattle.prediction.specs.Predict.{start, maxAddress, reach}
 use Rattle.picture_state.specs.declared.types.Sizes.{Sizes}
 
@@ -20,7 +20,7 @@ pub record DcOutside (s : List ℕ) : Type 0 where
 
 -- RULES Q9: a block of a picture of these sizes is predicted by h and v, in half samples: its start is in 0..max_address, and it reaches further
 pub record PredictionOutside (z : Sizes) : Type 0 where
-  pub block : Place
+  pub block : BlockPosition
   pub across : block .across ≡ z .«mb_width»
   pub down : block .down ≡ z .«mb_height»
   pub h : ℤ

@@ -6,49 +6,49 @@ use Prim.Native.Nat.{ℕ, _*_}
 use borrow.Rule.Slice.PartMut.{midOf}
 use lib.Dec.{eqb, leb}
 use lib.ListN.{length}
-use Rattle.laws.specs.Turns.{again, stop}
+use Rattle.laws.specs.Loops.{continue, finish}
 use Rattle.bits.specs.Bounds.{longestStream}
 use Rattle.bits.specs.Programs.{run, if_then_else_}
 use Rattle.picture_state.specs.declared.types.Matrices.{Matrices}
 use Rattle.picture_state.specs.declared.types.Sizes.{Sizes}
-use Rattle.picture_state.specs.Ways.{Way, on, out}
-use Rattle.picture.specs.Pictures.{Frame, pictureHeader, isDecoded}
-use Rattle.playback.specs.State.{place}
-use Rattle.playback.specs.Turns.{TurnState, atPicture, pictureRun, pictureTurn}
+use Rattle.picture_state.specs.Result.{Result, ok, error}
+use Rattle.picture.specs.Pictures.{PictureState, pictureHeader, isDecoded}
+use Rattle.playback.specs.State.{position}
+use Rattle.playback.specs.Steps.{DecodingState, atPicture, pictureRun, pictureStep}
 use Rattle.playback.specs.Cases.{isThere, isB}
 use Rattle.decoder.specs.declared.record.Decoder.{Decoder}
 use Rattle.playback.specs.declared.outcome.Outcome.{Outcome}
 use Rattle.playback.specs.declared.outcome.Outcome.the-variants as H
-use Rattle.decoder.specs.declared.answers.Handed.{Handed}
+use Rattle.decoder.specs.declared.answers.DecodeResult.{DecodeResult}
 use Rattle.decoder.specs.Possible.{possibleWith}
-use Rattle.decoder.specs.Headers.{Asked, refused, passed}
-use Rattle.decoder.specs.HandOut.{askFirst, begun}
-use Rattle.decoder.specs.Run.{Going, going}
+use Rattle.decoder.specs.Headers.{CheckResult, refused, passed}
+use Rattle.decoder.specs.Decode.{checkHeaderAndStore, startState}
+use Rattle.decoder.specs.Run.{CallState, callState}
 use Rattle.demands.specs.Calls.{Decodes}
 
 -- ---- the rule
 
 -- a picture as it is coded: is it a B picture, is it decoded (RULES 8.4), and its samples
-pub record Coded : Type 0 where
+pub record CodedPicture : Type 0 where
   pub isB : Bool
   pub decoded : Bool
   pub samples : List ℕ
 
 -- 11172-2, 2.4.4: a B picture is shown at once; an I or P picture waits, and is shown when the next one is decoded. h is the one that waits, if any
-unfoldable pub displayed : List (List ℕ) → List Coded → List (List ℕ)
+unfoldable pub displayed : List (List ℕ) → List CodedPicture → List (List ℕ)
 displayed h [] = []
 displayed h (c ∷ cs) = if c .isB then c .samples ∷ displayed h cs else h ++ displayed (c .samples ∷ []) cs
 
 -- the one that waits behind these pictures
-unfoldable pub waiting : List (List ℕ) → List Coded → List (List ℕ)
+unfoldable pub waiting : List (List ℕ) → List CodedPicture → List (List ℕ)
 waiting h [] = h
 waiting h (c ∷ cs) = if c .isB then waiting h cs else waiting (c .samples ∷ []) cs
 
 -- 11172-2, 2.4.4: the order of display: at the end the one that waits is shown, too
-abbrev pub displayOrder : List Coded → List (List ℕ)
+abbrev pub displayOrder : List CodedPicture → List (List ℕ)
 displayOrder cs = displayed [] cs ++ waiting [] cs
 
-abbrev pub AllDecoded : List Coded → Type 0
+abbrev pub AllDecoded : List CodedPicture → Type 0
 AllDecoded [] = Unit {0}
 AllDecoded (c ∷ cs) = (c .decoded ≡ true) × AllDecoded cs
 
@@ -59,38 +59,39 @@ abbrev pub samplesOf : ℕ → ℕ → List ℕ → List ℕ
 samplesOf n k l = midOf (k * (384 * n)) (384 * n) l
 
 -- a picture that is read to its end is in the store that was the current one before; one that leaves early is none
-abbrev pub codedBy : List ℕ → Sizes → TurnState → Way Frame → List Coded
-codedBy s z x (on f) = record {
+abbrev pub codedPictureBy : List ℕ → Sizes → DecodingState → Result PictureState → List CodedPicture
+codedPictureBy s z x (ok f) = record {
   isB = isB f;
-  decoded = isDecoded (run pictureHeader s (place (x .state)) .value);
+  decoded = isDecoded (run pictureHeader s (position (x .state)) .value);
   samples = samplesOf (z .«mb_size») (x .state .picture .stores .cur) (f .store);
 } ∷ []
-codedBy s z x (out n m) = []
+codedPictureBy s z x (error n m) = []
 
 -- RULES 8.2, 8.3: the picture that a turn reads, behind its search
-unfoldable pub turnReads : List ℕ → Sizes → Matrices → TurnState → List Coded
-turnReads s z m x = if isThere s (x .state) then codedBy s z x (pictureRun s z m x .value) else []
+unfoldable pub stepReads : List ℕ → Sizes → Matrices → DecodingState → List CodedPicture
+stepReads s z m x = if isThere s (x .state) then codedPictureBy s z x (pictureRun s z m x .value) else []
 
 -- RULES 8.7: in one turn, or two
-unfoldable pub picturesRead : List ℕ → Sizes → Matrices → TurnState → List Coded
+unfoldable pub picturesRead : List ℕ → Sizes → Matrices → DecodingState → List CodedPicture
 picturesRead s z m x =
-    turnReads s z m (atPicture s x) ++ (elim (pictureTurn s z m x) [ again y ↦ turnReads s z m (atPicture s y) | stop e ↦ [] ])
+    stepReads s z m (atPicture s x) ++ (elim (pictureStep s z m x) [ continue y ↦ stepReads s z m (atPicture s y) | finish e ↦ [] ])
 
-abbrev pub askedReads : List ℕ → Decoder → List ℕ → Asked → List Coded
-askedReads s d l (refused n x) = []
-askedReads s d l (passed x) = picturesRead s (x .sequence .sizes) (x .sequence .matrices) (begun d x l)
+abbrev pub checkedReads : List ℕ → Decoder → List ℕ → CheckResult → List CodedPicture
+checkedReads s d l (refused n x) = []
+checkedReads s d l (passed x) = picturesRead s (x .sequence .sizes) (x .sequence .matrices) (startState d x l)
 
 -- the pictures that a hand-out reads: none where a question before them is answered "no"
-unfoldable pub handOutReads : Decoder → List ℕ → List ℕ → List Coded
-handOutReads d s l = if leb (length s) longestStream && possibleWith s d && eqb (d .stop) 0 then askedReads s d l (askFirst s d l) else []
+unfoldable pub decodeReads : Decoder → List ℕ → List ℕ → List CodedPicture
+decodeReads d s l = if leb (length s) longestStream && possibleWith s d && eqb (d .stop) 0 then checkedReads s d l (checkHeaderAndStore s d l) else []
 
 -- the picture that it hands out: the samples of the store that it names
 abbrev pub shownBy : Outcome → Decoder → List ℕ → List (List ℕ)
 shownBy o x m = elim o [ H.Picture i ↦ samplesOf (x .sequence .sizes .«mb_size») (i .store) m ∷ [] | H.Refused n ↦ [] ]
 
 -- calls with one stream, each given what the one before it left: what they show, and what they read
-pub data Shows (s : List ℕ) : Going → List (List ℕ) → List Coded → Going → Type 0 where
-  none : {x : Going} → Shows s x [] [] x
-  and-then : {x : Going} {r : Handed} {m : List ℕ} {ps : List (List ℕ)} {cs : List Coded} {y : Going} → Decodes (x .decoder) s (x .store) r m
-      → Shows s (going (r .decoder) m) ps cs y
-      → Shows s x (shownBy (r .outcome) (r .decoder) m ++ ps) (handOutReads (x .decoder) s (x .store) ++ cs) y
+pub data CallsOutput (s : List ℕ) : CallState → List (List ℕ) → List CodedPicture → CallState → Type 0 where
+  none : {x : CallState} → CallsOutput s x [] [] x
+  and-then : {x : CallState} {r : DecodeResult} {m : List ℕ} {ps : List (List ℕ)} {cs : List CodedPicture} {y : CallState}
+      → Decodes (x .decoder) s (x .store) r m
+      → CallsOutput s (callState (r .decoder) m) ps cs y
+      → CallsOutput s x (shownBy (r .outcome) (r .decoder) m ++ ps) (decodeReads (x .decoder) s (x .store) ++ cs) y

@@ -1,11 +1,11 @@
 pub mod Calls
-pub mod Questions
+pub mod Checks
 pub mod Codes
 pub mod Causes
 pub mod After
 pub mod Stores
 pub mod Rows
-pub mod Handing
-pub mod Numbers
+pub mod Outputs
+pub mod ErrorCodes
 pub mod Lines
 pub mod Display

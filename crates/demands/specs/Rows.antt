@@ -7,49 +7,49 @@ use Prim.Native.Nat.{ℕ, _+_, _*_, _≤_, _<_}
 use lib.IntN.{negsuc}
 use lib.ListN.{length}
 use Rattle.bits.specs.Bits.{bitsAt}
-use Rattle.picture_state.specs.Ways.{out}
+use Rattle.picture_state.specs.Result.{error}
 use Rattle.decoder.specs.declared.record.Decoder.{Decoder}
-use Rattle.playback.specs.Turns.{TurnState, atPicture}
+use Rattle.playback.specs.Steps.{DecodingState, atPicture}
 use Rattle.playback.specs.Cases.{isThere, isFlush}
-use Rattle.decoder.specs.Record.{place, searchedAs, stopAs, resumed}
+use Rattle.decoder.specs.Record.{position, searchedAs, stopAs, withDecodingState}
 use Rattle.decoder.specs.Record as R
 use Rattle.demands.specs.Codes.{NoneFound}
 use Rattle.demands.specs.Causes.{Cause}
-use Rattle.demands.specs.Questions.{headed}
+use Rattle.demands.specs.Checks.{withHeaderRead}
 use Rattle.demands.specs.After.{AtCode, sizeRead, InCall, endIn}
 
 -- RULES Q3: the place where the search ended, start code -1
 pub record Row3 (s : List ℕ) (d x : Decoder) : Type 0 where
-  pub place : ℕ
-  pub ended : NoneFound s (R.place d) place
-  pub is : x ≡ searchedAs (negsuc 0) place d
+  pub position : ℕ
+  pub ended : NoneFound s (R.position d) position
+  pub is : x ≡ searchedAs (negsuc 0) position d
 
 -- RULES Q4: right behind the code, start code B3, fewer than 1,088 bits left
 pub record Row4 (s : List ℕ) (d x : Decoder) : Type 0 where
   pub code : AtCode s d x
-  pub few : length s * 8 < place x + 1088
+  pub few : length s * 8 < position x + 1088
 
 -- RULES Q5: width and height as read, one of them 0, 24 bits further
 pub record Row5 (s : List ℕ) (d x : Decoder) : Type 0 where
-  pub behind : Decoder
-  pub code : AtCode s d behind
-  pub bits : place behind + 1088 ≤ length s * 8
-  pub zero : (bitsAt s (place behind) 12 ≡ 0) ⊎ (bitsAt s (place behind + 12) 12 ≡ 0)
-  pub is : x ≡ sizeRead s behind
+  pub atCode : Decoder
+  pub code : AtCode s d atCode
+  pub bits : position atCode + 1088 ≤ length s * 8
+  pub zero : (bitsAt s (position atCode) 12 ≡ 0) ⊎ (bitsAt s (position atCode + 12) 12 ≡ 0)
+  pub is : x ≡ sizeRead s atCode
 
 -- RULES Q7: no picture to decode or to flush; the record behind the search of that turn, the store as the turn was given it
 pub record Row7 (d : Decoder) (s l : List ℕ) (x : Decoder) (m : List ℕ) : Type 0 where
-  pub given : TurnState
-  pub turn : InCall d s l given
+  pub given : DecodingState
+  pub step : InCall d s l given
   pub none : isThere s (atPicture s given .state) ≡ false
   pub kept : isFlush s (atPicture s given .state) ≡ false
-  pub decoder : x ≡ resumed (headed s d) (atPicture s given)
+  pub decoder : x ≡ withDecodingState (withHeaderRead s d) (atPicture s given)
   pub store : m ≡ given .store
 
 -- RULES Q8, Q9: the picture left early for its cause, with what it had written; the record as passed in with the stop mark n
 pub record Row89 (d : Decoder) (s l : List ℕ) (n : ℕ) (x : Decoder) (m : List ℕ) : Type 0 where
-  pub given : TurnState
-  pub turn : InCall d s l given
-  pub left : endIn d s given ≡ out n m
-  pub cause : Cause s (headed s d .sequence .sizes) n
+  pub given : DecodingState
+  pub step : InCall d s l given
+  pub left : endIn d s given ≡ error n m
+  pub cause : Cause s (withHeaderRead s d .sequence .sizes) n
   pub decoder : x ≡ stopAs n d

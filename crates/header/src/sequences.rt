@@ -46,8 +46,8 @@ fn read_entries(s: &[u8], reader: Reader) -> MatrixRead
     while i < 64 {
         let entry = at.read(s, 8);
         at = entry.reader;
-        let place = order[i] as usize;
-        matrix[place] = entry.value as u8;
+        let position = order[i] as usize;
+        matrix[position] = entry.value as u8;
         i += 1;
     }
     MatrixRead { reader: at, matrix }

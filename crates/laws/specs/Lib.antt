@@ -2,4 +2,4 @@ pub mod Each
 pub mod Signed
 pub mod Sizes
 pub mod Stores
-pub mod Turns
+pub mod Loops

@@ -41,7 +41,7 @@ module _ {page₀ : List ℕ} {at : ℕ} {t : List ℕ} where
       let e : i ≡ length t = omega (arith, c .most) in
       record {
         bytes = sym (ap (sets page (at + i)) (ap (λ (k : ℕ). drop k t) e ∙ drop-length t)) ∙ c .rest;
-        place = ap (λ (k : ℕ). at + k) e;
+        position = ap (λ (k : ℕ). at + k) e;
       }
 
 -- ---- one text behind another
@@ -57,9 +57,9 @@ module _ {page one two : List ℕ} {at next last : ℕ} {t u : List ℕ} where
     bytes =
         y .bytes
         ∙ ap (λ (l : List ℕ). sets l next u) (x .bytes)
-        ∙ ap (λ (k : ℕ). sets (sets page at t) k u) (x .place)
+        ∙ ap (λ (k : ℕ). sets (sets page at t) k u) (x .position)
         ∙ sets-on t u page at;
-    place = y .place ∙ rw (length-append t u) (omega (arith, x .place));
+    position = y .position ∙ rw (length-append t u) (omega (arith, x .position));
   }
 
 -- the same page
@@ -69,7 +69,7 @@ wrote-length {page} {after} {at} {next} {t} x = ap length (x .bytes) ∙ length-
 -- the beginning of a page on which a text was written from its first place on
 pub wrote-take : {page after : List ℕ} {next : ℕ} {t : List ℕ} → next ≤ length page → Wrote page 0 t after next → take next after ≡ t
 wrote-take {page} {after} {next} {t} h x =
-    let e : next ≡ length t = x .place ∙ omega arith in
+    let e : next ≡ length t = x .position ∙ omega arith in
     rw (x .bytes, e, sets-eq t page 0 (omega arith)) (take-append-seam t (drop (0 + length t) page))
 
 -- ---- digits
@@ -115,4 +115,4 @@ module _ (x end k : ℕ) (ds page one : List ℕ) (at next : ℕ) (f : Fewest 10
   unfolding field
   wrote-field w =
       let t : take k ds ≡ decimalIn 20 x = e ∙ fewest-decimal k x 20 f (fewest-few k x f h) in
-      wrote-on (subst (λ (t : List ℕ). Wrote page at t one next) t w) (record { bytes = refl; place = refl })
+      wrote-on (subst (λ (t : List ℕ). Wrote page at t one next) t w) (record { bytes = refl; position = refl })

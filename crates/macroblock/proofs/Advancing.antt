@@ -18,13 +18,13 @@ use Rattle.prediction.specs.declared.predict.Predicted.the-variants.{Done, Refu
 use Rattle.picture_state.specs.declared.types.Context.{Context}
 use Rattle.picture_state.specs.declared.types.Slice.{Slice}
 use Rattle.picture_state.specs.Possible.{PossibleSlice}
-use Rattle.picture_state.specs.Ways.{also}
+use Rattle.picture_state.specs.Result.{andThen}
 use Rattle.macroblock_head.specs.Predictions.{predictSkipped}
 use Rattle.macroblock.specs.Macroblocks.{skipReset, advance}
 use Rattle.picture_state.specs.State.{addressAs}
-use Rattle.picture_state.specs.Contracts.{Held, Here}
-use Rattle.macroblock_head.specs.Contracts.{PossibleMotions, Foretold}
-use Rattle.macroblock.specs.Contracts.{Reaches, Advances}
+use Rattle.picture_state.specs.Contracts.{StoreFits, AddressInPicture}
+use Rattle.macroblock_head.specs.Contracts.{PossibleMotions, RefinesPrediction}
+use Rattle.macroblock.specs.Contracts.{AddressReaches, RefinesAdvance}
 use Rattle.picture_state.proofs.Possible.{between-of, between-by}
 use Rattle.picture_state.proofs.Kept.{motions-kept, reset-kept}
 use Rattle.macroblock_head.proofs.Kept.{still-kept}
@@ -48,7 +48,7 @@ module _ (g : Context) (x : Slice) where
 
 -- ---- the address that is reached
 
-here-at : {g : Context} {store : List ℕ} → Held g store → {a : ℤ} {p m : ℕ} → Dif a p m → m ≤ p → p < m + g .sizes .«mb_size» → Here g a
+here-at : {g : Context} {store : List ℕ} → StoreFits g store → {a : ℤ} {p m : ℕ} → Dif a p m → m ≤ p → p < m + g .sizes .«mb_size» → AddressInPicture g a
 here-at k d low high =
     record { natural = cast-by {w = w64} d low (omega (arith, size-most k)) .0; below = omega (arith, cast-is d low, k .size) }
 
@@ -63,7 +63,7 @@ moved-possible k d low high =
       predictors = k .predictors;
     }
 
-module _ (g : Context) (n : ℕ) (x : Slice) {store : List ℕ} (k : Held g store) (p : PossibleSlice x)
+module _ (g : Context) (n : ℕ) (x : Slice) {store : List ℕ} (k : StoreFits g store) (p : PossibleSlice x)
     (h : leZ (pos (g .sizes .«mb_size»)) (x .«macroblock_address» +ℤ pos n) ≡ false) where
   abbrev a : ℤ
   a = x .«macroblock_address»
@@ -71,7 +71,7 @@ module _ (g : Context) (n : ℕ) (x : Slice) {store : List ℕ} (k : Held g stor
   bounds : (dn a ≤ up a + 1) × (up a + n < dn a + g .sizes .«mb_size») × (g .sizes .«mb_size» ≤ 65536)
   bounds = (omega (arith, between-of 1 402700000 (v a) (p .address)), omega (arith, le-no (lit (g .sizes .«mb_size»)) (v a ⊕ lit n) h), size-most k)
 
-  pub reaches : {m : ℕ} → m ≤ n + 1 → Reaches a m
+  pub reaches : {m : ℕ} → m ≤ n + 1 → AddressReaches a m
   reaches {m} l =
       record { from = yes-le (neg (lit 1)) (v a) (omega (arith, bounds)); to = yes-le (v a ⊕ lit m) (lit 402700000) (omega (arith, bounds)) }
 
@@ -90,7 +90,7 @@ module _ (g : Context) (n : ℕ) (x : Slice) {store : List ℕ} (k : Held g stor
 
   -- ---- on by 1
 
-  pub advance-one : n < 2 → {y : Slice} → y ≡ addressAs (a +ℤ pos 1) x → Advances g n x store y 0 store
+  pub advance-one : n < 2 → {y : Slice} → y ≡ addressAs (a +ℤ pos 1) x → RefinesAdvance g n x store y 0 store
   unfolding advance
   advance-one l e =
       record {
@@ -102,9 +102,9 @@ module _ (g : Context) (n : ℕ) (x : Slice) {store : List ℕ} (k : Held g stor
   -- ---- over skipped macroblocks
 
   module _ (l : 2 ≤ n) {s : Slice} (is : s ≡ skipReset g x) {first : ℕ} (at : first ≡ natAbs (a +ℤ pos 1)) {r : Predicted} {store₁ : List ℕ}
-      (told : Foretold (predictSkipped g s first (n - 1) store) r store₁) where
-    pub advance-refused : r ≡ Refused → Advances g n x store s 9 store₁
-    unfolding advance also
+      (told : RefinesPrediction (predictSkipped g s first (n - 1) store) r store₁) where
+    pub advance-refused : r ≡ Refused → RefinesAdvance g n x store s 9 store₁
+    unfolding advance andThen
     advance-refused e =
         let t = rw (is, at) at (told .is) in
         record {
@@ -113,8 +113,8 @@ module _ (g : Context) (n : ℕ) (x : Slice) {store : List ℕ} (k : Held g stor
           here = λ z m. let w : _≡_ {A = ℕ} 9 0 = z in let o : ⊥ = omega arith in absurd o;
         }
 
-    pub advance-on : r ≡ Done → {y : Slice} → y ≡ addressAs (s .«macroblock_address» +ℤ pos n) s → Advances g n x store y 0 store₁
-    unfolding advance also
+    pub advance-on : r ≡ Done → {y : Slice} → y ≡ addressAs (s .«macroblock_address» +ℤ pos n) s → RefinesAdvance g n x store y 0 store₁
+    unfolding advance andThen
     advance-on e q =
         let t = rw (is, at) at (told .is) in
         let y-is : _ ≡ addressAs (a +ℤ pos n) (skipReset g x) = rw (is, skip-address g x) at q in

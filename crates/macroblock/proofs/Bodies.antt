@@ -17,27 +17,27 @@ use Rattle.picture_state.specs.declared.types.Matrices.{Matrices}
 use Rattle.picture_state.specs.declared.types.Slice.{Slice}
 use Rattle.picture_state.specs.declared.types.Progress.{Progress}
 use Rattle.picture_state.specs.Possible.{PossibleSlice}
-use Rattle.picture_state.specs.State.{world}
+use Rattle.picture_state.specs.State.{sliceState}
 use Rattle.picture_state.specs.Flags.{flag, isIntra}
 use Rattle.macroblock_head.specs.Heads.{macroblockType, scale, forward, backward, vectors, head, pattern}
 use Rattle.macroblock_head.specs.Predictions.{predict}
 use Rattle.blocks.specs.Blocks.{blocks}
 use Rattle.macroblock.specs.Macroblocks.{predictUnlessIntra, body}
-use Rattle.picture_state.specs.Contracts.{Here, Ready, Went}
-use Rattle.macroblock_head.specs.Contracts.{Foretold}
+use Rattle.picture_state.specs.Contracts.{AddressInPicture, MacroblockInvariant, RefinesAtMacroblock}
+use Rattle.macroblock_head.specs.Contracts.{RefinesPrediction}
 use Rattle.macroblock_head.proofs.Kept.{head-gives}
-use Rattle.picture_state.proofs.Ways.{r-plain, r-onward, r-leave}
+use Rattle.picture_state.proofs.Results.{r-lift, r-bind, r-if-ok}
 use Rattle.picture_state.proofs.Ready.{ready-on}
 
 -- ---- prediction
 
 module _ (g : Context) (t : ℕ) (x : Slice) (l : List ℕ) where
-  pub unless-intra : isIntra t ≡ true → Foretold (predictUnlessIntra g t x l) Done l
+  pub unless-intra : isIntra t ≡ true → RefinesPrediction (predictUnlessIntra g t x l) Done l
   unfolding predictUnlessIntra
   unless-intra e = record { is = rw e }
 
   pub unless-predicted : isIntra t ≡ false → (address : ℕ) → address ≡ natAbs (x .«macroblock_address») → {r : Predicted} {l₁ : List ℕ}
-      → Foretold (predict g address x l) r l₁ → Foretold (predictUnlessIntra g t x l) r l₁
+      → RefinesPrediction (predict g address x l) r l₁ → RefinesPrediction (predictUnlessIntra g t x l) r l₁
   unfolding predictUnlessIntra
   unless-predicted e address p k = record { is = rw (e, ← p) (k .is) }
 
@@ -54,7 +54,7 @@ head-address type t x =
 -- ---- the body, behind the type and the head
 
 module _ {g : Context} {x y : Slice} {left : List ℤ} {store s : List ℕ} {from typed headed : Reader} {t : ℕ}
-    (ready : Ready g s from x left store) (type : Reading (macroblockType (g .«picture_type»)) s from t typed)
+    (ready : MacroblockInvariant g s from x left store) (type : Reading (macroblockType (g .«picture_type»)) s from t typed)
     (leads : Reading (head (g .«picture_type») t x) s typed y headed) where
   pub headed-possible : PossibleSlice y
   headed-possible = given-by (head-gives (g .«picture_type») t (ready .reads .slice)) (leads .runs)
@@ -62,32 +62,32 @@ module _ {g : Context} {x y : Slice} {left : List ℤ} {store s : List ℕ} {fro
   headed-address : y .«macroblock_address» ≡ x .«macroblock_address»
   headed-address = given-by (head-address (g .«picture_type») t x) (leads .runs)
 
-  pub headed-here : Here g (y .«macroblock_address»)
+  pub headed-here : AddressInPicture g (y .«macroblock_address»)
   headed-here = rw headed-address (ready .here)
 
-  module _ {q : Predicted} {store₁ : List ℕ} (told : Foretold (predictUnlessIntra g t y store) q store₁)
+  module _ {q : Predicted} {store₁ : List ℕ} (told : RefinesPrediction (predictUnlessIntra g t y store) q store₁)
       (long : length store₁ ≡ length store) where
     pub body-refused : (m : Matrices) → q ≡ Refused
-        → Went (body g m (world x left store)) g s from (record { reader = headed; state = y; stop = 9 }) left store₁
+        → RefinesAtMacroblock (body g m (sliceState x left store)) g s from (record { reader = headed; state = y; stop = 9 }) left store₁
     unfolding body
     body-refused m e =
         record {
-          runs = r-plain _ (type .runs) (r-plain _ (leads .runs) (r-leave _ (rw (told .is, e) r-done)));
+          runs = r-lift _ (type .runs) (r-lift _ (leads .runs) (r-if-ok _ (rw (told .is, e) r-done)));
           ready = ready-on ready (leads .inside) headed-possible (ready .reads .block) headed-address long;
         }
 
     -- with the pattern
     module _ {c : ℕ} {patterned : Reader} (p : Reading (pattern t) s headed c patterned) where
-      pub blocks-ready : Ready g s patterned y left store₁
+      pub blocks-ready : MacroblockInvariant g s patterned y left store₁
       blocks-ready = ready-on ready (p .inside) headed-possible (ready .reads .block) headed-address long
 
       pub body-on : (m : Matrices) → q ≡ Done → {r : Progress} {left₁ : List ℤ} {store₂ : List ℕ}
-          → Went (blocks g m (isIntra t) c (world y left store₁)) g s patterned r left₁ store₂
-          → Went (body g m (world x left store)) g s from r left₁ store₂
+          → RefinesAtMacroblock (blocks g m (isIntra t) c (sliceState y left store₁)) g s patterned r left₁ store₂
+          → RefinesAtMacroblock (body g m (sliceState x left store)) g s from r left₁ store₂
       unfolding body
       body-on m e w =
           record {
-            runs = r-plain _ (type .runs) (r-plain _ (leads .runs)
-                (r-onward _ (rw (told .is, e) r-done) (r-plain _ (p .runs) (w .runs))));
+            runs = r-lift _ (type .runs) (r-lift _ (leads .runs)
+                (r-bind _ (rw (told .is, e) r-done) (r-lift _ (p .runs) (w .runs))));
             ready = w .ready;
           }

@@ -15,18 +15,18 @@ use Rattle.picture_state.specs.declared.types.Matrices.{Matrices}
 use Rattle.picture_state.specs.declared.types.Slice.{Slice}
 use Rattle.picture_state.specs.declared.types.Progress.{Progress}
 use Rattle.picture_state.specs.Possible.{PossibleSlice}
-use Rattle.macroblock.specs.Macroblocks.{body, firstOf}
-use Rattle.picture_state.specs.State.{world, addressAs}
-use Rattle.picture_state.specs.Contracts.{Held, Here, Reads, Ready, Went, Passed}
-use Rattle.macroblock.specs.Contracts.{Begun}
+use Rattle.macroblock.specs.Macroblocks.{body, firstMacroblock}
+use Rattle.picture_state.specs.State.{sliceState, addressAs}
+use Rattle.picture_state.specs.Contracts.{StoreFits, AddressInPicture, ReadInvariant, MacroblockInvariant, RefinesAtMacroblock, RefinesInSlice}
+use Rattle.macroblock.specs.Contracts.{AdvanceInvariant}
 use Rattle.picture_state.proofs.Possible.{between-by}
 use Rattle.picture_state.proofs.Ready.{size-most}
 
 -- neither before the first nor past the last
-here-by : {g : Context} {store : List ℕ} (a : ℤ) → Held g store → (ltZ a (pos 0) || leZ (pos (g .sizes .«mb_size»)) a) ≡ false → Here g a
+here-by : {g : Context} {store : List ℕ} (a : ℤ) → StoreFits g store → (ltZ a (pos 0) || leZ (pos (g .sizes .«mb_size»)) a) ≡ false → AddressInPicture g a
 here-by {g} a k e = go (ltZ a (pos 0)) refl e
   where
-    go : (t : Bool) → ltZ a (pos 0) ≡ t → (t || leZ (pos (g .sizes .«mb_size»)) a) ≡ false → Here g a
+    go : (t : Bool) → ltZ a (pos 0) ≡ t → (t || leZ (pos (g .sizes .«mb_size»)) a) ≡ false → AddressInPicture g a
     go true p q = absurd (let z : _≡_ {A = ℕ} 0 1 = cc in omega arith)
     go false p q =
         let low : dn a ≤ up a = omega (arith, lt-no (v a) (lit 0) p) in
@@ -37,7 +37,7 @@ here-by {g} a k e = go (ltZ a (pos 0)) refl e
         }
 
 module _ {g : Context} {x y : Slice} {n : ℕ} {left : List ℤ} {store s : List ℕ} {reader : Reader}
-    (k : Begun g s reader x n left store) (is : y ≡ addressAs (x .«macroblock_address» +ℤ pos n) x) where
+    (k : AdvanceInvariant g s reader x n left store) (is : y ≡ addressAs (x .«macroblock_address» +ℤ pos n) x) where
   pub further-possible : PossibleSlice y
   further-possible =
       let p = k .reads .slice in
@@ -52,22 +52,22 @@ module _ {g : Context} {x y : Slice} {n : ℕ} {left : List ℤ} {store s : List
         predictors = p .predictors;
       })
 
-  further-reads : Reads s reader y left
+  further-reads : ReadInvariant s reader y left
   further-reads = record { inside = k .reads .inside; slice = further-possible; block = k .reads .block }
 
   module _ {t : Bool} (at : t ≡ (ltZ (y .«macroblock_address») (pos 0) || leZ (pos (g .sizes .«mb_size»)) (y .«macroblock_address»))) where
     pub first-nowhere : (m : Matrices) → t ≡ true
-        → Passed (firstOf g m n (world x left store)) g s reader (record { reader = reader; state = y; stop = 0 }) left store
-    unfolding firstOf
-    first-nowhere m e = let q = rw is at (sym at ∙ e) in record { runs = rw is (r-yes _ q r-done); reads = further-reads; held = k .held }
+        → RefinesInSlice (firstMacroblock g m n (sliceState x left store)) g s reader (record { reader = reader; state = y; stop = 0 }) left store
+    unfolding firstMacroblock
+    first-nowhere m e = let q = rw is at (sym at ∙ e) in record { runs = rw is (r-yes _ q r-done); reads = further-reads; storeFits = k .storeFits }
 
-    pub first-ready : t ≡ false → Ready g s reader y left store
-    first-ready e = record { reads = further-reads; held = k .held; here = here-by (y .«macroblock_address») (k .held) (sym at ∙ e) }
+    pub first-ready : t ≡ false → MacroblockInvariant g s reader y left store
+    first-ready e = record { reads = further-reads; storeFits = k .storeFits; here = here-by (y .«macroblock_address») (k .storeFits) (sym at ∙ e) }
 
     pub first-body : (m : Matrices) → t ≡ false → {r : Progress} {left₁ : List ℤ} {store₁ : List ℕ}
-        → Went (body g m (world y left store)) g s reader r left₁ store₁
-        → Passed (firstOf g m n (world x left store)) g s reader r left₁ store₁
-    unfolding firstOf
+        → RefinesAtMacroblock (body g m (sliceState y left store)) g s reader r left₁ store₁
+        → RefinesInSlice (firstMacroblock g m n (sliceState x left store)) g s reader r left₁ store₁
+    unfolding firstMacroblock
     first-body m e w =
         let q = rw is at (sym at ∙ e) in
-        record { runs = r-no _ q (rw is at (w .runs)); reads = w .ready .reads; held = w .ready .held }
+        record { runs = r-no _ q (rw is at (w .runs)); reads = w .ready .reads; storeFits = w .ready .storeFits }

@@ -5,47 +5,47 @@ use mathlib.Core.List.{List}
 use Prim.Native.Nat.{ℕ}
 use lib.IntN.{ℤ, pos, negℤ, _+ℤ_}
 use lib.Signed.{leZ}
-use Rattle.laws.specs.Turns.{stop}
+use Rattle.laws.specs.Loops.{finish}
 use Rattle.bits.specs.declared.reader.Reader.{Reader}
 use Rattle.picture_state.specs.declared.types.Context.{Context}
 use Rattle.picture_state.specs.declared.types.Slice.{Slice}
 use Rattle.macroblock.specs.Macroblocks.{advance}
-use Rattle.picture_state.specs.State.{world}
+use Rattle.picture_state.specs.State.{sliceState}
 use Rattle.picture_state.specs.Possible.{PossibleSlice}
-use Rattle.picture_state.specs.Contracts.{way, Held, Here, Reads}
+use Rattle.picture_state.specs.Contracts.{resultOf, StoreFits, AddressInPicture, ReadInvariant}
 
 -- the address can go on by n: RULES Q2
-pub record Reaches (address : ℤ) (n : ℕ) : Type 0 where
+pub record AddressReaches (address : ℤ) (n : ℕ) : Type 0 where
   pub from : leZ (negℤ (pos 1)) address ≡ true
   pub to : leZ (address +ℤ pos n) (pos 402700000) ≡ true
 
 -- the address and n can be added: no bound of RULES, the sum need not be kept
-pub record Adds (address : ℤ) (n : ℕ) : Type 0 where
+pub record AddressAdds (address : ℤ) (n : ℕ) : Type 0 where
   pub from : leZ (negℤ (pos 1)) address ≡ true
   pub to : leZ (address +ℤ pos n) (pos 402800000) ≡ true
 
 -- between two macroblocks, with n to go on by: no macroblock need have the address
-pub record Begun (g : Context) (s : List ℕ) (reader : Reader) (x : Slice) (n : ℕ) (left : List ℤ) (store : List ℕ) : Type 0 where
-  pub reads : Reads s reader x left
-  pub held : Held g store
-  pub reaches : Reaches (x .«macroblock_address») n
+pub record AdvanceInvariant (g : Context) (s : List ℕ) (reader : Reader) (x : Slice) (n : ℕ) (left : List ℤ) (store : List ℕ) : Type 0 where
+  pub reads : ReadInvariant s reader x left
+  pub storeFits : StoreFits g store
+  pub reaches : AddressReaches (x .«macroblock_address») n
 
 -- before a later macroblock, n from here: the address is not that of the last one
-pub record Between (g : Context) (s : List ℕ) (reader : Reader) (x : Slice) (n : ℕ) (left : List ℤ) (store : List ℕ) : Type 0 where
-  pub reads : Reads s reader x left
-  pub held : Held g store
-  pub adds : Adds (x .«macroblock_address») n
+pub record LaterInvariant (g : Context) (s : List ℕ) (reader : Reader) (x : Slice) (n : ℕ) (left : List ℤ) (store : List ℕ) : Type 0 where
+  pub reads : ReadInvariant s reader x left
+  pub storeFits : StoreFits g store
+  pub adds : AddressAdds (x .«macroblock_address») n
   pub more : leZ (pos (g .sizes .«mb_size»)) (x .«macroblock_address» +ℤ pos 1) ≡ false
 
 -- before the increment: the first of slices 1 to 175, or a later one
-pub record Awaits (g : Context) (s : List ℕ) (reader : Reader) (first : Bool) (x : Slice) (left : List ℤ) (store : List ℕ) : Type 0 where
-  pub reads : Reads s reader x left
-  pub held : Held g store
+pub record IncrementInvariant (g : Context) (s : List ℕ) (reader : Reader) (first : Bool) (x : Slice) (left : List ℤ) (store : List ℕ) : Type 0 where
+  pub reads : ReadInvariant s reader x left
+  pub storeFits : StoreFits g store
   pub begins : first ≡ true → leZ (x .«macroblock_address») (pos 44543) ≡ true
   pub later : first ≡ false → leZ (pos (g .sizes .«mb_size»)) (x .«macroblock_address» +ℤ pos 1) ≡ false
 
 -- the macroblock after the next n leaves, or goes on, as the state and the number say, whatever coefficients are left over
-pub record Advances (g : Context) (n : ℕ) (x : Slice) (store : List ℕ) (y : Slice) (stop : ℕ) (store₁ : List ℕ) : Type 0 where
-  pub is : (left : List ℤ) → advance g n (world x left store) ≡ way stop (world y left store₁) store₁
+pub record RefinesAdvance (g : Context) (n : ℕ) (x : Slice) (store : List ℕ) (y : Slice) (stop : ℕ) (store₁ : List ℕ) : Type 0 where
+  pub is : (left : List ℤ) → advance g n (sliceState x left store) ≡ resultOf stop (sliceState y left store₁) store₁
   pub possible : PossibleSlice x → PossibleSlice y
-  pub here : stop ≡ 0 → leZ (pos (g .sizes .«mb_size»)) (x .«macroblock_address» +ℤ pos 1) ≡ false → Here g (y .«macroblock_address»)
+  pub here : stop ≡ 0 → leZ (pos (g .sizes .«mb_size»)) (x .«macroblock_address» +ℤ pos 1) ≡ false → AddressInPicture g (y .«macroblock_address»)

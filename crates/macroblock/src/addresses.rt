@@ -7,11 +7,11 @@ ghost use Prim.Native.Nat.{_≤_};
 ghost use lib.IntN.{pos, _+ℤ_};
 ghost use lib.Signed.{ltZ, leZ};
 ghost use Rattle.picture_state.specs.State.{addressAs};
-ghost use Rattle.macroblock.specs.Contracts.{Reaches, Adds};
+ghost use Rattle.macroblock.specs.Contracts.{AddressReaches, AddressAdds};
 
 // On by n.
-pub fn further(mut state: Slice, n: usize) -> Slice
-    requires { ⌜ Reaches (state .«macroblock_address») n ⌝ }
+pub fn address_plus(mut state: Slice, n: usize) -> Slice
+    requires { ⌜ AddressReaches (state .«macroblock_address») n ⌝ }
     ensures { λ r. ⌜ r ≡ addressAs (state .«macroblock_address» +ℤ pos n) state ⌝ }
 {
     let address = state.macroblock_address + n as i32;
@@ -20,7 +20,7 @@ pub fn further(mut state: Slice, n: usize) -> Slice
 }
 
 // RULES 7.8: no macroblock has the address.
-pub fn nowhere(g: Context, address: i32) -> bool
+pub fn is_outside(g: Context, address: i32) -> bool
     requires { ⌜ g .sizes .«mb_size» ≤ 65536 ⌝ }
     ensures { λ r. ⌜ r ≡ (ltZ address (pos 0) || leZ (pos (g .sizes .«mb_size»)) address) ⌝ }
 {
@@ -33,7 +33,7 @@ pub fn nowhere(g: Context, address: i32) -> bool
 // RULES 7.9, 7.6: n more leads past the last macroblock.
 pub fn past(g: Context, address: i32, n: usize) -> bool
     requires { ⌜ g .sizes .«mb_size» ≤ 65536 ⌝ }
-    requires { ⌜ Adds address n ⌝ }
+    requires { ⌜ AddressAdds address n ⌝ }
     ensures { λ r. ⌜ r ≡ leZ (pos (g .sizes .«mb_size»)) (address +ℤ pos n) ⌝ }
 {
     g.sizes.mb_size as i32 <= address + n as i32

@@ -15,16 +15,16 @@ use prediction::predict::Predicted;
 ghost use Rattle.codes.specs.Lent.{Lent};
 ghost use Rattle.macroblock.specs.Macroblocks.{predictUnlessIntra, body};
 ghost use Rattle.picture_state.specs.Possible.{PossibleSlice};
-ghost use Rattle.picture_state.specs.State.{world};
-ghost use Rattle.picture_state.specs.Contracts.{matricesIn, Held, Here, Ready, Went};
-ghost use Rattle.macroblock_head.specs.Contracts.{Foretold};
+ghost use Rattle.picture_state.specs.State.{sliceState};
+ghost use Rattle.picture_state.specs.Contracts.{matricesIn, StoreFits, AddressInPicture, MacroblockInvariant, RefinesAtMacroblock};
+ghost use Rattle.macroblock_head.specs.Contracts.{RefinesPrediction};
 
 // RULES 7.14: prediction, unless intra.
 fn predict_unless_intra(store: &mut [u8], g: Context, t: u32, state: Slice) -> Predicted
-    requires { ⌜ Held g (now store) ⌝ }
-    requires { ⌜ Here g (state .«macroblock_address») ⌝ }
+    requires { ⌜ StoreFits g (now store) ⌝ }
+    requires { ⌜ AddressInPicture g (state .«macroblock_address») ⌝ }
     requires { ⌜ PossibleSlice state ⌝ }
-    ensures { λ r. ⌜ Foretold (predictUnlessIntra g t state (now (store .entry))) r (now (store .exit)) ⌝ }
+    ensures { λ r. ⌜ RefinesPrediction (predictUnlessIntra g t state (now (store .entry))) r (now (store .exit)) ⌝ }
 {
     if flag(t, 1) {
         return Predicted::Done;
@@ -43,10 +43,10 @@ pub fn body(
     g: Context,
     before: Slice,
 ) -> Progress
-    requires { ⌜ Ready g (now s) reader before (now values) (now store) ⌝ }
+    requires { ⌜ MacroblockInvariant g (now s) reader before (now values) (now store) ⌝ }
     requires { ⌜ Lent (now tables) ⌝ }
     ensures { λ r. ⌜
-        Went (body g (matricesIn (now (tables .entry))) (world before (now (values .entry)) (now (store .entry))))
+        RefinesAtMacroblock (body g (matricesIn (now (tables .entry))) (sliceState before (now (values .entry)) (now (store .entry))))
         g (now (s .entry)) reader r (now (values .exit)) (now (store .exit))
         ⌝ }
 {

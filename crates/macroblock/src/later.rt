@@ -1,5 +1,5 @@
 // RULES 7.9, 7.11: on to a later macroblock.
-use crate::addresses::further;
+use crate::addresses::address_plus;
 use macroblock_head::heads::reset;
 use macroblock_head::heads::zeroed;
 use macroblock_head::predictions::predict_skipped;
@@ -12,8 +12,8 @@ ghost use lib.IntN.{pos, _+ℤ_};
 ghost use lib.Signed.{leZ};
 ghost use Rattle.picture_state.specs.Possible.{PossibleSlice};
 ghost use Rattle.macroblock.specs.Macroblocks.{skipReset};
-ghost use Rattle.picture_state.specs.Contracts.{Held};
-ghost use Rattle.macroblock.specs.Contracts.{Advances};
+ghost use Rattle.picture_state.specs.Contracts.{StoreFits};
+ghost use Rattle.macroblock.specs.Contracts.{RefinesAdvance};
 
 pub struct Advanced {
     pub state: Slice,
@@ -36,12 +36,12 @@ fn skip_reset(g: Context, before: Slice) -> Slice
 
 // On by n, or by 1 where n is 0; the macroblocks between are skipped.
 pub fn advance(store: &mut [u8], g: Context, n: usize, state: Slice) -> Advanced
-    requires { ⌜ Held g (now store) ⌝ }
+    requires { ⌜ StoreFits g (now store) ⌝ }
     requires { ⌜ PossibleSlice state ⌝ }
     requires { ⌜ leZ (pos (g .sizes .«mb_size»)) (state .«macroblock_address» +ℤ pos n) ≡ false ⌝ }
-    ensures { λ r. ⌜ Advances g n state (now (store .entry)) (r .state) (r .stop) (now (store .exit)) ⌝ }
+    ensures { λ r. ⌜ RefinesAdvance g n state (now (store .entry)) (r .state) (r .stop) (now (store .exit)) ⌝ }
 {
-    let next = further(state, 1);
+    let next = address_plus(state, 1);
     if n < 2 {
         return Advanced {
             state: next,
@@ -56,7 +56,7 @@ pub fn advance(store: &mut [u8], g: Context, n: usize, state: Slice) -> Advanced
             stop: 9,
         };
     };
-    let here = further(skipped, n);
+    let here = address_plus(skipped, n);
     Advanced {
         state: here,
         stop: 0,

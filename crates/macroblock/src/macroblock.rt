@@ -3,21 +3,21 @@ use crate::body::body;
 use crate::later::advance;
 use bits::reader::Reader;
 use codes::lent::Tables;
-use crate::addresses::further;
-use crate::addresses::nowhere;
+use crate::addresses::address_plus;
+use crate::addresses::is_outside;
 use crate::addresses::past;
 use macroblock_head::increments::read_increment;
 use picture_state::types::Context;
 use picture_state::types::Progress;
 use picture_state::types::Slice;
 ghost use Rattle.codes.specs.Lent.{Lent};
-ghost use Rattle.macroblock.specs.Macroblocks.{firstOf, laterOf, macroblock};
-ghost use Rattle.picture_state.specs.State.{world};
-ghost use Rattle.picture_state.specs.Contracts.{matricesIn, Passed};
-ghost use Rattle.macroblock.specs.Contracts.{Begun, Between, Awaits};
+ghost use Rattle.macroblock.specs.Macroblocks.{firstMacroblock, laterMacroblock, macroblock};
+ghost use Rattle.picture_state.specs.State.{sliceState};
+ghost use Rattle.picture_state.specs.Contracts.{matricesIn, RefinesInSlice};
+ghost use Rattle.macroblock.specs.Contracts.{AdvanceInvariant, LaterInvariant, IncrementInvariant};
 
 // RULES 7.8, 7.12: the first macroblock of a slice, n from the address before it.
-fn first_of(
+fn first_macroblock(
     s: &[u8],
     reader: Reader,
     store: &mut [u8],
@@ -27,15 +27,15 @@ fn first_of(
     n: usize,
     state: Slice,
 ) -> Progress
-    requires { ⌜ Begun g (now s) reader state n (now values) (now store) ⌝ }
+    requires { ⌜ AdvanceInvariant g (now s) reader state n (now values) (now store) ⌝ }
     requires { ⌜ Lent (now tables) ⌝ }
     ensures { λ r. ⌜
-        Passed (firstOf g (matricesIn (now (tables .entry))) n (world state (now (values .entry)) (now (store .entry))))
+        RefinesInSlice (firstMacroblock g (matricesIn (now (tables .entry))) n (sliceState state (now (values .entry)) (now (store .entry))))
         g (now (s .entry)) reader r (now (values .exit)) (now (store .exit))
         ⌝ }
 {
-    let here = further(state, n);
-    if nowhere(g, here.macroblock_address) {
+    let here = address_plus(state, n);
+    if is_outside(g, here.macroblock_address) {
         return Progress {
             reader,
             state: here,
@@ -46,7 +46,7 @@ fn first_of(
 }
 
 // RULES 7.9 to 7.11: a later one.
-fn later_of(
+fn later_macroblock(
     s: &[u8],
     reader: Reader,
     store: &mut [u8],
@@ -56,10 +56,10 @@ fn later_of(
     n: usize,
     state: Slice,
 ) -> Progress
-    requires { ⌜ Between g (now s) reader state n (now values) (now store) ⌝ }
+    requires { ⌜ LaterInvariant g (now s) reader state n (now values) (now store) ⌝ }
     requires { ⌜ Lent (now tables) ⌝ }
     ensures { λ r. ⌜
-        Passed (laterOf g (matricesIn (now (tables .entry))) n (world state (now (values .entry)) (now (store .entry))))
+        RefinesInSlice (laterMacroblock g (matricesIn (now (tables .entry))) n (sliceState state (now (values .entry)) (now (store .entry))))
         g (now (s .entry)) reader r (now (values .exit)) (now (store .exit))
         ⌝ }
 {
@@ -94,10 +94,10 @@ pub fn macroblock(
     first: bool,
     state: Slice,
 ) -> Progress
-    requires { ⌜ Awaits g (now s) reader first state (now values) (now store) ⌝ }
+    requires { ⌜ IncrementInvariant g (now s) reader first state (now values) (now store) ⌝ }
     requires { ⌜ Lent (now tables) ⌝ }
     ensures { λ r. ⌜
-        Passed (macroblock g (matricesIn (now (tables .entry))) first (world state (now (values .entry)) (now (store .entry))))
+        RefinesInSlice (macroblock g (matricesIn (now (tables .entry))) first (sliceState state (now (values .entry)) (now (store .entry))))
         g (now (s .entry)) reader r (now (values .exit)) (now (store .exit))
         ⌝ }
 {
@@ -105,7 +105,7 @@ pub fn macroblock(
     let after = n.reader;
     let sum = n.sum;
     if first {
-        return first_of(s, after, store, values, tables, g, sum, state);
+        return first_macroblock(s, after, store, values, tables, g, sum, state);
     }
-    later_of(s, after, store, values, tables, g, sum, state)
+    later_macroblock(s, after, store, values, tables, g, sum, state)
 }

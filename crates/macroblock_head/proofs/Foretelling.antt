@@ -15,24 +15,24 @@ use Rattle.bits.proofs.Rules.{and-yes, and-no}
 use Rattle.prediction.specs.declared.predict.Predicted.{Predicted}
 use Rattle.prediction.specs.declared.predict.Predicted.the-variants.{Done, Refused}
 use Rattle.prediction.specs.Planes.{After, predictedPlanes}
-use Rattle.prediction.specs.declared.place.Macroblock.{Macroblock}
+use Rattle.prediction.specs.declared.position.Macroblock.{Macroblock}
 use Rattle.prediction.specs.Predict.{macroblockAt, inHalves}
 use Rattle.picture_state.specs.declared.types.Motion.{Motion}
 use Rattle.picture_state.specs.declared.types.Context.{Context}
 use Rattle.picture_state.specs.declared.types.Slice.{Slice}
-use Rattle.picture_state.specs.Ways.{Way, on, out, also}
+use Rattle.picture_state.specs.Result.{Result, ok, error, andThen}
 use Rattle.macroblock_head.specs.Predictions.{unlessRefused, predictFrom, predictBoth, predict}
-use Rattle.macroblock_head.specs.Contracts.{answered, Foretold}
+use Rattle.macroblock_head.specs.Contracts.{predictionResult, RefinesPrediction}
 
 -- a component in half samples, as the code reads it
 pub still-small : (z : ℤ) → natAbs z ≤ 2048 → natAbs (toZ w32 (ofZ w32 z)) ≤ 2048
 still-small z h = rw (rd w32 (num {s = z} h) tt .is) h
 
-pub foretold : (o : After) {r : Predicted} {store : List ℕ} → r ≡ o .answer → store ≡ o .store → Foretold (unlessRefused o) r store
+pub foretold : (o : After) {r : Predicted} {store : List ℕ} → r ≡ o .answer → store ≡ o .store → RefinesPrediction (unlessRefused o) r store
 unfolding unlessRefused
 foretold o p q = rw (p, q) (record { is = go (o .answer) })
   where
-    go : (a : Predicted) → (elim a as (λ x. Way (List ℕ)) [ Done ↦ on (o .store) | Refused ↦ out 9 (o .store) ]) ≡ answered a (o .store)
+    go : (a : Predicted) → (elim a as (λ x. Result (List ℕ)) [ Done ↦ ok (o .store) | Refused ↦ error 9 (o .store) ]) ≡ predictionResult a (o .store)
     go Done = refl
     go Refused = refl
 
@@ -41,32 +41,32 @@ pub from-planes : (g : Context) (address k : ℕ) (m : Motion) (interpolate : Bo
     → place ≡ macroblockAt (g .sizes .«mb_width») (g .sizes .«mb_height») address
     → h ≡ inHalves (m .«full_px») (m .h) → v ≡ inHalves (m .«full_px») (m .v)
     → let o = predictedPlanes place k (g .stores .cur) h v interpolate l in (r ≡ o .answer) × (l₁ ≡ o .store)
-    → Foretold (predictFrom g address k m interpolate l) r l₁
+    → RefinesPrediction (predictFrom g address k m interpolate l) r l₁
 unfolding predictFrom
 from-planes g address k m interpolate l p eh ev q = let o = rw (p, eh, ev) at q in foretold _ (o .0) (o .1)
 
 module _ (g : Context) (address : ℕ) (x : Slice) (l : List ℕ) where
   abbrev Forward : Predicted → List ℕ → Type 0
-  Forward = Foretold (predictFrom g address (g .stores .fwd) (x .«motion_forward») false l)
+  Forward = RefinesPrediction (predictFrom g address (g .stores .fwd) (x .«motion_forward») false l)
 
   abbrev Both : Predicted → List ℕ → Type 0
-  Both = Foretold (predictBoth g address x l)
+  Both = RefinesPrediction (predictBoth g address x l)
 
   abbrev Any : Predicted → List ℕ → Type 0
-  Any = Foretold (predict g address x l)
+  Any = RefinesPrediction (predict g address x l)
 
   module _ {l₁ : List ℕ} {r : Predicted} (h : Forward r l₁) where
     pub both-refused : r ≡ Refused → Both Refused l₁
-    unfolding predictBoth also
+    unfolding predictBoth andThen
     both-refused e = record { is = rw (h .is, e) }
 
     pub both-forward : r ≡ Done → x .«motion_backward» .«is_set» ≡ false → Both Done l₁
-    unfolding predictBoth also
+    unfolding predictBoth andThen
     both-forward e b = record { is = rw (h .is, e) (if-no _ b refl) }
 
     pub both-both : r ≡ Done → x .«motion_backward» .«is_set» ≡ true → {l₂ : List ℕ} {q : Predicted}
-        → Foretold (predictFrom g address (g .stores .bwd) (x .«motion_backward») true l₁) q l₂ → Both q l₂
-    unfolding predictBoth also
+        → RefinesPrediction (predictFrom g address (g .stores .bwd) (x .«motion_backward») true l₁) q l₂ → Both q l₂
+    unfolding predictBoth andThen
     both-both e b k = record { is = rw (h .is, e) (if-yes _ b (k .is)) }
 
     pub predict-forward : (g .«picture_type» ≡ 3 → ⊥) → Any r l₁
@@ -83,7 +83,7 @@ module _ (g : Context) (address : ℕ) (x : Slice) (l : List ℕ) where
         record { is = if-yes _ (and-yes (eqb (g .«picture_type») 3) (x .«motion_forward» .«is_set») e f) (h .is) }
 
     pub predict-backward : x .«motion_forward» .«is_set» ≡ false
-        → Foretold (predictFrom g address (g .stores .bwd) (x .«motion_backward») false l) r l₁ → Any r l₁
+        → RefinesPrediction (predictFrom g address (g .stores .bwd) (x .«motion_backward») false l) r l₁ → Any r l₁
     unfolding predict
     predict-backward f h =
         let e = eq-eqb (g .«picture_type») 3 t in

@@ -22,7 +22,7 @@ use Rattle.picture_state.specs.declared.types.Slice.{Slice}
 use Rattle.picture_state.specs.Possible.{PossibleMotion, PossibleSlice}
 use Rattle.picture_state.specs.State.{zeroed, vectorAs, dcReset}
 use Rattle.picture_state.specs.Flags.{isIntra}
-use Rattle.macroblock_head.specs.Heads.{scale, vector, forward, vectors, flagged, still, head}
+use Rattle.macroblock_head.specs.Heads.{scale, vector, forward, vectors, flagged, vectorsReset, head}
 use Rattle.macroblock_head.proofs.Kept.{flagged-kept, scale-gives}
 
 -- ---- components
@@ -60,7 +60,7 @@ module _ (t : ℕ) (x : Slice) {f q : Slice} {s : List ℕ} {from to : Reader} (
   pub scaled-possible : PossibleSlice x → PossibleSlice q
   scaled-possible k = given-by (scale-gives t (flagged-kept k t)) (rw is at (l .runs))
 
-  pub head-still : (type : ℕ) {y : Slice} → isIntra t ≡ true → y ≡ still q → Reading (head type t x) s from y to
+  pub head-still : (type : ℕ) {y : Slice} → isIntra t ≡ true → y ≡ vectorsReset q → Reading (head type t x) s from y to
   unfolding head
   head-still type e w = rw w (record { runs = r-call _ (rw is at (l .runs)) (r-yes _ e r-done); inside = l .inside })
 

@@ -12,7 +12,7 @@ use lib.Dec.{T, eqb, eqb→eq}
 use lib.IntN.{pos}
 use lib.ListN.{length, getD, List·getD-eq-default}
 use mir.Facts.{and-yes}
-use Rattle.laws.specs.Turns.{Turn}
+use Rattle.laws.specs.Loops.{Step}
 use Rattle.laws.proofs.Tables.{every, at}
 use Rattle.bits.specs.Programs.{Out, Prog, done, run, many}
 use Rattle.bits.proofs.Rules.{at-run}
@@ -25,7 +25,7 @@ use Rattle.codes.specs.Tables.{macroblockAddressIncrementIndex, macroblockAddre
 use Rattle.codes.specs.Walk.{walk, vlc}
 use Rattle.codes.proofs.Standard.{agrees-macroblock-address-increment}
 use Rattle.codes.proofs.Values.{increment-most as code-most}
-use Rattle.macroblock_head.specs.Increments.{incrementTurn, increment}
+use Rattle.macroblock_head.specs.Increments.{incrementStep, increment}
 
 -- the escape is one code, of 11 bits
 rows-pass : (p : Code ℕ → Bool) (codes : List (Code ℕ)) → T (every (λ k. p) 0 codes) → (c : Code ℕ) → c ∈ codes → T (p c)
@@ -44,9 +44,9 @@ escape-bits c m e =
     eqb→eq (c .bits) 11 (rw (eq-eqb (c .value) 35 e) at t)
 
 -- and has one entry of the table
-escape-place : (k : ℕ) → getD macroblockAddressIncrementValue k 0 ≡ 35 → k ≡ 64
+escape-position : (k : ℕ) → getD macroblockAddressIncrementValue k 0 ≡ 35 → k ≡ 64
 unfolding macroblockAddressIncrementValue
-escape-place k e = go (decLt k (length macroblockAddressIncrementValue))
+escape-position k e = go (decLt k (length macroblockAddressIncrementValue))
   where
     go : Dec (k < length macroblockAddressIncrementValue) → k ≡ 64
     go (yes h) =
@@ -92,7 +92,7 @@ module _ (s : List ℕ) (a : ℕ) where
       let r = run-bind (walk macroblockAddressIncrementIndex) (λ k. done (getD macroblockAddressIncrementValue k 0)) s a in
       let v : getD macroblockAddressIncrementValue k 0 ≡ 35 = sym (ap (λ (o : Out ℕ). o .value) r) ∙ e in
       let o = agrees-macroblock-address-increment .only s a k (run (walk macroblockAddressIncrementIndex) s a .at) at-run
-      (escape-ends k (escape-place k v)) in
+      (escape-ends k (escape-position k v)) in
       ap (λ (o : Out ℕ). o .at) r ∙ sym (o .4) ∙ ap (taken s a) (escape-bits (o .0) (o .1) (o .3 ∙ v))
 
 -- the sum so far, at the place a
@@ -113,13 +113,13 @@ module _ (s : List ℕ) (sum a : ℕ) (i : Sum s sum a) where
       go (yes h) = omega (arith, i .before h, code-small s a)
       go (no h) = omega (arith, i .most, code-idle s a (omega arith))
 
-pub turn-sum : (s : List ℕ) (sum a : ℕ) → Sum s sum a → Leaves (Sum s) (λ n. n ≤ 24 * length s + 33) (run (incrementTurn sum) s a .value)
-    (run (incrementTurn sum) s a .at)
-unfolding incrementTurn run
-turn-sum s sum a i =
+pub step-sum : (s : List ℕ) (sum a : ℕ) → Sum s sum a → Leaves (Sum s) (λ n. n ≤ 24 * length s + 33) (run (incrementStep sum) s a .value)
+    (run (incrementStep sum) s a .at)
+unfolding incrementStep run
+step-sum s sum a i =
     let c = run macroblockAddressIncrement s a .value in
     let e = run macroblockAddressIncrement s a .at in
-    let Ends : Prog (Turn ℕ ℕ) → Type 0 = λ p. Leaves (Sum s) (λ n. n ≤ 24 * length s + 33) (run p s e .value) (run p s e .at) in
+    let Ends : Prog (Step ℕ ℕ) → Type 0 = λ p. Leaves (Sum s) (λ n. n ≤ 24 * length s + 33) (run p s e .value) (run p s e .at) in
     rw (run-bind macroblockAddressIncrement _ s a)
     (by-case Ends (eqb c 34 && eqb sum 0) (λ q. record { before = λ h. omega arith; most = omega arith }) (λ q.
     by-case Ends (eqb c 35) (λ q. escape-on s sum a i (eqb-true c 35 q)) (λ q. last-most s sum a i)))
@@ -128,6 +128,6 @@ pub increment-most : (s : List ℕ) → Gives s (λ n. n ≤ 24 * length s + 33)
 unfolding increment
 increment-most s =
     record {
-      value = λ a. loop-value s (Sum s) (λ n. n ≤ 24 * length s + 33) incrementTurn 0 (turn-sum s) (omega arith) many 0 a
+      value = λ a. loop-value s (Sum s) (λ n. n ≤ 24 * length s + 33) incrementStep 0 (step-sum s) (omega arith) many 0 a
           (record { before = λ h. omega arith; most = omega arith });
     }

@@ -8,12 +8,12 @@ use Rattle.motion.proofs.OneStep.{component-in}
 use Rattle.picture_state.specs.declared.types.Motion.{Motion}
 use Rattle.picture_state.specs.declared.types.Slice.{Slice}
 use Rattle.picture_state.specs.Flags.{flag, isIntra}
-use Rattle.macroblock_head.specs.Heads.{scale, vector, forward, backward, vectors, flagged, still, head}
+use Rattle.macroblock_head.specs.Heads.{scale, vector, forward, backward, vectors, flagged, vectorsReset, head}
 use Rattle.picture_state.specs.Possible.{PossibleMotion, PossibleSlice}
 use Rattle.picture_state.proofs.Kept.{zeroed-kept, set-kept, scale-kept, motions-kept, reset-kept}
 
 module _ {s : Slice} (k : PossibleSlice s) where
-  pub still-kept : PossibleSlice (still s)
+  pub still-kept : PossibleSlice (vectorsReset s)
   still-kept = motions-kept k (zeroed-kept (k .forward)) (zeroed-kept (k .backward))
 
   pub flagged-kept : (t : ℕ) → PossibleSlice (flagged t s)
@@ -34,9 +34,9 @@ module _ {s : List ℕ} where
   unfolding backward
   backward-gives {m} k = g-if (m .«is_set») (λ e. vector-gives k) (λ e. g-done k)
 
-  pub vectors-give : (type : ℕ) {x : Slice} → PossibleSlice x → Gives s PossibleSlice (vectors type x)
+  pub vectors-pure : (type : ℕ) {x : Slice} → PossibleSlice x → Gives s PossibleSlice (vectors type x)
   unfolding vectors
-  vectors-give type k = g-bind _ (forward-gives type (k .forward)) (λ f i. g-bind _ (backward-gives (k .backward)) (λ b j. g-done (motions-kept k i j)))
+  vectors-pure type k = g-bind _ (forward-gives type (k .forward)) (λ f i. g-bind _ (backward-gives (k .backward)) (λ b j. g-done (motions-kept k i j)))
 
   pub scale-gives : (t : ℕ) {x : Slice} → PossibleSlice x → Gives s PossibleSlice (scale t x)
   unfolding scale
@@ -45,4 +45,4 @@ module _ {s : List ℕ} where
   pub head-gives : (type t : ℕ) {x : Slice} → PossibleSlice x → Gives s PossibleSlice (head type t x)
   unfolding head
   head-gives type t k =
-      g-bind _ (scale-gives t (flagged-kept k t)) (λ q i. g-if (isIntra t) (λ e. g-done (still-kept i)) (λ e. vectors-give type (reset-kept i)))
+      g-bind _ (scale-gives t (flagged-kept k t)) (λ q i. g-if (isIntra t) (λ e. g-done (still-kept i)) (λ e. vectors-pure type (reset-kept i)))

@@ -7,20 +7,20 @@ use lib.IntN.{ℤ}
 use lib.ListN.{length}
 use borrow.Rule.Slice.PartMut.{midOf, same-len-mid}
 use Rattle.laws.proofs.Lists.{length-rows}
-use Rattle.prediction.specs.declared.place.Macroblock.{Macroblock}
-use Rattle.prediction.specs.declared.place.Place.{Place}
-use Rattle.prediction.specs.declared.place.Fetch.{Fetch}
-use Rattle.prediction.specs.declared.place.Fetch.the-variants.{Alone, Past, Copied}
+use Rattle.prediction.specs.declared.position.Macroblock.{Macroblock}
+use Rattle.prediction.specs.declared.position.BlockPosition.{BlockPosition}
+use Rattle.prediction.specs.declared.position.Fetch.{Fetch}
+use Rattle.prediction.specs.declared.position.Fetch.the-variants.{Alone, Past, Copied}
 use Rattle.prediction.specs.declared.predict.Predicted.{Predicted}
 use Rattle.prediction.specs.declared.predict.Predicted.the-variants.{Done, Refused}
 use Rattle.prediction.specs.Predict.{bytes, fetch, predicted, address, width}
-use Rattle.prediction.specs.Planes.{After, follow, inPlane, next, predictedPlanes}
+use Rattle.prediction.specs.Planes.{After, follow, inPlane, thenPlane, predictedPlanes}
 
-predicted-length : (p : Place) (x d : List ℕ) (h v : ℤ) (interpolate : Bool) (from : ℕ) → length (predicted p x d h v interpolate from) ≡ length d
+predicted-length : (p : BlockPosition) (x d : List ℕ) (h v : ℤ) (interpolate : Bool) (from : ℕ) → length (predicted p x d h v interpolate from) ≡ length d
 unfolding predicted
 predicted-length p x d h v interpolate from = length-rows d (address p) (width p) (p .size) _ (p .size)
 
-follow-length : (w : Fetch) (p : Place) (from to : ℕ) (h v : ℤ) (interpolate : Bool) (l : List ℕ)
+follow-length : (w : Fetch) (p : BlockPosition) (from to : ℕ) (h v : ℤ) (interpolate : Bool) (l : List ℕ)
     → length (follow w p from to h v interpolate l .store) ≡ length l
 unfolding follow
 follow-length Alone p from to h v interpolate l = refl
@@ -31,8 +31,8 @@ follow-length (Copied a) p from to h v interpolate l =
     same-len-mid to (bytes p) l (predicted p source before h v interpolate a) (predicted-length p source before h v interpolate a)
 
 next-length : {n : ℕ} (o : After) (f : List ℕ → After) → length (o .store) ≡ n
-    → ((l : List ℕ) → length l ≡ n → length (f l .store) ≡ n) → length (next o f .store) ≡ n
-unfolding next
+    → ((l : List ℕ) → length l ≡ n → length (f l .store) ≡ n) → length (thenPlane o f .store) ≡ n
+unfolding thenPlane
 next-length {n} o f e k = go (o .answer)
   where
     go : (a : Predicted) → length ((elim a as (λ x. After) [ Done ↦ f (o .store) | Refused ↦ o ]) .store) ≡ n
@@ -45,5 +45,5 @@ unfolding predictedPlanes
 planes-length m from to h v interpolate l =
     next-length _ _ (plane _ _ _ _ _ l) (λ l₁ e₁. next-length _ _ (plane _ _ _ _ _ l₁ ∙ e₁) (λ l₂ e₂. plane _ _ _ _ _ l₂ ∙ e₂))
   where
-    plane : (p : Place) (from to : ℕ) (h v : ℤ) (l : List ℕ) → length (inPlane p from to h v interpolate l .store) ≡ length l
+    plane : (p : BlockPosition) (from to : ℕ) (h v : ℤ) (l : List ℕ) → length (inPlane p from to h v interpolate l .store) ≡ length l
     plane p from to h v l = follow-length (fetch p h v) p from to h v interpolate l

@@ -6,11 +6,11 @@ use native.Mathlib.Omega.{arith}
 use lib.ListN.{length}
 use Rattle.prediction.specs.declared.predict.Predicted.{Predicted}
 use Rattle.prediction.specs.declared.predict.Predicted.the-variants.{Done, Refused}
-use Rattle.picture_state.specs.Ways.{also}
+use Rattle.picture_state.specs.Result.{andThen}
 use Rattle.macroblock_head.specs.Predictions.{predict, predictSkipped}
 use Rattle.picture_state.specs.declared.types.Context.{Context}
 use Rattle.picture_state.specs.declared.types.Slice.{Slice}
-use Rattle.macroblock_head.specs.Contracts.{Foretold}
+use Rattle.macroblock_head.specs.Contracts.{RefinesPrediction}
 
 -- before the macroblock k of the n that are skipped from this address on
 pub record AtSkip (g : Context) (x : Slice) (address n : ℕ) (l₀ l : List ℕ) (k : ℕ) : Type 0 where
@@ -25,17 +25,17 @@ at-skip {g} {x} {address} {n} {l} =
     record { few = omega arith; long = refl; rest = rw (a, m) }
 
 module _ {g : Context} {x : Slice} {address n : ℕ} {l₀ l : List ℕ} {k : ℕ} (i : AtSkip g x address n l₀ l k) where
-  pub skip-end : n ≤ k → Foretold (predictSkipped g x address n l₀) Done l
+  pub skip-end : n ≤ k → RefinesPrediction (predictSkipped g x address n l₀) Done l
   unfolding predictSkipped
   skip-end h = let e : n - k ≡ 0 = omega arith in record { is = rw e at (i .rest) }
 
-  module _ (h : k < n) {r : Predicted} {l₁ : List ℕ} (t : Foretold (predict g (address + k) x l) r l₁) where
-    pub skip-refused : r ≡ Refused → Foretold (predictSkipped g x address n l₀) Refused l₁
-    unfolding predictSkipped also
+  module _ (h : k < n) {r : Predicted} {l₁ : List ℕ} (t : RefinesPrediction (predict g (address + k) x l) r l₁) where
+    pub skip-refused : r ≡ Refused → RefinesPrediction (predictSkipped g x address n l₀) Refused l₁
+    unfolding predictSkipped andThen
     skip-refused e = let m : n - k ≡ suc (n - (k + 1)) = omega arith in record { is = rw (m, t .is, e) at (i .rest) }
 
     pub skip-on : r ≡ Done → length l₁ ≡ length l → AtSkip g x address n l₀ l₁ (k + 1)
-    unfolding predictSkipped also
+    unfolding predictSkipped andThen
     skip-on e q =
         let m : n - k ≡ suc (n - (k + 1)) = omega arith in
         let a : address + (k + 1) ≡ address + k + 1 = omega arith in

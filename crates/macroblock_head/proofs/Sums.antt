@@ -7,49 +7,49 @@ use Prim.Native.Nat.{ℕ, _+_, _≤_, _<_}
 use native.Mathlib.Omega.{arith}
 use borrow.Author.Tests.{eq-eqb, ne-eqb}
 use lib.Dec.{eqb}
-use Rattle.laws.specs.Turns.{Turn, again, stop}
+use Rattle.laws.specs.Loops.{Step, continue, finish}
 use Rattle.bits.specs.declared.reader.Reader.{Reader}
 use Rattle.bits.specs.Programs.{many}
-use Rattle.bits.specs.Runs.{Inside, Reading, placeOf, bitsLeft}
+use Rattle.bits.specs.Runs.{Inside, Reading, positionOf, bitsLeft}
 use Rattle.bits.proofs.Rules.{Loops, loop-start, loop-on, loop-end, takes-less, r-call, r-yes, r-no, r-done, and-yes, and-no}
 use Rattle.codes.specs.Codes.{macroblockAddressIncrement}
-use Rattle.macroblock_head.specs.Increments.{incrementTurn, increment}
-use Rattle.macroblock_head.specs.Contracts.{turnOf}
-use Rattle.macroblock_head.proofs.IncrementBound.{Sum, turn-sum}
+use Rattle.macroblock_head.specs.Increments.{incrementStep, increment}
+use Rattle.macroblock_head.specs.Contracts.{stepOf}
+use Rattle.macroblock_head.proofs.IncrementBound.{Sum, step-sum}
 use Rattle.macroblock_head.proofs.Fuel.{increment-takes}
 
 -- ---- a turn with the code n
 
 module _ {s : List ℕ} {from to : Reader} {n : ℕ} (sum : ℕ) (r : Reading macroblockAddressIncrement s from n to) where
-  abbrev Turns : Turn ℕ ℕ → Type 0
-  Turns t = Reading (incrementTurn sum) s from t to
+  abbrev Turns : Step ℕ ℕ → Type 0
+  Turns t = Reading (incrementStep sum) s from t to
 
-  pub escape : n ≡ 35 → Turns (again (sum + 33))
-  unfolding incrementTurn
+  pub escape : n ≡ 35 → Turns (continue (sum + 33))
+  unfolding incrementStep
   escape h =
       record {
         runs = r-call _ (r .runs) (r-no _ (and-no (eqb n 34) (eqb sum 0) (inl (ne-eqb n 34 (λ k. omega arith)))) (r-yes _ (eq-eqb n 35 h) r-done));
         inside = r .inside;
       }
 
-  pub last : (n ≡ 35 → ⊥) → (n ≡ 34 → ⊥) → Turns (stop (sum + n))
-  unfolding incrementTurn
+  pub last : (n ≡ 35 → ⊥) → (n ≡ 34 → ⊥) → Turns (finish (sum + n))
+  unfolding incrementStep
   last h k =
       record {
         runs = r-call _ (r .runs) (r-no _ (and-no (eqb n 34) (eqb sum 0) (inl (ne-eqb n 34 k))) (r-no _ (ne-eqb n 35 h) r-done));
         inside = r .inside;
       }
 
-  pub stuffing : n ≡ 34 → sum ≡ 0 → Turns (again 0)
-  unfolding incrementTurn
+  pub stuffing : n ≡ 34 → sum ≡ 0 → Turns (continue 0)
+  unfolding incrementStep
   stuffing h k =
       record {
         runs = r-call _ (r .runs) (r-yes _ (and-yes (eqb n 34) (eqb sum 0) (eq-eqb n 34 h) (eq-eqb sum 0 k)) r-done);
         inside = r .inside;
       }
 
-  pub last-34 : n ≡ 34 → (sum ≡ 0 → ⊥) → Turns (stop (sum + n))
-  unfolding incrementTurn
+  pub last-34 : n ≡ 34 → (sum ≡ 0 → ⊥) → Turns (finish (sum + n))
+  unfolding incrementStep
   last-34 h k =
       record {
         runs = r-call _ (r .runs)
@@ -62,8 +62,8 @@ module _ {s : List ℕ} {from to : Reader} {n : ℕ} (sum : ℕ) (r : Reading ma
 -- before a code, at `from`, with the sum so far
 pub record AtCode (s : List ℕ) (from₀ from : Reader) (sum : ℕ) : Type 0 where
   pub inside : Inside s from
-  pub small : Sum s sum (placeOf from)
-  pub rest : Loops many incrementTurn 0 0 s from₀ sum from (bitsLeft s from)
+  pub small : Sum s sum (positionOf from)
+  pub rest : Loops many incrementStep 0 0 s from₀ sum from (bitsLeft s from)
 
 pub at-code : {s : List ℕ} {from : Reader} → Inside s from → AtCode s from from 0
 at-code i =
@@ -77,15 +77,15 @@ module _ {s : List ℕ} {from₀ from : Reader} {sum : ℕ} (i : AtCode s from�
   pub sum-most : sum ≤ 402653249
   sum-most = omega (arith, i .small .most, i .inside .stream)
 
-  module _ {next : Reader} (more : ℕ) (t : Bool) (r : Reading (incrementTurn sum) s from (turnOf t more) next) where
+  module _ {next : Reader} (more : ℕ) (t : Bool) (r : Reading (incrementStep sum) s from (stepOf t more) next) where
     pub goes-on : t ≡ true → bitsLeft s next < bitsLeft s from
-    goes-on e = takes-less incrementTurn (increment-takes s) (rw e at (r .runs))
+    goes-on e = takes-less incrementStep (increment-takes s) (rw e at (r .runs))
 
     pub at-code-on : t ≡ true → AtCode s from₀ next more
     at-code-on e = let q = rw e at (r .runs) in
         record {
           inside = r .inside;
-          small = rw (q .is) at (turn-sum s sum (placeOf from) (i .small));
+          small = rw (q .is) at (step-sum s sum (positionOf from) (i .small));
           rest = loop-on (i .rest) q (goes-on e);
         }
 

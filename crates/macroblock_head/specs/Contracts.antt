@@ -3,22 +3,22 @@ use mathlib.Core.Path.{_≡_}
 use mathlib.Core.Bool.{Bool, true, false}
 use mathlib.Core.List.{List}
 use Prim.Native.Nat.{ℕ}
-use Rattle.laws.specs.Turns.{Turn, again, stop}
+use Rattle.laws.specs.Loops.{Step, continue, finish}
 use Rattle.prediction.specs.declared.predict.Predicted.{Predicted}
 use Rattle.prediction.specs.declared.predict.Predicted.the-variants.{Done, Refused}
 use Rattle.picture_state.specs.declared.types.Slice.{Slice}
 use Rattle.picture_state.specs.Possible.{PossibleMotion}
-use Rattle.picture_state.specs.Ways.{Way, on, out}
+use Rattle.picture_state.specs.Result.{Result, ok, error}
 
 -- a prediction's answer, RULES Q9
-abbrev pub answered : Predicted → List ℕ → Way (List ℕ)
-answered Done l = on l
-answered Refused l = out 9 l
+abbrev pub predictionResult : Predicted → List ℕ → Result (List ℕ)
+predictionResult Done l = ok l
+predictionResult Refused l = error 9 l
 
 -- whether to go on, and with which number
-abbrev pub turnOf : Bool → ℕ → Turn ℕ ℕ
-turnOf true n = again n
-turnOf false n = stop n
+abbrev pub stepOf : Bool → ℕ → Step ℕ ℕ
+stepOf true n = continue n
+stepOf false n = finish n
 
 -- RULES Q2: both vectors of a state
 pub record PossibleMotions (x : Slice) : Type 0 where
@@ -26,5 +26,5 @@ pub record PossibleMotions (x : Slice) : Type 0 where
   pub backward : PossibleMotion (x .«motion_backward»)
 
 -- a step that reads nothing goes as the answer and the store say
-pub record Foretold (w : Way (List ℕ)) (r : Predicted) (store : List ℕ) : Type 0 where
-  pub is : w ≡ answered r store
+pub record RefinesPrediction (w : Result (List ℕ)) (r : Predicted) (store : List ℕ) : Type 0 where
+  pub is : w ≡ predictionResult r store

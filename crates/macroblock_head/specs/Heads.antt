@@ -44,14 +44,14 @@ abbrev pub flagged : ℕ → Slice → Slice
 flagged t s = motionsAs (isSetAs (flag t 8) (s .«motion_forward»)) (isSetAs (flag t 4) (s .«motion_backward»)) s
 
 -- RULES 7.14: an intra macroblock sets both vectors to 0
-abbrev pub still : Slice → Slice
-still s = motionsAs (zeroed (s .«motion_forward»)) (zeroed (s .«motion_backward»)) s
+abbrev pub vectorsReset : Slice → Slice
+vectorsReset s = motionsAs (zeroed (s .«motion_forward»)) (zeroed (s .«motion_backward»)) s
 
 -- RULES 7.13, 7.14: behind the macroblock type t: scale, resets, vectors
 unfoldable pub head : ℕ → ℕ → Slice → Prog Slice
 head type t s = do
   q ← scale t (flagged t s)
-  if isIntra t then done (still q) else vectors type (dcReset q)
+  if isIntra t then done (vectorsReset q) else vectors type (dcReset q)
 
 -- RULES 7.16: read with flag 2; else 63 for an intra macroblock, and 0 for any other
 unfoldable pub pattern : ℕ → Prog ℕ

@@ -15,7 +15,7 @@ ghost use Rattle.bits.specs.Runs.{Inside, Reading};
 ghost use Rattle.codes.specs.Lent.{Lent};
 ghost use Rattle.picture_state.specs.Possible.{PossibleMotion, PossibleSlice};
 ghost use Rattle.picture_state.specs.State.{zeroed, isSetAs, dcReset};
-ghost use Rattle.macroblock_head.specs.Heads.{macroblockType, scale, vector, forward, backward, vectors, flagged, still, head, pattern};
+ghost use Rattle.macroblock_head.specs.Heads.{macroblockType, scale, vector, forward, backward, vectors, flagged, vectorsReset, head, pattern};
 ghost use Rattle.macroblock_head.specs.Contracts.{PossibleMotions};
 
 pub struct Headed {
@@ -188,8 +188,8 @@ fn flagged(t: u32, before: Slice) -> Slice
 }
 
 // RULES 7.14: an intra macroblock sets both vectors to 0.
-fn stilled(before: Slice) -> Slice
-    ensures { λ r. ⌜ r ≡ still before ⌝ }
+fn vectors_reset(before: Slice) -> Slice
+    ensures { λ r. ⌜ r ≡ vectorsReset before ⌝ }
 {
     let forward = zeroed(before.motion_forward);
     let backward = zeroed(before.motion_backward);
@@ -226,7 +226,7 @@ pub fn read_head(
     let after = q.reader;
     let scaled = q.state;
     if flag(t, 1) {
-        let state = stilled(scaled);
+        let state = vectors_reset(scaled);
         return Headed {
             reader: after,
             state,

@@ -5,58 +5,58 @@ use codes::lent::Tables;
 ghost use Prim.Native.Nat.{_≤_};
 ghost use Rattle.bits.specs.Runs.{Inside, Reading};
 ghost use Rattle.codes.specs.Lent.{Lent};
-ghost use Rattle.macroblock_head.specs.Increments.{incrementTurn, increment};
-ghost use Rattle.macroblock_head.specs.Contracts.{turnOf};
+ghost use Rattle.macroblock_head.specs.Increments.{incrementStep, increment};
+ghost use Rattle.macroblock_head.specs.Contracts.{stepOf};
 
 pub struct Increment {
     pub reader: Reader,
     pub sum: usize,
 }
 
-// `again`: another code follows.
-struct IncrementTurn {
+// `continues`: another code follows.
+struct IncrementStep {
     pub reader: Reader,
     pub sum: usize,
-    pub again: bool,
+    pub continues: bool,
 }
 
 // A code of 34 (stuffing) is dropped where no 35 (escape) came before it; a 35 adds 33 and goes on; any other is added and is the last.
-fn increment_turn(s: &[u8], reader: Reader, tables: &Tables, sum: usize) -> IncrementTurn
+fn increment_step(s: &[u8], reader: Reader, tables: &Tables, sum: usize) -> IncrementStep
     requires { ⌜ Inside (now s) reader ⌝ }
     requires { ⌜ Lent (now tables) ⌝ }
     requires { ⌜ sum ≤ 402653249 ⌝ }
-    ensures { λ r. ⌜ Reading (incrementTurn sum) (now (s .entry)) reader (turnOf (r .again) (r .sum)) (r .reader) ⌝ }
+    ensures { λ r. ⌜ Reading (incrementStep sum) (now (s .entry)) reader (stepOf (r .continues) (r .sum)) (r .reader) ⌝ }
 {
     let code = read_macroblock_address_increment(s, reader, tables);
     let after = code.reader;
     let c = code.value as usize;
     if c == 35 {
         let more = sum + 33;
-        return IncrementTurn {
+        return IncrementStep {
             reader: after,
             sum: more,
-            again: true,
+            continues: true,
         };
     }
     let all = sum + c;
     if c != 34 {
-        return IncrementTurn {
+        return IncrementStep {
             reader: after,
             sum: all,
-            again: false,
+            continues: false,
         };
     }
     if sum == 0 {
-        return IncrementTurn {
+        return IncrementStep {
             reader: after,
             sum: 0,
-            again: true,
+            continues: true,
         };
     }
-    IncrementTurn {
+    IncrementStep {
         reader: after,
         sum: all,
-        again: false,
+        continues: false,
     }
 }
 
@@ -69,10 +69,10 @@ pub fn read_increment(s: &[u8], reader: Reader, tables: &Tables) -> Increment
     let mut from = reader;
     let mut sum: usize = 0;
     loop {
-        let t = increment_turn(s, from, tables, sum);
+        let t = increment_step(s, from, tables, sum);
         from = t.reader;
         sum = t.sum;
-        if !t.again {
+        if !t.continues {
             return Increment { reader: from, sum };
         }
     }

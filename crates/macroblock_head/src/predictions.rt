@@ -2,7 +2,7 @@
 use picture_state::types::Context;
 use picture_state::types::Motion;
 use picture_state::types::Slice;
-use prediction::place::macroblock_at;
+use prediction::position::macroblock_at;
 use prediction::predict::Predicted;
 use prediction::predict::predict_macroblock_planes;
 ghost use mathlib.Core.Path.{_≡_};
@@ -12,8 +12,8 @@ ghost use Rattle.motion.specs.Displacement.{InRange};
 ghost use Rattle.prediction.specs.Predict.{inHalves};
 ghost use Rattle.picture_state.specs.Possible.{PossibleMotion};
 ghost use Rattle.macroblock_head.specs.Predictions.{predictFrom, predictBoth, predict, predictSkipped};
-ghost use Rattle.picture_state.specs.Contracts.{Held};
-ghost use Rattle.macroblock_head.specs.Contracts.{PossibleMotions, Foretold};
+ghost use Rattle.picture_state.specs.Contracts.{StoreFits};
+ghost use Rattle.macroblock_head.specs.Contracts.{PossibleMotions, RefinesPrediction};
 
 // RULES 6.2: in half samples.
 fn in_halves(full: bool, x: i32) -> i32
@@ -35,23 +35,23 @@ fn predict_from(
     m: Motion,
     interpolate: bool,
 ) -> Predicted
-    requires { ⌜ Held g (now store) ⌝ }
+    requires { ⌜ StoreFits g (now store) ⌝ }
     requires { ⌜ (address < g .sizes .«mb_width» * g .sizes .«mb_height») × (k < 3) × (g .stores .cur ≡ k → ⊥) ⌝ }
     requires { ⌜ PossibleMotion m ⌝ }
-    ensures { λ r. ⌜ Foretold (predictFrom g address k m interpolate (now (store .entry))) r (now (store .exit)) ⌝ }
+    ensures { λ r. ⌜ RefinesPrediction (predictFrom g address k m interpolate (now (store .entry))) r (now (store .exit)) ⌝ }
 {
     let h = in_halves(m.full_px, m.h);
     let v = in_halves(m.full_px, m.v);
-    let place = macroblock_at(g.sizes.mb_width, g.sizes.mb_height, address);
-    predict_macroblock_planes(store, place, k, g.stores.cur, h, v, interpolate)
+    let position = macroblock_at(g.sizes.mb_width, g.sizes.mb_height, address);
+    predict_macroblock_planes(store, position, k, g.stores.cur, h, v, interpolate)
 }
 
 // Both directions of a B picture, where the forward flag is set.
 fn predict_both(store: &mut [u8], g: Context, address: usize, state: Slice) -> Predicted
-    requires { ⌜ Held g (now store) ⌝ }
+    requires { ⌜ StoreFits g (now store) ⌝ }
     requires { ⌜ address < g .sizes .«mb_width» * g .sizes .«mb_height» ⌝ }
     requires { ⌜ PossibleMotions state ⌝ }
-    ensures { λ r. ⌜ Foretold (predictBoth g address state (now (store .entry))) r (now (store .exit)) ⌝ }
+    ensures { λ r. ⌜ RefinesPrediction (predictBoth g address state (now (store .entry))) r (now (store .exit)) ⌝ }
 {
     let Predicted::Done = predict_from(store, g, address, g.stores.fwd, state.motion_forward, false)
     else {
@@ -65,10 +65,10 @@ fn predict_both(store: &mut [u8], g: Context, address: usize, state: Slice) -> P
 
 // By the picture's type and the two flags.
 pub fn predict(store: &mut [u8], g: Context, address: usize, state: Slice) -> Predicted
-    requires { ⌜ Held g (now store) ⌝ }
+    requires { ⌜ StoreFits g (now store) ⌝ }
     requires { ⌜ address < g .sizes .«mb_width» * g .sizes .«mb_height» ⌝ }
     requires { ⌜ PossibleMotions state ⌝ }
-    ensures { λ r. ⌜ Foretold (predict g address state (now (store .entry))) r (now (store .exit)) ⌝ }
+    ensures { λ r. ⌜ RefinesPrediction (predict g address state (now (store .entry))) r (now (store .exit)) ⌝ }
 {
     if g.picture_type != 3 {
         return predict_from(store, g, address, g.stores.fwd, state.motion_forward, false);
@@ -94,10 +94,10 @@ pub fn predict_skipped(
     n: usize,
     state: Slice,
 ) -> Predicted
-    requires { ⌜ Held g (now store) ⌝ }
+    requires { ⌜ StoreFits g (now store) ⌝ }
     requires { ⌜ address + n ≤ g .sizes .«mb_width» * g .sizes .«mb_height» ⌝ }
     requires { ⌜ PossibleMotions state ⌝ }
-    ensures { λ r. ⌜ Foretold (predictSkipped g state address n (now (store .entry))) r (now (store .exit)) ⌝ }
+    ensures { λ r. ⌜ RefinesPrediction (predictSkipped g state address n (now (store .entry))) r (now (store .exit)) ⌝ }
 {
     let mut k: usize = 0;
     while k < n {

@@ -9,7 +9,7 @@ use lib.Dec.{leb}
 use lib.ListN.{length, getD, take, drop, length-append}
 use lib.Seq.{drop-at, take-at}
 use Rattle.decoder.specs.declared.record.Decoder.{Decoder}
-use Rattle.decoder.specs.Record.{place}
+use Rattle.decoder.specs.Record.{position}
 use Rattle.laws.proofs.Tests.{both}
 use Rattle.memory.specs.Fields.{Number, flag, short, size, Entry, fields, flagNumber, value, most, fits, elements, count}
 use Rattle.memory.specs.Fields.{TypedNumbers, Sized, TypedEntries, number, flagOf}
@@ -51,7 +51,7 @@ fits-not (short f) x w h = lt-leb x 4294967295 h
 fits-not (size f) x w h = absurd (omega arith)
 
 -- the number at the place k; behind the last one each is a value
-within-at : (fs : List Number) (n : List ℕ) → within fs n ≡ true → (k : ℕ) → fits (getD fs k (size place)) (getD n k 0) ≡ true
+within-at : (fs : List Number) (n : List ℕ) → within fs n ≡ true → (k : ℕ) → fits (getD fs k (size position)) (getD n k 0) ≡ true
 unfolding within
 within-at [] n e k = refl
 within-at (f ∷ fs) [] e k = absurd (false≢true e)
@@ -59,7 +59,7 @@ within-at (f ∷ fs) (x ∷ n) e zero = both (fits f x) (within fs n) e .0
 within-at (f ∷ fs) (x ∷ n) e (suc k) = within-at fs n (both (fits f x) (within fs n) e .1) k
 
 -- a number of 32 bits
-pub short-at : (n : List ℕ) → inRange n ≡ true → (k : ℕ) {f : Decoder → ℕ} → getD (fields .numbers) k (size place) ≡ short f → number n k ≤ 4294967295
+pub short-at : (n : List ℕ) → inRange n ≡ true → (k : ℕ) {f : Decoder → ℕ} → getD (fields .numbers) k (size position) ≡ short f → number n k ≤ 4294967295
 short-at n e k p = leb-true (number n k) 4294967295 (rw p at (within-at (fields .numbers) n e k))
 
 pub within-all : (fs : List Number) (n : List ℕ) → length fs ≤ length n → ((k : ℕ) → k < length fs → getD n k 0 ≤ getD (bounds fs) k 0)

@@ -8,7 +8,7 @@ use lib.Dec.{leb}
 use lib.ListN.{length}
 use Rattle.laws.proofs.Tests.{both, each}
 use Rattle.memory.specs.Fields.{numberCount, integerCount, matrixCount, clockCount}
-use Rattle.memory.specs.Memory.{Memory, roomy, inRange, isRecord}
+use Rattle.memory.specs.Memory.{Memory, hasRoom, inRange, isRecord}
 
 pub record Room (x : Memory) : Type 0 where
   pub numbers : numberCount ≤ length (x .numbers)
@@ -17,17 +17,17 @@ pub record Room (x : Memory) : Type 0 where
   pub clock : clockCount ≤ length (x .clock)
 
 module _ (x : Memory) where
-  pub room : roomy x ≡ true → Room x
+  pub room : hasRoom x ≡ true → Room x
   room e =
       let h = each (leb numberCount (length (x .numbers)))
       (leb integerCount (length (x .integers)) ∷ leb matrixCount (length (x .matrices)) ∷ leb clockCount (length (x .clock)) ∷ []) e in
       record { numbers = leb-true _ _ (h 0); integers = leb-true _ _ (h 1); matrices = leb-true _ _ (h 2); clock = leb-true _ _ (h 3) }
 
   -- a memory that holds a record has room for it, and each number in its range
-  pub record-roomy : isRecord x ≡ true → roomy x ≡ true
+  pub record-roomy : isRecord x ≡ true → hasRoom x ≡ true
   unfolding isRecord
-  record-roomy e = both (roomy x) (inRange (x .numbers)) e .0
+  record-roomy e = both (hasRoom x) (inRange (x .numbers)) e .0
 
   pub record-ranged : isRecord x ≡ true → inRange (x .numbers) ≡ true
   unfolding isRecord
-  record-ranged e = both (roomy x) (inRange (x .numbers)) e .1
+  record-ranged e = both (hasRoom x) (inRange (x .numbers)) e .1

@@ -9,7 +9,7 @@ use lib.ListN.{drop}
 use Rattle.decoder.specs.declared.record.Decoder.{Decoder}
 use Rattle.memory.specs.Fields.{fields, numbersOf, integersOf, matricesOf, clockOf, integerCount, matrixCount, numberCount, clockCount}
 use Rattle.memory.specs.Fields.{Typed, TypedEntries}
-use Rattle.memory.specs.Memory.{Memory, memory, over, written, recordOf, isRecord, Holds}
+use Rattle.memory.specs.Memory.{Memory, memory, over, written, recordOf, isRecord, HoldsRecord}
 use Rattle.memory.proofs.Fields.{flag-back, within-own, elements-long, entry-back, entry-past, over-long}
 
 -- the memory is written part by part
@@ -52,5 +52,5 @@ module _ (d : Decoder) (f : Typed d) (x : Memory) where
       (within-own d _ (fields .numbers) (f .numbers))
 
   -- whatever a memory held: it holds the record that was written over its beginning, whole
-  pub held : Holds (written d x) d
+  pub held : HoldsRecord (written d x) d
   held = record { is = is-held; record-is = record-back }

@@ -12,9 +12,9 @@ use Rattle.picture_state.specs.declared.types.Motion.{Motion}
 use Rattle.picture_state.specs.declared.types.Picture.{Picture}
 use Rattle.header.specs.declared.state.Sequence.{Sequence}
 use Rattle.playback.specs.declared.state.Clock.{Clock}
-use Rattle.playback.specs.State.{held, frames, nextTime, shownTime}
+use Rattle.playback.specs.State.{hasReferenceFrame, frames, nextTime, shownTime}
 use Rattle.decoder.specs.declared.record.Decoder.{Decoder}
-use Rattle.decoder.specs.Record.{place}
+use Rattle.decoder.specs.Record.{position}
 
 -- a number is a flag, one of 32 bits or one of 64
 pub data Number : Type 0 where
@@ -43,7 +43,7 @@ pub record Fields : Type 0 where
 abbrev pub fields : Fields
 fields = record {
   numbers =
-      size place
+      size position
       ∷ flag (λ d. d .sequence .«has_sequence_header»)
       ∷ size (λ d. d .sequence .width)
       ∷ size (λ d. d .sequence .height)
@@ -61,7 +61,7 @@ fields = record {
       ∷ flag (λ d. d .state .picture .slice .«motion_backward» .«full_px»)
       ∷ flag (λ d. d .state .picture .slice .«motion_backward» .«is_set»)
       ∷ short (λ d. d .state .picture .slice .«motion_backward» .«r_size»)
-      ∷ flag (λ d. held (d .state))
+      ∷ flag (λ d. hasReferenceFrame (d .state))
       ∷ short (λ d. frames (d .state))
       ∷ short (λ d. d .stop)
       ∷ [];

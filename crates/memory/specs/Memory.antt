@@ -38,8 +38,8 @@ recordOf x = recordIn (x .numbers) (x .integers) (x .matrices) (x .clock)
 -- ---- does a memory hold a record?
 
 -- is there room for one?
-abbrev pub roomy : Memory → Bool
-roomy x =
+abbrev pub hasRoom : Memory → Bool
+hasRoom x =
     leb numberCount (length (x .numbers)) && leb integerCount (length (x .integers)) && leb matrixCount (length (x .matrices))
     && leb clockCount (length (x .clock))
 
@@ -54,9 +54,9 @@ inRange n = within (fields .numbers) n
 
 -- every other element is a value of its field's type
 unfoldable pub isRecord : Memory → Bool
-isRecord x = roomy x && inRange (x .numbers)
+isRecord x = hasRoom x && inRange (x .numbers)
 
 -- it holds the record d
-pub record Holds (x : Memory) (d : Decoder) : Type 0 where
+pub record HoldsRecord (x : Memory) (d : Decoder) : Type 0 where
   pub is : isRecord x ≡ true
   pub record-is : recordOf x ≡ d

@@ -24,7 +24,7 @@ ghost use borrow.Rule.Slice.PartMut.{midOf};
 ghost use lib.ListN.{length};
 ghost use mathlib.Core.Bool.{true};
 ghost use Rattle.memory.specs.Fields.{number, motionIn, sequenceIn, pictureIn, clockIn, numberCount, integerCount, matrixCount, clockCount};
-ghost use Rattle.memory.specs.Memory.{memory, recordOf, inRange, roomy, isRecord};
+ghost use Rattle.memory.specs.Memory.{memory, recordOf, inRange, hasRoom, isRecord};
 
 fn block_in(integers: &[i32]) -> [i32; 64]
     requires { ⌜ integerCount ≤ length (now integers) ⌝ }
@@ -181,7 +181,7 @@ pub fn record_of(numbers: &[usize], integers: &[i32], matrices: &[u8], clock: &[
 
 // Is there room for a record?
 pub fn has_room(numbers: &[usize], integers: &[i32], matrices: &[u8], clock: &[f64]) -> bool
-    ensures { λ r. ⌜ r ≡ roomy (memory (now (numbers .entry)) (now (integers .entry)) (now (matrices .entry)) (now (clock .entry))) ⌝ }
+    ensures { λ r. ⌜ r ≡ hasRoom (memory (now (numbers .entry)) (now (integers .entry)) (now (matrices .entry)) (now (clock .entry))) ⌝ }
 {
     (NUMBERS <= numbers.len())
         & (INTEGERS <= integers.len())

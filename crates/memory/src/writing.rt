@@ -16,7 +16,7 @@ ghost use Prim.Native.Nat.{_≤_};
 ghost use lib.ListN.{length};
 ghost use Rattle.memory.specs.Fields.{numbersOf, integersOf, matricesOf, clockOf, numberCount, integerCount, matrixCount, clockCount};
 ghost use Rattle.memory.specs.Fields.{fields, TypedNumbers, TypedEntries};
-ghost use Rattle.memory.specs.Memory.{memory, over, written, roomy, Holds};
+ghost use Rattle.memory.specs.Memory.{memory, over, written, hasRoom, HoldsRecord};
 
 fn put_numbers(numbers: &mut [usize], d: Decoder)
     requires { ⌜ numberCount ≤ length (now numbers) ⌝ }
@@ -67,10 +67,10 @@ pub fn save(
     matrices: &mut [u8],
     clock: &mut [f64],
 )
-    requires { ⌜ roomy (memory (now numbers) (now integers) (now matrices) (now clock)) ≡ true ⌝ }
+    requires { ⌜ hasRoom (memory (now numbers) (now integers) (now matrices) (now clock)) ≡ true ⌝ }
     ensures { λ r. ⌜ memory (now (numbers .exit)) (now (integers .exit)) (now (matrices .exit)) (now (clock .exit))
         ≡ written d (memory (now (numbers .entry)) (now (integers .entry)) (now (matrices .entry)) (now (clock .entry))) ⌝ }
-    ensures { λ r. ⌜ Holds (memory (now (numbers .exit)) (now (integers .exit)) (now (matrices .exit)) (now (clock .exit))) d ⌝ }
+    ensures { λ r. ⌜ HoldsRecord (memory (now (numbers .exit)) (now (integers .exit)) (now (matrices .exit)) (now (clock .exit))) d ⌝ }
 {
     put_numbers(numbers, d);
     put_integers(integers, d);

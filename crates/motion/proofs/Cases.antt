@@ -3,11 +3,11 @@
 use mathlib.Core.Path.{_≡_, refl}
 use mathlib.Core.List.{[], _∷_}
 use lib.IntN.{pos, negℤ, _+ℤ_}
-use Rattle.bits.specs.Bits.{bitAt, bitsAt, got, next}
+use Rattle.bits.specs.Bits.{bitAt, bitsAt, readAt, afterRead}
 use Rattle.bits.specs.Programs.{run, bind, loop}
 use Rattle.codes.specs.Codes.{motion}
 use Rattle.codes.specs.Tables.{motionIndex, motionValue}
-use Rattle.codes.specs.Walk.{walkTurn, walk, vlc}
+use Rattle.codes.specs.Walk.{walkStep, walk, vlc}
 use Rattle.motion.specs.Displacement.{displace, corrected}
 use Rattle.motion.specs.Vector.{displacement, motionVector}
 
@@ -26,5 +26,5 @@ pub record Cases : Type 0 where
   pub w4-read : run (motionVector 6 (negℤ (pos 1024))) (0b0000_0011 ∷ 0b0011_1111 ∷ 0b1000_0000 ∷ []) 0 ≡ record { value = pos 0; at = 17 }
 
 pub cases : Cases
-unfolding motionVector displacement corrected displace run bind loop motion vlc walk walkTurn motionIndex motionValue got next bitsAt bitAt
+unfolding motionVector displacement corrected displace run bind loop motion vlc walk walkStep motionIndex motionValue readAt afterRead bitsAt bitAt
 cases = record { w1 = refl; w1-read = refl; w2 = refl; w2-read = refl; w3 = refl; w3-read = refl; w4 = refl; w4-read = refl }

@@ -11,7 +11,7 @@ use lib.Pow.{pow-pos}
 use lib.Signed.{leZ}
 use borrow.Author.Tests.{eqb-true, ne-eqb}
 use Rattle.laws.proofs.Ints.{Dif, up, dn, v, lit, neg, as-dif, _⊕_, _⊖_, _⊗_, eq-by, eq-of, le-of, lt-of, yes-lt, no-lt, yes-le, no-le}
-use Rattle.bits.specs.Bits.{got}
+use Rattle.bits.specs.Bits.{readAt}
 use Rattle.bits.specs.Programs.{Prog, Out, done, run, bind, bits, eqZ}
 use Rattle.bits.proofs.Codes.{eqZ-no}
 use Rattle.bits.proofs.Gives.{g-bits}
@@ -126,7 +126,7 @@ module _ (r : ℕ) (prev : ℤ) (i : InRange (2 ^ r) prev) (s : List ℕ) where
   same m a true true p q = plain m a (displace-none (2 ^ r) 0 m (zero-of m q))
   same m a true false p q = plain m a (displace-one (2 ^ r) m (ap (λ (n : ℕ). 2 ^ n) (eqb-true r 0 p)))
   same m a false true p q = plain m a (displace-none (2 ^ r) 0 m (zero-of m q))
-  same m a false false p q = rw (standard (2 ^ r) prev m (got s a r) i (g-bits r .value a))
+  same m a false false p q = rw (standard (2 ^ r) prev m (readAt s a r) i (g-bits r .value a))
 
   pub standard-step : (a : ℕ) → run (standardVector r prev) s a ≡ run (motionVector r prev) s a
   unfolding standardVector residual motionVector displacement

@@ -7,17 +7,17 @@ use lib.IntN.{ℤ, pos, negsuc, negℤ, natAbs, _+ℤ_, _-ℤ_, _*ℤ_}
 use Rattle.laws.proofs.Ints.{up, dn, v, lit, neg, _⊕_, _⊖_, _⊛_, eq-by, le-by, lt-by, eq-of, le-of, lt-of, abs-by, natAbs-is, one-side}
 use Rattle.motion.specs.Congruence.{Congruent}
 use Rattle.motion.specs.Displacement.{InRange}
-use Rattle.motion.specs.Leads.{Leads}
+use Rattle.motion.specs.Displaces.{Displaces}
 use Rattle.motion.proofs.Congruence.{congruent-sym, congruent-trans}
 use Rattle.motion.proofs.Correction.{corrected-congruent, corrected-in}
 use Rattle.motion.proofs.Range.{at-most-one, middle, middle-in, middle-congruent}
 
 module _ (f : ℕ) (a b : ℤ) where
   -- d leads from a to b exactly where a + d and b differ by a multiple of 32 f
-  leads-congruent : {d : ℤ} → Leads f a b d → Congruent (32 * f) (a +ℤ d) b
+  leads-congruent : {d : ℤ} → Displaces f a b d → Congruent (32 * f) (a +ℤ d) b
   leads-congruent {d} l = rw (l .there) at (congruent-sym (corrected-congruent f (a +ℤ d)))
 
-  congruent-leads : (d : ℤ) → InRange f a → InRange f b → natAbs d ≤ 16 * f → Congruent (32 * f) (a +ℤ d) b → Leads f a b d
+  congruent-leads : (d : ℤ) → InRange f a → InRange f b → natAbs d ≤ 16 * f → Congruent (32 * f) (a +ℤ d) b → Displaces f a b d
   congruent-leads d i j s c =
       record {
         low = le-by (neg (lit (16 * f))) (v d) (omega (arith, natAbs-is d));
@@ -73,7 +73,7 @@ module _ (f : ℕ) (a b : ℤ) where
       c
 
   -- what leads from a to b lies in the range, unless it is 16 f
-  leads-in : {d : ℤ} → InRange f a → InRange f b → (natAbs (a -ℤ b) ≡ 16 * f → ⊥) → Leads f a b d → InRange f d
+  leads-in : {d : ℤ} → InRange f a → InRange f b → (natAbs (a -ℤ b) ≡ 16 * f → ⊥) → Displaces f a b d → InRange f d
   leads-in {d} i j n l =
       let lo = le-of (neg (lit (16 * f))) (v d) (l .low) in
       let hi = le-of (v d) (lit (16 * f)) (l .high) in
@@ -81,7 +81,7 @@ module _ (f : ℕ) (a b : ℤ) where
       record { low = l .low; high = lt-by (v d) (lit (16 * f)) (omega (arith, g)) }
 
   -- two displacements that lead from a to b differ by a multiple of 32 f
-  both-lead : {d e : ℤ} → Leads f a b d → Leads f a b e → Congruent (32 * f) d e
+  both-lead : {d e : ℤ} → Displaces f a b d → Displaces f a b e → Congruent (32 * f) d e
   both-lead {d} {e} l m =
       let c = congruent-trans (leads-congruent l) (congruent-sym (leads-congruent m)) in
       record {
@@ -89,8 +89,8 @@ module _ (f : ℕ) (a b : ℤ) where
         is = eq-by (v d ⊖ v e) ((32 * f) ⊛ v (c .times)) (omega (arith, eq-of ((v a ⊕ v d) ⊖ (v a ⊕ v e)) ((32 * f) ⊛ v (c .times)) (c .is)));
       }
 
-  pub one-way : 0 < f → InRange f a → InRange f b → (natAbs (a -ℤ b) ≡ 16 * f → ⊥) → (d : ℤ) × Leads f a b d
-      × ((e : ℤ) → Leads f a b e → e ≡ d)
+  pub one-way : 0 < f → InRange f a → InRange f b → (natAbs (a -ℤ b) ≡ 16 * f → ⊥) → (d : ℤ) × Displaces f a b d
+      × ((e : ℤ) → Displaces f a b e → e ≡ d)
   one-way p i j n = (d, l, λ e m. at-most-one f (leads-in i j n m) inside (both-lead m l))
     where
       d : ℤ
@@ -99,7 +99,7 @@ module _ (f : ℕ) (a b : ℤ) where
       inside : InRange f d
       inside = middle-in f (b -ℤ a) p
 
-      l : Leads f a b d
+      l : Displaces f a b d
       l =
           let c = middle-congruent f (b -ℤ a) p in
           let lo = le-of (neg (lit (16 * f))) (v d) (inside .low) in
@@ -111,19 +111,19 @@ module _ (f : ℕ) (a b : ℤ) where
           })
 
   pub two-ways : InRange f a → InRange f b → natAbs (a -ℤ b) ≡ 16 * f → (d : ℤ)
-      → Leads f a b d ↔ (d ≡ negℤ (pos (16 * f))) ⊎ (d ≡ pos (16 * f))
+      → Displaces f a b d ↔ (d ≡ negℤ (pos (16 * f))) ⊎ (d ≡ pos (16 * f))
   two-ways i j h d = (
     λ l. go (both-lead l up-leads .times) l (both-lead l up-leads .is),
-    ⊎-elim (λ e. subst (Leads f a b) (sym e) down-leads) (λ e. subst (Leads f a b) (sym e) up-leads),
+    ⊎-elim (λ e. subst (Displaces f a b) (sym e) down-leads) (λ e. subst (Displaces f a b) (sym e) up-leads),
   )
     where
-      up-leads : Leads f a b (pos (16 * f))
+      up-leads : Displaces f a b (pos (16 * f))
       up-leads = congruent-leads (pos (16 * f)) i j (omega arith) (apart-leads h)
 
-      down-leads : Leads f a b (negℤ (pos (16 * f)))
+      down-leads : Displaces f a b (negℤ (pos (16 * f)))
       down-leads = congruent-leads (negℤ (pos (16 * f))) i j (abs-by (16 * f) (neg (lit (16 * f))) (omega arith) (omega arith)) (about (apart-leads h))
 
-      go : (k : ℤ) → Leads f a b d → d -ℤ pos (16 * f) ≡ pos (32 * f) *ℤ k → (d ≡ negℤ (pos (16 * f))) ⊎ (d ≡ pos (16 * f))
+      go : (k : ℤ) → Displaces f a b d → d -ℤ pos (16 * f) ≡ pos (32 * f) *ℤ k → (d ≡ negℤ (pos (16 * f))) ⊎ (d ≡ pos (16 * f))
       go (pos n) l e =
           inr (eq-by (v d) (lit (16 * f)) (omega (arith, le-of (v d) (lit (16 * f)) (l .high), eq-of (v d ⊖ lit (16 * f)) ((32 * f) ⊛ lit n) e)))
       go (negsuc n) l e =

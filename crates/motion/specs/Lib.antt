@@ -1,6 +1,6 @@
 pub mod Congruence
 pub mod Displacement
-pub mod Leads
+pub mod Displaces
 pub mod Standard
 pub mod Steps
 pub mod Vector

@@ -8,22 +8,22 @@ use Rattle.bits.specs.Programs.{run}
 use Rattle.motion.specs.Vector.{displacement, motionVector}
 
 -- RULES D3.1: where a step reads: a stream that question 1 admits, and a place within 0 .. 134,217,728
-pub record Step : Type 0 where
+pub record VectorStep : Type 0 where
   pub stream : List ℕ
-  pub place : ℕ
+  pub position : ℕ
   pub admitted : length stream ≤ longestStream
-  pub inside : place ≤ lastPosition
+  pub inside : position ≤ lastPosition
 
 -- what a step adds: the displacement that it reads there
-unfoldable pub displacementOf : ℕ → Step → ℤ
-displacementOf r x = run (displacement r) (x .stream) (x .place) .value
+unfoldable pub displacementOf : ℕ → VectorStep → ℤ
+displacementOf r x = run (displacement r) (x .stream) (x .position) .value
 
 -- RULES D3.2: the component after a list of steps, each of which gets what the last one returned
-unfoldable pub afterSteps : ℕ → ℤ → List Step → ℤ
+unfoldable pub afterSteps : ℕ → ℤ → List VectorStep → ℤ
 afterSteps r component [] = component
-afterSteps r component (x ∷ xs) = afterSteps r (run (motionVector r component) (x .stream) (x .place) .value) xs
+afterSteps r component (x ∷ xs) = afterSteps r (run (motionVector r component) (x .stream) (x .position) .value) xs
 
 -- the sum of all displacements
-unfoldable pub sumOf : ℕ → List Step → ℤ
+unfoldable pub sumOf : ℕ → List VectorStep → ℤ
 sumOf r [] = pos 0
 sumOf r (x ∷ xs) = displacementOf r x +ℤ sumOf r xs

@@ -11,53 +11,53 @@ use Rattle.decoder.specs.declared.answers.Opening.{Opening}
 use Rattle.playback.specs.declared.outcome.Outcome.{Outcome}
 use Rattle.playback.specs.declared.outcome.Outcome.the-variants as H
 use Rattle.decoder.specs.declared.answers.Converted.{Converted}
-use Rattle.decoder.specs.Record.{left}
+use Rattle.decoder.specs.Record.{callResult}
 use Rattle.decoder.specs.Opening.{opening}
-use Rattle.decoder.specs.HandOut.{handOut}
+use Rattle.decoder.specs.Decode.{decode}
 use Rattle.decoder.specs.Conversion as Conversion
-use Rattle.memory.specs.Memory.{Memory, over, written, recordOf, roomy, isRecord}
-use Rattle.decoder.specs.Answers.{openingNumber, conversionNumber}
-use Rattle.mpeg1.specs.Calls.{kept, Shows, shows, pictureNumbers, pictureCount, opensIn, HandsOut, decodesIn, converts, convertsIn}
+use Rattle.memory.specs.Memory.{Memory, over, written, recordOf, hasRoom, isRecord}
+use Rattle.decoder.specs.Answers.{openingErrorCode, conversionErrorCode}
+use Rattle.mpeg1.specs.Calls.{hostResult, HostOutput, hostOutput, pictureNumbers, pictureCount, opensIn, RefinesDecode, decodesIn, converts, convertsIn}
 use Rattle.bits.specs.Bounds.{longestStream}
 
 -- ---- opening
 
 module _ (s l : List ℕ) (x : Memory) where
-  pub opens-2 : roomy x ≡ false → kept 2 l x ≡ opensIn s l x
+  pub opens-2 : hasRoom x ≡ false → hostResult 2 l x ≡ opensIn s l x
   unfolding opensIn
   opens-2 e = rw e
 
-  pub opens : {a : Opening} {d : Decoder} {r : ℕ} {store : List ℕ} {z : Memory} → roomy x ≡ true → left a d store ≡ opening s l → r ≡ openingNumber a
-      → z ≡ written d x → kept r store z ≡ opensIn s l x
+  pub opens : {a : Opening} {d : Decoder} {r : ℕ} {store : List ℕ} {z : Memory} → hasRoom x ≡ true → callResult a d store ≡ opening s l → r ≡ openingErrorCode a
+      → z ≡ written d x → hostResult r store z ≡ opensIn s l x
   unfolding opensIn
   opens h e o p = rw (h, ← e, o, p)
 
 -- ---- the hand-out
 
 -- what is left and shown of an answer
-abbrev pub told : Outcome → List ℕ → Memory → List ℕ → Float → Shows
+abbrev pub told : Outcome → List ℕ → Memory → List ℕ → Float → HostOutput
 told a store z k t = elim a [
-  | H.Picture p ↦ shows (kept 0 store z) (over (pictureNumbers p) k) (p .time)
-  | H.Refused n ↦ shows (kept n store z) k t
+  | H.Picture p ↦ hostOutput (hostResult 0 store z) (over (pictureNumbers p) k) (p .time)
+  | H.Refused n ↦ hostOutput (hostResult n store z) k t
 ]
 
 module _ (s l : List ℕ) (x : Memory) (k : List ℕ) (time : Float) where
-  pub decodes-1 : longestStream < length s → shows (kept 1 l x) k time ≡ decodesIn s l x k time
+  pub decodes-1 : longestStream < length s → hostOutput (hostResult 1 l x) k time ≡ decodesIn s l x k time
   unfolding decodesIn
   decodes-1 h = rw (lt-leb (length s) longestStream h)
 
   module _ (h : length s ≤ longestStream) where
-    pub decodes-2 : isRecord x ≡ false → shows (kept 2 l x) k time ≡ decodesIn s l x k time
+    pub decodes-2 : isRecord x ≡ false → hostOutput (hostResult 2 l x) k time ≡ decodesIn s l x k time
     unfolding decodesIn
     decodes-2 e = rw (le-leb (length s) longestStream h, e)
 
     -- no room for a picture's numbers
-    pub decodes-short : length k < pictureCount → shows (kept 2 l x) k time ≡ decodesIn s l x k time
+    pub decodes-short : length k < pictureCount → hostOutput (hostResult 2 l x) k time ≡ decodesIn s l x k time
     unfolding decodesIn
     decodes-short p = rw (le-leb (length s) longestStream h, lt-leb pictureCount (length k) p, and-false (isRecord x))
 
     pub decodes : {a : Outcome} {store : List ℕ} {z : Memory} → isRecord x ≡ true → pictureCount ≤ length k
-        → HandsOut a store z (handOut (recordOf x) s l) x → told a store z k time ≡ decodesIn s l x k time
+        → RefinesDecode a store z (decode (recordOf x) s l) x → told a store z k time ≡ decodesIn s l x k time
     unfolding decodesIn
     decodes i p o = rw (le-leb (length s) longestStream h, i, le-leb pictureCount (length k) p, o .answered, o .stored, o .wrote)
 
@@ -69,6 +69,6 @@ module _ (l : List ℕ) (x : Memory) (k : ℕ) (a : List ℕ) (w h : ℕ) where
   converts-2 e = rw e
 
   pub converts-record : {y : Converted} {area : List ℕ} {r : ℕ} → isRecord x ≡ true → Conversion.area y area ≡ Conversion.converted (recordOf x) l k a w h
-      → r ≡ conversionNumber y → converts r area ≡ convertsIn l x k a w h
+      → r ≡ conversionErrorCode y → converts r area ≡ convertsIn l x k a w h
   unfolding convertsIn
   converts-record i e o = rw (i, ← e, o)

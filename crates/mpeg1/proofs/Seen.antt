@@ -16,26 +16,26 @@ use Rattle.header.specs.State.{noTime, freshSequence}
 use Rattle.header.specs.Possible.{possibleSequence}
 use Rattle.header.proofs.Sizing.{possible-sized}
 use Rattle.memory.specs.Fields.{number, numberCount, clockCount}
-use Rattle.mpeg1.specs.Calls.{still}
-use Rattle.mpeg1.specs.Views.{Few, sequenceSeen, seen, numberSeen}
+use Rattle.mpeg1.specs.Calls.{zeroClock}
+use Rattle.mpeg1.specs.Views.{FewMacroblocks, sequenceSeen, seen, numberSeen}
 
 -- the constant 0.0
 pub zero-is : ofBits binary64 0 ≡ noTime
 unfolding ofBits ofInt
 zero-is = refl
 
-pub still-is : replicate clockCount (ofBits binary64 0) ≡ still
+pub still-is : replicate clockCount (ofBits binary64 0) ≡ zeroClock
 still-is = ap (replicate clockCount) zero-is
 
 -- ---- the sequence
 
-pub few : {q : Sequence} → possibleSequence q ≡ true → Few q
+pub few : {q : Sequence} → possibleSequence q ≡ true → FewMacroblocks q
 few {q} e =
     let z = possible-sized q e .2 in record { across = z .across; size = omega (arith, z .size, mul-le-mul (z .across) (z .down)) }
 
 module _ (n : List ℕ) where
   -- a fresh sequence, and why it is the one seen
-  pub none-seen : {q : Sequence} → q ≡ freshSequence → freshSequence ≡ seen n → (q ≡ seen n) × Few q
+  pub none-seen : {q : Sequence} → q ≡ freshSequence → freshSequence ≡ seen n → (q ≡ seen n) × FewMacroblocks q
   none-seen e f = (e ∙ f, rw e (record { across = omega arith; size = omega arith }))
 
   pub seen-short : length n < numberCount → freshSequence ≡ seen n

@@ -13,31 +13,31 @@ use Rattle.header.specs.State.{noTime}
 use Rattle.playback.specs.declared.outcome.Outcome.{Outcome}
 use Rattle.playback.specs.declared.outcome.Outcome.the-variants as H
 use Rattle.playback.specs.declared.outcome.Shown.{Shown}
-use Rattle.decoder.specs.Record.{Left}
-use Rattle.decoder.specs.Answers.{openingNumber, conversionNumber}
+use Rattle.decoder.specs.Record.{CallResult}
+use Rattle.decoder.specs.Answers.{openingErrorCode, conversionErrorCode}
 use Rattle.decoder.specs.Opening.{opening}
-use Rattle.decoder.specs.HandOut.{handOut}
+use Rattle.decoder.specs.Decode.{decode}
 use Rattle.decoder.specs.Conversion as Conversion
 use Rattle.memory.specs.Fields.{clockCount}
-use Rattle.memory.specs.Memory.{Memory, memory, over, written, recordOf, roomy, isRecord, Holds}
+use Rattle.memory.specs.Memory.{Memory, memory, over, written, recordOf, hasRoom, isRecord, HoldsRecord}
 
 -- what a call leaves: its answer and all of the memory that a host has lent
-pub record Kept : Type 0 where
+pub record HostResult : Type 0 where
   pub answer : ℕ
   pub store : List ℕ
   pub memory : Memory
 
-abbrev pub kept : ℕ → List ℕ → Memory → Kept
-kept answer store x = record { answer = answer; store = store; memory = x }
+abbrev pub hostResult : ℕ → List ℕ → Memory → HostResult
+hostResult answer store x = record { answer = answer; store = store; memory = x }
 
 -- beside it what a host is told of a picture: numbers, and its time
-pub record Shows : Type 0 where
-  pub kept : Kept
+pub record HostOutput : Type 0 where
+  pub kept : HostResult
   pub picture : List ℕ
   pub time : Float
 
-abbrev pub shows : Kept → List ℕ → Float → Shows
-shows x picture time = record { kept = x; picture = picture; time = time }
+abbrev pub hostOutput : HostResult → List ℕ → Float → HostOutput
+hostOutput x picture time = record { kept = x; picture = picture; time = time }
 
 -- RULES 8.9: the numbers: its store. A number is added at the end
 abbrev pub pictureNumbers : Shown → List ℕ
@@ -47,41 +47,41 @@ abbrev pub pictureCount : ℕ
 pictureCount = 1
 
 -- the record that a call of `decoder` leaves, over the beginning of the memory
-abbrev pub saved : {A : Type 0} → ℕ → Left A → Memory → Kept
-saved answer y x = kept answer (y .store) (written (y .decoder) x)
+abbrev pub saved : {A : Type 0} → ℕ → CallResult A → Memory → HostResult
+saved answer y x = hostResult answer (y .store) (written (y .decoder) x)
 
 -- RULES O: opening; 2 where there is no room for the record, which a refused opening gives too
-unfoldable pub opensIn : List ℕ → List ℕ → Memory → Kept
-opensIn s l x = if not (roomy x) then kept 2 l x else saved (openingNumber (opening s l .answer)) (opening s l) x
+unfoldable pub opensIn : List ℕ → List ℕ → Memory → HostResult
+opensIn s l x = if not (hasRoom x) then hostResult 2 l x else saved (openingErrorCode (opening s l .answer)) (opening s l) x
 
 -- what a hand-out leaves where the memory holds a record
-pub record HandsOut (answer : Outcome) (store : List ℕ) (z : Memory) (y : Left Outcome) (x : Memory) : Type 0 where
+pub record RefinesDecode (answer : Outcome) (store : List ℕ) (z : Memory) (y : CallResult Outcome) (x : Memory) : Type 0 where
   pub answered : answer ≡ y .answer
   pub stored : store ≡ y .store
   pub wrote : z ≡ written (y .decoder) x
-  pub holds : Holds z (y .decoder)
+  pub holds : HoldsRecord z (y .decoder)
 
 -- RULES 8.9: a picture's numbers, over the beginning of what is lent, and its time; or those from before
-abbrev pub handedOut : Left Outcome → Memory → List ℕ → Float → Shows
-handedOut y x k t = elim (y .answer) [
-  | H.Picture p ↦ shows (saved 0 y x) (over (pictureNumbers p) k) (p .time)
-  | H.Refused m ↦ shows (saved m y x) k t
+abbrev pub decodeOutput : CallResult Outcome → Memory → List ℕ → Float → HostOutput
+decodeOutput y x k t = elim (y .answer) [
+  | H.Picture p ↦ hostOutput (saved 0 y x) (over (pictureNumbers p) k) (p .time)
+  | H.Refused m ↦ hostOutput (saved m y x) k t
 ]
 
 -- RULES Q: question 1, then whether the memory holds a record and there is room for a picture's numbers, which is part of question 2, and the
 -- hand-out of that record
-unfoldable pub decodesIn : List ℕ → List ℕ → Memory → List ℕ → Float → Shows
+unfoldable pub decodesIn : List ℕ → List ℕ → Memory → List ℕ → Float → HostOutput
 decodesIn s l x k t =
-    if not (leb (length s) longestStream) then shows (kept 1 l x) k t
-    else if not (isRecord x && leb pictureCount (length k)) then shows (kept 2 l x) k t
-    else handedOut (handOut (recordOf x) s l) x k t
+    if not (leb (length s) longestStream) then hostOutput (hostResult 1 l x) k t
+    else if not (isRecord x && leb pictureCount (length k)) then hostOutput (hostResult 2 l x) k t
+    else decodeOutput (decode (recordOf x) s l) x k t
 
 -- a conversion reads no clock, so a host lends none: the record has one of 0.0
-abbrev pub still : List Float
-still = replicate clockCount noTime
+abbrev pub zeroClock : List Float
+zeroClock = replicate clockCount noTime
 
 abbrev pub unclocked : List ℕ → List ℤ → List ℕ → Memory
-unclocked n i m = memory n i m still
+unclocked n i m = memory n i m zeroClock
 
 -- what a conversion leaves: its answer and the whole area
 pub record Converts : Type 0 where
@@ -95,4 +95,4 @@ converts answer area = record { answer = answer; area = area }
 unfoldable pub convertsIn : List ℕ → Memory → ℕ → List ℕ → ℕ → ℕ → Converts
 convertsIn l x k a w h =
     if not (isRecord x) then converts 2 a
-    else let y = Conversion.converted (recordOf x) l k a w h in converts (conversionNumber (y .answer)) (y .area)
+    else let y = Conversion.converted (recordOf x) l k a w h in converts (conversionErrorCode (y .answer)) (y .area)

@@ -30,7 +30,7 @@ seen n =
     if leb numberCount (length n) && leb (number n 1) 1 then (if possibleSequence q then q else freshSequence) else freshSequence
 
 -- the macroblocks of a picture are few
-pub record Few (q : Sequence) : Type 0 where
+pub record FewMacroblocks (q : Sequence) : Type 0 where
   pub across : q .sizes .«mb_width» ≤ 256
   pub size : q .sizes .«mb_size» ≤ 65536
 

@@ -16,10 +16,11 @@ ghost use mathlib.Core.Bool.{true};
 ghost use lib.Dec.{leb};
 ghost use lib.ListN.{length};
 ghost use Rattle.decoder.specs.Opening as Open;
-ghost use Rattle.decoder.specs.HandOut as Out;
-ghost use Rattle.decoder.specs.Answers.{openingNumber, conversionNumber};
-ghost use Rattle.memory.specs.Memory.{memory, roomy, recordOf, isRecord, Holds};
-ghost use Rattle.mpeg1.specs.Calls.{kept, shows, opensIn, pictureNumbers, pictureCount, HandsOut, decodesIn, unclocked, converts, convertsIn};
+ghost use Rattle.decoder.specs.Decode as Out;
+ghost use Rattle.decoder.specs.Answers.{openingErrorCode, conversionErrorCode};
+ghost use Rattle.memory.specs.Memory.{memory, hasRoom, recordOf, isRecord, HoldsRecord};
+ghost use Rattle.mpeg1.specs.Calls.{hostResult, hostOutput, opensIn, pictureNumbers, pictureCount, RefinesDecode, decodesIn, unclocked, converts};
+ghost use Rattle.mpeg1.specs.Calls.{convertsIn};
 ghost use Rattle.bits.specs.Bounds.{longestStream};
 
 // How many numbers are told of a picture.
@@ -32,8 +33,8 @@ fn picture_numbers(p: Shown) -> [usize; PICTURE_NUMBERS]
     [p.store]
 }
 
-fn opening_number(x: Opening) -> u32
-    ensures { λ r. ⌜ r ≡ openingNumber x ⌝ }
+fn opening_error_code(x: Opening) -> u32
+    ensures { λ r. ⌜ r ≡ openingErrorCode x ⌝ }
 {
     match x {
         Opening::Ready => 0,
@@ -41,8 +42,8 @@ fn opening_number(x: Opening) -> u32
     }
 }
 
-fn converted_number(x: Converted) -> u32
-    ensures { λ r. ⌜ r ≡ conversionNumber x ⌝ }
+fn conversion_error_code(x: Converted) -> u32
+    ensures { λ r. ⌜ r ≡ conversionErrorCode x ⌝ }
 {
     match x {
         Converted::Written => 0,
@@ -60,11 +61,11 @@ pub extern "C" fn mpeg1_open(
     matrices: &mut [u8],
     clock: &mut [f64],
 ) -> u32
-    ensures left { λ r. ⌜ kept r (now (store .exit)) (memory (now (numbers .exit)) (now (integers .exit)) (now (matrices .exit)) (now (clock .exit)))
+    ensures left { λ r. ⌜ hostResult r (now (store .exit)) (memory (now (numbers .exit)) (now (integers .exit)) (now (matrices .exit)) (now (clock .exit)))
         ≡ opensIn (now (stream .entry)) (now (store .entry))
         (memory (now (numbers .entry)) (now (integers .entry)) (now (matrices .entry)) (now (clock .entry))) ⌝ }
-    ensures held { λ r. ⌜ (roomy (memory (now (numbers .entry)) (now (integers .entry)) (now (matrices .entry)) (now (clock .entry))) ≡ true
-        → Holds (memory (now (numbers .exit)) (now (integers .exit)) (now (matrices .exit)) (now (clock .exit)))
+    ensures held { λ r. ⌜ (hasRoom (memory (now (numbers .entry)) (now (integers .entry)) (now (matrices .entry)) (now (clock .entry))) ≡ true
+        → HoldsRecord (memory (now (numbers .exit)) (now (integers .exit)) (now (matrices .exit)) (now (clock .exit)))
         (Open.opening (now (stream .entry)) (now (store .entry)) .decoder)) ⌝ }
 {
     if !has_room(numbers, integers, matrices, clock) {
@@ -73,11 +74,11 @@ pub extern "C" fn mpeg1_open(
     let opened = Decoder::open(stream, store);
     let answer = opened.answer;
     save(opened.decoder, numbers, integers, matrices, clock);
-    opening_number(answer)
+    opening_error_code(answer)
 }
 
 // RULES 8: the hand-out of the record that the memory holds.
-fn hand_out(
+fn decode_record(
     stream: &[u8],
     store: &mut [u8],
     numbers: &mut [usize],
@@ -86,14 +87,14 @@ fn hand_out(
     clock: &mut [f64],
 ) -> Outcome
     requires { ⌜ isRecord (memory (now numbers) (now integers) (now matrices) (now clock)) ≡ true ⌝ }
-    ensures { λ r. ⌜ HandsOut r (now (store .exit)) (memory (now (numbers .exit)) (now (integers .exit)) (now (matrices .exit)) (now (clock .exit)))
-        (Out.handOut (recordOf (memory (now (numbers .entry)) (now (integers .entry)) (now (matrices .entry)) (now (clock .entry))))
+    ensures { λ r. ⌜ RefinesDecode r (now (store .exit)) (memory (now (numbers .exit)) (now (integers .exit)) (now (matrices .exit)) (now (clock .exit)))
+        (Out.decode (recordOf (memory (now (numbers .entry)) (now (integers .entry)) (now (matrices .entry)) (now (clock .entry))))
         (now (stream .entry)) (now (store .entry)))
         (memory (now (numbers .entry)) (now (integers .entry)) (now (matrices .entry)) (now (clock .entry))) ⌝ }
 {
-    let handed = record_of(numbers, integers, matrices, clock).decode(stream, store);
-    save(handed.decoder, numbers, integers, matrices, clock);
-    handed.outcome
+    let decoded = record_of(numbers, integers, matrices, clock).decode(stream, store);
+    save(decoded.decoder, numbers, integers, matrices, clock);
+    decoded.outcome
 }
 
 // RULES 8: 0 with the picture's numbers and time, or 1 to 9.
@@ -108,14 +109,14 @@ pub extern "C" fn mpeg1_decode(
     picture: &mut [usize],
     time: &mut f64,
 ) -> u32
-    ensures left { λ r. ⌜ shows (kept r (now (store .exit))
+    ensures left { λ r. ⌜ hostOutput (hostResult r (now (store .exit))
         (memory (now (numbers .exit)) (now (integers .exit)) (now (matrices .exit)) (now (clock .exit)))) (now (picture .exit)) (now (time .exit))
         ≡ decodesIn (now (stream .entry)) (now (store .entry))
         (memory (now (numbers .entry)) (now (integers .entry)) (now (matrices .entry)) (now (clock .entry))) (now (picture .entry)) (now (time .entry)) ⌝ }
     ensures held { λ r. ⌜ (isRecord (memory (now (numbers .entry)) (now (integers .entry)) (now (matrices .entry)) (now (clock .entry))) ≡ true
         → leb (length (now (stream .entry))) longestStream ≡ true → leb pictureCount (length (now (picture .entry))) ≡ true
-        → Holds (memory (now (numbers .exit)) (now (integers .exit)) (now (matrices .exit)) (now (clock .exit)))
-        (Out.handOut (recordOf (memory (now (numbers .entry)) (now (integers .entry)) (now (matrices .entry)) (now (clock .entry))))
+        → HoldsRecord (memory (now (numbers .exit)) (now (integers .exit)) (now (matrices .exit)) (now (clock .exit)))
+        (Out.decode (recordOf (memory (now (numbers .entry)) (now (integers .entry)) (now (matrices .entry)) (now (clock .entry))))
         (now (stream .entry)) (now (store .entry)) .decoder)) ⌝ }
 {
     if LONGEST_STREAM < stream.len() {
@@ -127,7 +128,7 @@ pub extern "C" fn mpeg1_decode(
     if !is_record(numbers, integers, matrices, clock) {
         return 2;
     }
-    let outcome = hand_out(stream, store, numbers, integers, matrices, clock);
+    let outcome = decode_record(stream, store, numbers, integers, matrices, clock);
     match outcome {
         Outcome::Picture(p) => {
             let told = picture_numbers(p);
@@ -161,5 +162,5 @@ pub extern "C" fn mpeg1_write_rgb_scaled(
     }
     let d = record_of(numbers, integers, matrices, &still);
     let answer = d.write_rgb_scaled(store, index, area, width, height);
-    converted_number(answer)
+    conversion_error_code(answer)
 }

@@ -22,7 +22,7 @@ ghost use Rattle.mpeg1.specs.Calls.{pictureCount};
 ghost use Rattle.mpeg1.specs.Views as View;
 
 fn seen(numbers: &[usize]) -> Sequence
-    ensures { λ r. ⌜ (r ≡ View.seen (now (numbers .entry))) × View.Few r ⌝ }
+    ensures { λ r. ⌜ (r ≡ View.seen (now (numbers .entry))) × View.FewMacroblocks r ⌝ }
 {
     if numbers.len() < NUMBERS {
         return fresh_sequence();

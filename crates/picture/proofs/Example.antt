@@ -7,12 +7,12 @@ use lib.IntN.{ℤ, pos}
 use lib.ListN.{replicate, take}
 use Rattle.laws.specs.Signed.{clamp255, odd}
 use Rattle.laws.specs.Stores.{storeRow, storeRows}
-use Rattle.bits.specs.Bits.{bitAt, bitsAt, got, next, codePrefix, codeFrom, found}
+use Rattle.bits.specs.Bits.{bitAt, bitsAt, readAt, afterRead, codePrefix, codeFrom, found}
 use Rattle.bits.specs.Programs.{run, bind, forBelow, loop, Out}
 use Rattle.codes.specs.Tables.{macroblockAddressIncrementIndex, macroblockAddressIncrementValue, macroblockTypeIntraIndex, macroblockTypeIntraValue}
 use Rattle.codes.specs.Tables.{macroblockTypePredictiveIndex, macroblockTypePredictiveValue, motionIndex, motionValue, dctSizeLuminanceIndex}
 use Rattle.codes.specs.Tables.{dctSizeLuminanceValue, dctSizeChrominanceIndex, dctSizeChrominanceValue, dctCoeffIndex, dctCoeffValue}
-use Rattle.codes.specs.Walk.{walkTurn, walk, vlc}
+use Rattle.codes.specs.Walk.{walkStep, walk, vlc}
 use Rattle.codes.specs.Codes as Codes
 use Rattle.codes.specs.Matrices.{downFrom, diagonals, zigZag, intraQuantMatrix, premultiplierMatrix}
 use Rattle.motion.specs.Displacement.{corrected}
@@ -25,15 +25,15 @@ use Rattle.coefficients.specs.Blocks as Block
 use Rattle.transform.specs.Butterfly.{butterfly}
 use Rattle.transform.specs.Idct.{columns, rows, idct, dcOnly}
 use Rattle.prediction.specs.Predict.{fetch}
-use Rattle.prediction.specs.Planes.{follow, next as following, predictedPlanes}
-use Rattle.prediction.specs.Writers.{setConst, overwrite, blockPlace}
-use Rattle.picture_state.specs.Ways.{leave, onward, plain, Way, on, out}
-use Rattle.macroblock_head.specs.Increments.{incrementTurn, increment}
+use Rattle.prediction.specs.Planes.{follow, thenPlane as following, predictedPlanes}
+use Rattle.prediction.specs.Writers.{setConst, overwrite, blockAddress}
+use Rattle.picture_state.specs.Result.{ifOk, bindResult, lift, Result, ok, error}
+use Rattle.macroblock_head.specs.Increments.{incrementStep, increment}
 use Rattle.macroblock_head.specs.Predictions.{unlessRefused, predictFrom, predict}
 use Rattle.macroblock_head.specs.Heads.{macroblockType, scale, vector, forward, backward, vectors, head, pattern}
 use Rattle.blocks.specs.Blocks.{results, written, blockEnd, oneBlock, blocks}
-use Rattle.macroblock.specs.Macroblocks.{advance, predictUnlessIntra, body, firstOf, laterOf, macroblock}
-use Rattle.slice.specs.Slices.{extraTurn, extra, pastMacroblock, sliceTurn, slice}
+use Rattle.macroblock.specs.Macroblocks.{advance, predictUnlessIntra, body, firstMacroblock, laterMacroblock, macroblock}
+use Rattle.slice.specs.Slices.{extraStep, extra, afterMacroblock, sliceStep, slice}
 use Rattle.picture.specs.Pictures as P
 use mathlib.Core.Bool.{false}
 use Rattle.picture_state.specs.declared.types.Motion.{Motion}
@@ -73,23 +73,23 @@ abbrev stream : List ℕ
 stream = 0x00 ∷ 0x08 ∷ 0xff ∷ 0xf8 ∷ 0x00 ∷ 0x00 ∷ 0x01 ∷ 0x01 ∷ 0x0b ∷ 0xb6 ∷ 0x94 ∷ 0xa4 ∷ 0x45 ∷ 0xd5 ∷ 0x4d ∷ 0x4a ∷
     0x44 ∷ 0x40 ∷ 0x00 ∷ 0x00 ∷ 0x01 ∷ 0x00 ∷ 0x00 ∷ []
 
-abbrev decoded : Out (Way P.Frame)
-decoded = run (P.picture sizes matrices (P.frame fresh none (replicate 2304 0))) stream 0
+abbrev decoded : Out (Result P.PictureState)
+decoded = run (P.picture sizes matrices (P.pictureState fresh none (replicate 2304 0))) stream 0
 
-abbrev storeOf : Way P.Frame → List ℕ
-storeOf (on f) = f .store
-storeOf (out n l) = l
+abbrev storeOf : Result P.PictureState → List ℕ
+storeOf (ok f) = f .store
+storeOf (error n l) = l
 
 -- the first row of plane Y in store 0
 pub row : take 32 (storeOf (decoded .value)) ≡ replicate 16 133 ++ replicate 16 128
-unfolding clamp255 odd storeRow storeRows bitAt bitsAt got next codePrefix codeFrom found run bind forBelow loop macroblockAddressIncrementIndex
+unfolding clamp255 odd storeRow storeRows bitAt bitsAt readAt afterRead codePrefix codeFrom found run bind forBelow loop macroblockAddressIncrementIndex
     macroblockAddressIncrementValue macroblockTypeIntraIndex macroblockTypeIntraValue dctSizeLuminanceIndex dctSizeLuminanceValue dctSizeChrominanceIndex
-    dctSizeChrominanceValue dctCoeffIndex dctCoeffValue walkTurn walk vlc Codes.macroblockAddressIncrement Codes.macroblockTypeIntra Codes.dctSizeLuminance
+    dctSizeChrominanceValue dctCoeffIndex dctCoeffValue walkStep walk vlc Codes.macroblockAddressIncrement Codes.macroblockTypeIntra Codes.dctSizeLuminance
     Codes.dctSizeChrominance Codes.dctCoeff downFrom diagonals zigZag intraQuantMatrix premultiplierMatrix Dcs.dcSize Dcs.added Dcs.dcDifference
-    Coefficients.runLevel Coefficients.coefficient dequantised Syntax.pairTurn Syntax.pairs Syntax.intraCoded Syntax.codedBlock Block.allPlaced
-    Block.reconstructed Block.block Block.leftOver butterfly columns rows idct dcOnly setConst overwrite leave onward plain incrementTurn increment
-    macroblockType scale head pattern blockPlace results written blockEnd oneBlock blocks advance predictUnlessIntra body firstOf laterOf
-    macroblock extraTurn extra pastMacroblock sliceTurn slice P.direction P.pictureHeader P.pastSlice P.slicesTurn P.slices P.coded P.picture
+    Coefficients.runLevel Coefficients.coefficient dequantised Syntax.pairStep Syntax.pairs Syntax.intraCoded Syntax.codedBlock Block.allPlaced
+    Block.reconstructed Block.block Block.blockDataAfter butterfly columns rows idct dcOnly setConst overwrite ifOk bindResult lift incrementStep increment
+    macroblockType scale head pattern blockAddress results written blockEnd oneBlock blocks advance predictUnlessIntra body firstMacroblock laterMacroblock
+    macroblock extraStep extra afterMacroblock sliceStep slice P.direction P.pictureHeader P.afterSlice P.slicesStep P.slices P.slicesInRoles P.picture
 row = refl
 
 abbrev one : Sizes
@@ -100,12 +100,13 @@ abbrev outside : List ℕ
 outside = 0x00 ∷ 0x0f ∷ 0xff ∷ 0xf8 ∷ 0x00 ∷ 0x00 ∷ 0x01 ∷ 0x01 ∷ 0x0b ∷ 0xfd ∷ 0xfe ∷ []
 
 -- RULES Q8: the DC value is 128 + 255
-pub eight : run (P.picture one matrices (P.frame fresh none (replicate 1152 7))) outside 0 ≡ record { value = out 8 (replicate 1152 7); at = 87 }
-unfolding bitAt bitsAt got next codePrefix codeFrom found run bind forBelow loop macroblockAddressIncrementIndex macroblockAddressIncrementValue
-    macroblockTypeIntraIndex macroblockTypeIntraValue dctSizeLuminanceIndex dctSizeLuminanceValue walkTurn walk vlc Codes.macroblockAddressIncrement
+pub eight : run (P.picture one matrices (P.pictureState fresh none (replicate 1152 7))) outside 0 ≡ record { value = error 8 (replicate 1152 7); at = 87 }
+unfolding bitAt bitsAt readAt afterRead codePrefix codeFrom found run bind forBelow loop macroblockAddressIncrementIndex macroblockAddressIncrementValue
+    macroblockTypeIntraIndex macroblockTypeIntraValue dctSizeLuminanceIndex dctSizeLuminanceValue walkStep walk vlc Codes.macroblockAddressIncrement
     Codes.macroblockTypeIntra Codes.dctSizeLuminance Dcs.dcSize Dcs.added Dcs.dcDifference Syntax.intraCoded Syntax.codedBlock Block.reconstructed
-    Block.block leave onward plain incrementTurn increment macroblockType scale head pattern blockEnd oneBlock blocks predictUnlessIntra body
-    firstOf macroblock extraTurn extra pastMacroblock sliceTurn slice P.direction P.pictureHeader P.pastSlice P.slicesTurn P.slices P.coded P.picture
+    Block.block ifOk bindResult lift incrementStep increment macroblockType scale head pattern blockEnd oneBlock blocks predictUnlessIntra body
+    firstMacroblock macroblock extraStep extra afterMacroblock sliceStep slice P.direction P.pictureHeader P.afterSlice P.slicesStep P.slices P.slicesInRoles
+        P.picture
 eight = refl
 
 -- a P picture with f code 1 whose macroblock has the type 001, a forward vector, and the motion codes 010 and 1: (1, 0) in half samples
@@ -113,10 +114,10 @@ abbrev past : List ℕ
 past = 0x00 ∷ 0x17 ∷ 0xff ∷ 0xf8 ∷ 0x80 ∷ 0x00 ∷ 0x00 ∷ 0x01 ∷ 0x01 ∷ 0x0a ∷ 0x54 ∷ []
 
 -- RULES Q9: the start 0 is max_address, and the half sample reaches 1 further
-pub nine : run (P.picture one matrices (P.frame fresh none (replicate 1152 7))) past 0 ≡ record { value = out 9 (replicate 1152 7); at = 86 }
-unfolding odd bitAt bitsAt got next codePrefix codeFrom found run bind loop macroblockAddressIncrementIndex macroblockAddressIncrementValue
-    macroblockTypePredictiveIndex macroblockTypePredictiveValue motionIndex motionValue walkTurn walk vlc Codes.macroblockAddressIncrement
-    Codes.macroblockTypePredictive Codes.motion displacement motionVector corrected fetch follow following predictedPlanes leave onward plain incrementTurn
-    increment unlessRefused predictFrom predict macroblockType scale vector forward backward vectors head predictUnlessIntra body firstOf macroblock
-    extraTurn extra pastMacroblock sliceTurn slice P.direction P.pictureHeader P.pastSlice P.slicesTurn P.slices P.coded P.picture
+pub nine : run (P.picture one matrices (P.pictureState fresh none (replicate 1152 7))) past 0 ≡ record { value = error 9 (replicate 1152 7); at = 86 }
+unfolding odd bitAt bitsAt readAt afterRead codePrefix codeFrom found run bind loop macroblockAddressIncrementIndex macroblockAddressIncrementValue
+    macroblockTypePredictiveIndex macroblockTypePredictiveValue motionIndex motionValue walkStep walk vlc Codes.macroblockAddressIncrement
+    Codes.macroblockTypePredictive Codes.motion displacement motionVector corrected fetch follow following predictedPlanes ifOk bindResult lift incrementStep
+    increment unlessRefused predictFrom predict macroblockType scale vector forward backward vectors head predictUnlessIntra body firstMacroblock macroblock
+    extraStep extra afterMacroblock sliceStep slice P.direction P.pictureHeader P.afterSlice P.slicesStep P.slices P.slicesInRoles P.picture
 nine = refl

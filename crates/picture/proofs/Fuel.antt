@@ -7,7 +7,7 @@ use native.Mathlib.Nat.{lt-of-lt-of-le}
 use native.Mathlib.Omega.{arith}
 use lib.IntN.{negsuc, natAbs}
 use lib.ListN.{length}
-use Rattle.laws.specs.Turns.{Turn}
+use Rattle.laws.specs.Loops.{Step}
 use Rattle.bits.specs.Bounds.{longestStream}
 use Rattle.bits.specs.Bits.{Found, boundary, found}
 use Rattle.bits.specs.Programs.{Prog, bind, loop, many, run}
@@ -17,8 +17,8 @@ use Rattle.bits.proofs.Rules.{Takes}
 use Rattle.bits.proofs.Start.{Searched, first, none, found-is-first}
 use Rattle.picture_state.specs.declared.types.Context.{Context}
 use Rattle.picture_state.specs.declared.types.Matrices.{Matrices}
-use Rattle.picture_state.specs.State.{world, startCodeAs}
-use Rattle.picture_state.specs.Ways.{Way, on}
+use Rattle.picture_state.specs.State.{sliceState, startCodeAs}
+use Rattle.picture_state.specs.Result.{Result, ok}
 use Rattle.slice.specs.Slices.{slice}
 use Rattle.picture.specs.Pictures as P
 use Rattle.bits.proofs.EnoughFuel.{takes, enough}
@@ -30,24 +30,25 @@ found-takes s a g = go (found s a) (found-is-first s a) g
     go f (first p w q) k = (omega (arith, w .from, ap (λ (f : Found). f .at) q), omega (arith, w .from, w .five))
     go f (none w q) k = absurd (k (ap (λ (f : Found). f .code) q))
 
-pub slices-take : (g : Context) (m : Matrices) (s : List ℕ) (x : P.Slices) (a : ℕ) → Takes (length s * 8) a (run (P.slicesTurn g m x) s a .value)
-    (run (P.slicesTurn g m x) s a .at)
-unfolding P.slicesTurn run bind
+pub slices-take : (g : Context) (m : Matrices) (s : List ℕ) (x : P.SlicesLoopState) (a : ℕ) → Takes (length s * 8) a (run (P.slicesStep g m x) s a .value)
+    (run (P.slicesStep g m x) s a .at)
+unfolding P.slicesStep run bind
 slices-take g m s x a =
     let c = found s a .code in
     let e = found s a .at in
-    let Ends : Prog (Turn P.Slices (Way P.Frame)) → Type 0 = λ p. Takes (length s * 8) a (run p s e .value) (run p s e .at) in
+    let Ends : Prog (Step P.SlicesLoopState (Result P.PictureState)) → Type 0 = λ p. Takes (length s * 8) a (run p s e .value) (run p s e .at) in
     by-case Ends (P.isSlice c) (λ q.
     let f = found-takes s a (λ z. false≢true (sym (ap P.isSlice z) ∙ q)) in
-    let p = startCodeAs c (x .frame .picture) in
-    let rest = bind (slice g m (natAbs c) (world (p .slice) (x .frame .«block_data») (x .frame .store))) (P.pastSlice g p) in
+    let p = startCodeAs c (x .pictureState .picture) in
+    let rest = bind (slice g m (natAbs c) (sliceState (p .slice) (x .pictureState .«block_data») (x .pictureState .store))) (P.afterSlice g p) in
     let o = run rest s e in
     takes (length s * 8) a (o .value) (o .at)
     (lt-of-lt-of-le (f .0) (run-on rest s e)) (f .1)) (λ q.
     by-case Ends (P.isExtra c && not (x .begun)) (λ q. found-takes s a (λ z. false≢true (sym (ap P.isExtra z) ∙ both _ _ q .0))) (λ q. tt))
 
 -- RULES 7.3
-pub slices-fuel : (g : Context) (m : Matrices) (s : List ℕ) → length s ≤ longestStream → (n : ℕ) → many ≤ n → (d : Way P.Frame) (f : P.Frame) (a : ℕ)
-    → run (loop n (P.slicesTurn g m) d (P.slicesOf false f)) s a ≡ run (P.slices g m f) s a
+pub slices-fuel : (g : Context) (m : Matrices) (s : List ℕ) → length s ≤ longestStream → (n : ℕ) → many ≤ n
+    → (d : Result P.PictureState) (f : P.PictureState) (a : ℕ)
+    → run (loop n (P.slicesStep g m) d (P.slicesLoopState false f)) s a ≡ run (P.slices g m f) s a
 unfolding P.slices
-slices-fuel g m s l n h d f a = enough s (P.slicesTurn g m) (slices-take g m s) l n h d (on f) (P.slicesOf false f) a
+slices-fuel g m s l n h d f a = enough s (P.slicesStep g m) (slices-take g m s) l n h d (ok f) (P.slicesLoopState false f) a

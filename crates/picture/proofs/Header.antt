@@ -9,7 +9,7 @@ use Rattle.laws.proofs.Tests.{by-case}
 use Rattle.picture_state.specs.declared.types.Motion.{Motion}
 use Rattle.picture_state.specs.declared.types.Picture.{Picture}
 use Rattle.macroblock_head.specs.Heads.{forward, backward}
-use Rattle.picture.specs.Pictures.{Direction, absent, present, PictureHeader, direction, pictureHeader, motionBy, headed}
+use Rattle.picture.specs.Pictures.{Direction, absent, present, PictureHeader, direction, pictureHeader, motionBy, withPictureHeader}
 use Rattle.picture_state.specs.Possible.{PossibleMotion, PossiblePicture}
 use Rattle.picture_state.proofs.Kept.{motions-kept}
 
@@ -40,7 +40,7 @@ motion-by absent h k = k
 motion-by (present full f) h k =
     by-case PossibleMotion (eqb f 0) (λ e. record { size = k .size; h = k .h; v = k .v }) (λ e. record { size = omega arith; h = k .h; v = k .v })
 
-pub headed-possible : {p : Picture} {h : PictureHeader} → PossiblePicture p → HeaderFits h → PossiblePicture (headed h p)
+pub headed-possible : {p : Picture} {h : PictureHeader} → PossiblePicture p → HeaderFits h → PossiblePicture (withPictureHeader h p)
 headed-possible {h = h} k i = record {
   type = i .type;
   code = k .code;

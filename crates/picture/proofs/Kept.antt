@@ -28,7 +28,7 @@ use Rattle.picture_state.specs.declared.types.Slice.{Slice}
 use Rattle.picture_state.specs.declared.types.Picture.{Picture}
 use Rattle.picture_state.specs.State.{storesAs, addressAs}
 use Rattle.picture_state.specs.Possible.{between, possiblePicture, PossibleStores, PossibleSlice, PossiblePicture}
-use Rattle.picture_state.specs.Ways.{Way, on, out}
+use Rattle.picture_state.specs.Result.{Result, ok, error}
 use Rattle.macroblock_head.specs.Predictions.{unlessRefused}
 use Rattle.blocks.specs.Blocks.{predictorOf}
 use Rattle.macroblock.specs.Macroblocks.{skipReset}
@@ -41,16 +41,16 @@ use Rattle.picture_state.proofs.Possible.{between-of, between-by, picture-of, p
 use Rattle.picture_state.proofs.Kept.{motions-kept, predictors-kept, reset-kept, predictors-reset, predictors-set}
 use Rattle.macroblock_head.proofs.Kept.{still-kept, head-gives}
 use Rattle.picture.proofs.Header.{header-fits, headed-possible}
-use Rattle.picture_state.proofs.Exits.{Ways, ways-as, onward-ways}
-use Rattle.picture.proofs.Walk.{Invariant, Keeps, Framed, slices-ways}
+use Rattle.picture_state.proofs.Exits.{OnResult, results-as, bind-results}
+use Rattle.picture.proofs.Walk.{Invariant, Keeps, Framed, slices-results}
 
 -- a picture leaves early with 8 or 9 and a store of n numbers
 abbrev Leaves : ℕ → ℕ → List ℕ → Type 0
 Leaves n k l = ((k ≡ 8) ⊎ (k ≡ 9)) × (length l ≡ n)
 
 -- a way goes on with P, or leaves so
-abbrev pub Ends : {A : Type 0} → ℕ → (A → Type 0) → Way A → Type 0
-Ends n P = Ways P (Leaves n)
+abbrev pub Ends : {A : Type 0} → ℕ → (A → Type 0) → Result A → Type 0
+Ends n P = OnResult P (Leaves n)
 
 -- ---- the steps
 
@@ -101,7 +101,7 @@ refused-ends : (n : ℕ) (o : After) → length (o .store) ≡ n → Ends n (λ 
 unfolding unlessRefused
 refused-ends n o h = go (o .answer)
   where
-    go : (a : Predicted) → Ends n (λ (l : List ℕ). length l ≡ n) (elim a as (λ x. Way (List ℕ)) [ Done ↦ on (o .store) | Refused ↦ out 9 (o .store) ])
+    go : (a : Predicted) → Ends n (λ (l : List ℕ). length l ≡ n) (elim a as (λ x. Result (List ℕ)) [ Done ↦ ok (o .store) | Refused ↦ error 9 (o .store) ])
     go Done = h
     go Refused = (inr refl, h)
 
@@ -146,7 +146,7 @@ keeps H {s} n g m c = record {
 }
 
 -- what a picture leaves
-record PictureKept (H : Type 0) (n : ℕ) (f : P.Frame) : Type 0 where
+record PictureKept (H : Type 0) (n : ℕ) (f : P.PictureState) : Type 0 where
   picture : H → PossiblePicture (f .picture)
   block : H → Bounded (f .«block_data»)
   store : length (f .store) ≡ n
@@ -157,11 +157,11 @@ after-kept k = record { cur = k .fwd; fwd = k .bwd; bwd = k .cur; cur-fwd = k .f
 
 module _ (H : Type 0) {s : List ℕ} (z : Sizes) (c : Domain H s z) (m : Matrices) (n : ℕ) where
   -- behind the slices of the picture p
-  abbrev Behind : Picture → P.Frame → Type 0
+  abbrev Behind : Picture → P.PictureState → Type 0
   Behind p = Framed (keeps H n (P.contextOf z p) m c) p
 
-  begin : (t : Stores) (f : P.Frame) → PictureKept H n f
-      → let p = storesAs t (f .picture) in Behind p (P.inPicture p f)
+  begin : (t : Stores) (f : P.PictureState) → PictureKept H n f
+      → let p = storesAs t (f .picture) in Behind p (P.withPicture p f)
   begin t f k = record {
     type = refl;
     stores = refl;
@@ -171,13 +171,13 @@ module _ (H : Type 0) {s : List ℕ} (z : Sizes) (c : Domain H s z) (m : Matrice
     store = k .store;
   }
 
-  coded-ends : (f : P.Frame) → PictureKept H n f → Gives s (Ends n (PictureKept H n)) (P.coded z m f)
-  unfolding P.coded
+  coded-ends : (f : P.PictureState) → PictureKept H n f → Gives s (Ends n (PictureKept H n)) (P.slicesInRoles z m f)
+  unfolding P.slicesInRoles
   coded-ends f k =
       let p = f .picture in
       let q = storesAs (P.before (p .stores)) p in
       g-if (eqb (p .«picture_type») 3)
-      (λ b. g-as (ways-as (Leaves n) {P = Behind p} {Q = PictureKept H n} (λ x i. record {
+      (λ b. g-as (results-as (Leaves n) {P = Behind p} {Q = PictureKept H n} (λ x i. record {
         picture = λ η. record {
           type = rw (i .type) (k .picture η .type);
           code = i .code η;
@@ -186,9 +186,9 @@ module _ (H : Type 0) {s : List ℕ} (z : Sizes) (c : Domain H s z) (m : Matrice
         };
         block = i .block;
         store = i .store;
-      })) (slices-ways (keeps H n (P.contextOf z p) m c) p f (begin (p .stores) f k)))
-      (λ b. onward-ways (Leaves n) {P = Behind q} _
-      (slices-ways (keeps H n (P.contextOf z q) m c) q (P.inPicture q f) (begin (P.before (p .stores)) f k))
+      })) (slices-results (keeps H n (P.contextOf z p) m c) p f (begin (p .stores) f k)))
+      (λ b. bind-results (Leaves n) {P = Behind q} _
+      (slices-results (keeps H n (P.contextOf z q) m c) q (P.withPicture q f) (begin (P.before (p .stores)) f k))
       (λ x i. g-done (record {
         picture = λ η. record {
           type = rw (i .type) (k .picture η .type);
@@ -200,39 +200,39 @@ module _ (H : Type 0) {s : List ℕ} (z : Sizes) (c : Domain H s z) (m : Matrice
         store = i .store;
       })))
 
-  picture-ends : (f : P.Frame) → PictureKept H n f → Gives s (Ends n (PictureKept H n)) (P.picture z m f)
+  picture-ends : (f : P.PictureState) → PictureKept H n f → Gives s (Ends n (PictureKept H n)) (P.picture z m f)
   unfolding P.picture
   picture-ends f k =
       g-bind _ header-fits (λ h i.
-      let x = P.inPicture (P.headed h (f .picture)) f in
+      let x = P.withPicture (P.withPictureHeader h (f .picture)) f in
       let kept : PictureKept H n x = record { picture = λ η. headed-possible (k .picture η) i; block = k .block; store = k .store } in
       g-if (P.isDecoded h) (λ d. coded-ends x kept) (λ d. g-done kept))
 
 -- RULES Q8, Q9: whatever the state, store and stream, a picture leaves early with 8 or 9 only, and the store stays as long as it was
-abbrev pub SameLength : List ℕ → P.Frame → Type 0
+abbrev pub SameLength : List ℕ → P.PictureState → Type 0
 SameLength l f = length (f .store) ≡ length l
 
-pub picture-leaves : (z : Sizes) (m : Matrices) (f : P.Frame) (s : List ℕ) (a : ℕ)
+pub picture-leaves : (z : Sizes) (m : Matrices) (f : P.PictureState) (s : List ℕ) (a : ℕ)
     → Ends (length (f .store)) (SameLength (f .store)) (run (P.picture z m f) s a .value)
 picture-leaves z m f s a =
-    g-as (ways-as (Leaves (length (f .store))) {P = PictureKept ⊥ (length (f .store))} {Q = SameLength (f .store)} (λ x i. i .store))
+    g-as (results-as (Leaves (length (f .store))) {P = PictureKept ⊥ (length (f .store))} {Q = SameLength (f .store)} (λ x i. i .store))
     (picture-ends ⊥ {s = s} z (record { width = λ η. absurd η; size = λ η. absurd η; stream = λ η. absurd η; bytes = λ η. absurd η }) m
     (length (f .store)) f (record { picture = λ η. absurd η; block = λ η. absurd η; store = refl }))
     .value a
 
 -- RULES Q2: on a stream of bytes, and with sizes that a header can say, it leaves a possible state possible
-pub record StaysPossible (l : List ℕ) (f : P.Frame) : Type 0 where
+pub record StaysPossible (l : List ℕ) (f : P.PictureState) : Type 0 where
   pub picture : possiblePicture (f .picture) ≡ true
   pub block : Bounded (f .«block_data»)
   pub store : length (f .store) ≡ length l
 
-pub picture-kept : (z : Sizes) (m : Matrices) (f : P.Frame) (s : List ℕ) (a : ℕ) → z .«mb_width» ≤ 256 → z .«mb_height» ≤ 256
+pub picture-kept : (z : Sizes) (m : Matrices) (f : P.PictureState) (s : List ℕ) (a : ℕ) → z .«mb_width» ≤ 256 → z .«mb_height» ≤ 256
     → z .«mb_size» ≡ z .«mb_width» * z .«mb_height»
     → possiblePicture (f .picture) ≡ true → Bounded (f .«block_data») → length s ≤ longestStream → ((k : ℕ) → getD s k 0 < 256)
     → Ends (length (f .store)) (StaysPossible (f .store)) (run (P.picture z m f) s a .value)
 picture-kept z m f s a w h e k b most bytes =
     let n = length (f .store) in
-    g-as (ways-as (Leaves n) {P = PictureKept (Unit {0}) n} {Q = StaysPossible (f .store)}
+    g-as (results-as (Leaves n) {P = PictureKept (Unit {0}) n} {Q = StaysPossible (f .store)}
     (λ x i. record { picture = picture-by (i .picture tt); block = i .block tt; store = i .store }))
     (picture-ends (Unit {0}) {s = s} z
     (record { width = λ η. w; size = λ η. omega (arith, e, mul-le-mul w h); stream = λ η. most; bytes = λ η. bytes }) m n f

@@ -5,4 +5,4 @@ pub mod Walk
 pub mod Kept
 pub mod Places
 pub mod PictureLoop
-pub mod Turning
+pub mod SlicesStep

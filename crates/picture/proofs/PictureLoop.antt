@@ -12,7 +12,7 @@ use lib.Signed.{nonNeg, ltZ, leZ}
 use mir.Syntax.{w32, w64}
 use mir.Val.{Fits, SFits, toZ, ofZ}
 use mir.Facts.{toZ-ofZ}
-use Rattle.laws.specs.Turns.{again, stop}
+use Rattle.laws.specs.Loops.{continue, finish}
 use Rattle.laws.proofs.Ints.{up, dn, v, lit, le-yes, yes-le, no-le, lt-yes, lt-no, fits-by, cast-by, cast-is, same-bits}
 use Rattle.laws.proofs.Tests.{both}
 use Rattle.bits.specs.declared.reader.Reader.{Reader}
@@ -23,8 +23,8 @@ use Rattle.bits.proofs.Rules.{Loops, loop-start, loop-on, loop-end, takes-less,
 use Rattle.picture_state.specs.declared.types.Picture.{Picture}
 use Rattle.picture_state.specs.Possible.{PossiblePicture}
 use Rattle.picture_state.proofs.Possible.{between-of}
-use Rattle.picture_state.specs.State.{world}
-use Rattle.picture_state.specs.Ways.{on}
+use Rattle.picture_state.specs.State.{sliceState}
+use Rattle.picture_state.specs.Result.{ok}
 use Rattle.slice.specs.Slices.{slice}
 use Rattle.picture.specs.Pictures as P
 use Rattle.picture.proofs.Fuel.{slices-take}
@@ -33,9 +33,9 @@ use Rattle.picture_state.specs.declared.types.Matrices.{Matrices}
 use Rattle.picture_state.specs.declared.types.Slice.{Slice}
 use Rattle.picture_state.specs.declared.types.Progress.{Progress}
 use Rattle.picture_state.specs.declared.types.SlicesProgress.{SlicesProgress}
-use Rattle.picture_state.specs.Contracts.{way, Held, Reads, Passed}
-use Rattle.picture.specs.Contracts.{frameOf, slicesOn, Turned, Pictured}
-use Rattle.picture.specs.Behind.{pastOf}
+use Rattle.picture_state.specs.Contracts.{resultOf, StoreFits, ReadInvariant, RefinesInSlice}
+use Rattle.picture.specs.Contracts.{pictureStateOf, slicesStepOf, RefinesSlicesStep, RefinesSlices}
+use Rattle.picture.specs.CodeResults.{afterSliceOf}
 
 -- ---- a start code
 
@@ -75,95 +75,95 @@ module _ (c : ℤ) (e : P.isSlice c ≡ true) where
 -- ---- behind a slice
 
 abbrev ended : ℤ → Progress → Bool → SlicesProgress
-ended code w t = record { reader = w .reader; code = code; state = w .state; begun = true; again = t; stop = w .stop }
+ended code w t = record { reader = w .reader; code = code; state = w .state; begun = true; continues = t; stop = w .stop }
 
 module _ (g : Context) (w : Progress) {c code : ℤ} (e : c ≡ code) where
   abbrev last : Bool
   last = leZ (pos (g .sizes .«mb_size»)) (w .state .«macroblock_address» +ℤ pos 1)
 
-  pub past-stop : (w .stop ≡ 0 → ⊥) → ended c w false ≡ pastOf g code w
+  pub past-stop : (w .stop ≡ 0 → ⊥) → ended c w false ≡ afterSliceOf g code w
   past-stop h = rw e (ap (λ (t : Bool). ended code w (t && not last)) (sym (ne-eqb (w .stop) 0 h)))
 
-  pub past-on : w .stop ≡ 0 → {t : Bool} → t ≡ last → ended c w (not t) ≡ pastOf g code w
+  pub past-on : w .stop ≡ 0 → {t : Bool} → t ≡ last → ended c w (not t) ≡ afterSliceOf g code w
   past-on h q =
       rw e (ap (λ (t : Bool). ended code w (not t)) q ∙ ap (λ (t : Bool). ended code w (t && not last)) (sym (eq-eqb (w .stop) 0 h)))
 
 -- ---- a turn
 
-module _ {g : Context} {s : List ℕ} {reader : Reader} {x : Slice} {left : List ℤ} {store : List ℕ} (k : Reads s reader x left)
-    (held : Held g store) (m : Matrices) (begun : Bool) {code : ℤ} {after : Reader} (found : Reading nextStartCode s reader code after)
+module _ {g : Context} {s : List ℕ} {reader : Reader} {x : Slice} {left : List ℤ} {store : List ℕ} (k : ReadInvariant s reader x left)
+    (held : StoreFits g store) (m : Matrices) (begun : Bool) {code : ℤ} {after : Reader} (found : Reading nextStartCode s reader code after)
     (few : natAbs code ≤ 255) where
   -- a slice that ended with the number n, and behind which the picture ends or not
   behind : (y : Slice) (left₁ : List ℤ) (store₁ : List ℕ) (to : Reader) (n : ℕ) (last : Bool)
       → leZ (pos (g .sizes .«mb_size»)) (y .«macroblock_address» +ℤ pos 1) ≡ last
-      → Runs (P.pastSlice g (frameOf g code x left store .picture) (way n (world y left₁ store₁) store₁)) s to
-      (slicesOn (eqb n 0 && not last) true n (frameOf g code y left₁ store₁)) to
-  unfolding P.pastSlice
+      → Runs (P.afterSlice g (pictureStateOf g code x left store .picture) (resultOf n (sliceState y left₁ store₁) store₁)) s to
+      (slicesStepOf (eqb n 0 && not last) true n (pictureStateOf g code y left₁ store₁)) to
+  unfolding P.afterSlice
   behind y left₁ store₁ to zero true q = r-yes _ q r-done
   behind y left₁ store₁ to zero false q = r-no _ q r-done
   behind y left₁ store₁ to (suc n) last q = let z : eqb (suc n) 0 ≡ false = ne-eqb (suc n) 0 (λ e. omega (arith, e)) in rw z r-done
 
   pub turned-slice : P.isSlice code ≡ true → (w : Progress) {left₁ : List ℤ} {store₁ : List ℕ}
-      → Passed (slice g m (natAbs code) (world x left store)) g s after w left₁ store₁
-      → Turned g m s reader begun x left store (pastOf g code w) left₁ store₁
-  unfolding P.slicesTurn
+      → RefinesInSlice (slice g m (natAbs code) (sliceState x left store)) g s after w left₁ store₁
+      → RefinesSlicesStep g m s reader begun x left store (afterSliceOf g code w) left₁ store₁
+  unfolding P.slicesStep
   turned-slice e w {left₁} {store₁} p = record {
     runs = λ before. r-call _ (found .runs) (r-yes _ e (r-call _ (p .runs) (behind (w .state) left₁ store₁ (w .reader) (w .stop) _ refl)));
     reads = p .reads;
-    held = p .held;
+    storeFits = p .storeFits;
     few = few;
   }
 
   pub turned-other : P.isSlice code ≡ false → (t : Bool) → t ≡ (P.isExtra code && not begun)
-      → Turned g m s reader begun x left store
-      (record { reader = after; code = code; state = x; begun = false; again = t; stop = 0 }) left store
-  unfolding P.slicesTurn
+      → RefinesSlicesStep g m s reader begun x left store
+      (record { reader = after; code = code; state = x; begun = false; continues = t; stop = 0 }) left store
+  unfolding P.slicesStep
   turned-other e t q = record {
     runs = λ before. r-call _ (found .runs) (r-no _ e (picked before t (sym q)));
     reads = record { inside = found .inside; slice = k .slice; block = k .block };
-    held = held;
+    storeFits = held;
     few = few;
   }
     where
       picked : (before : ℤ) (t : Bool) → (P.isExtra code && not begun) ≡ t
-          → Runs (if P.isExtra code && not begun then done (again (P.slicesOf false (frameOf g code x left store)))
-          else done (stop (on (frameOf g code x left store)))) s after
-          (slicesOn t false 0 (frameOf g code x left store)) after
+          → Runs (if P.isExtra code && not begun then done (continue (P.slicesLoopState false (pictureStateOf g code x left store)))
+          else done (finish (ok (pictureStateOf g code x left store)))) s after
+          (slicesStepOf t false 0 (pictureStateOf g code x left store)) after
       picked before true q = r-yes _ q r-done
       picked before false q = r-no _ q r-done
 
 -- ---- the loop
 
 -- before a start code, at `from`; the code that came before does not matter
-pub record AtSlices (g : Context) (m : Matrices) (s : List ℕ) (from₀ : Reader) (f₀ : P.Frame) (begun : Bool) (from : Reader)
+pub record AtSlices (g : Context) (m : Matrices) (s : List ℕ) (from₀ : Reader) (f₀ : P.PictureState) (begun : Bool) (from : Reader)
     (x : Slice) (left : List ℤ) (store : List ℕ) : Type 0 where
   pub code : ℤ
-  pub reads : Reads s from x left
-  pub held : Held g store
+  pub reads : ReadInvariant s from x left
+  pub storeFits : StoreFits g store
   pub long : length store ≡ length (f₀ .store)
-  pub rest : Loops many (P.slicesTurn g m) (on f₀) (P.slicesOf false f₀) s from₀
-      (P.slicesOf begun (frameOf g code x left store)) from (bitsLeft s from)
+  pub rest : Loops many (P.slicesStep g m) (ok f₀) (P.slicesLoopState false f₀) s from₀
+      (P.slicesLoopState begun (pictureStateOf g code x left store)) from (bitsLeft s from)
 
 pub at-slices : {g : Context} {m : Matrices} {s : List ℕ} {from : Reader} {x : Slice} {left : List ℤ} {store : List ℕ} (code : ℤ)
-    → Reads s from x left → Held g store → AtSlices g m s from (frameOf g code x left store) false from x left store
-at-slices code k h = record { code = code; reads = k; held = h; long = refl; rest = loop-start (omega (arith, k .inside .stream)) }
+    → ReadInvariant s from x left → StoreFits g store → AtSlices g m s from (pictureStateOf g code x left store) false from x left store
+at-slices code k h = record { code = code; reads = k; storeFits = h; long = refl; rest = loop-start (omega (arith, k .inside .stream)) }
 
-module _ {g : Context} {m : Matrices} {s : List ℕ} {from₀ : Reader} {f₀ : P.Frame} {begun : Bool} {from : Reader} {x : Slice}
+module _ {g : Context} {m : Matrices} {s : List ℕ} {from₀ : Reader} {f₀ : P.PictureState} {begun : Bool} {from : Reader} {x : Slice}
     {left : List ℤ} {store : List ℕ} (i : AtSlices g m s from₀ f₀ begun from x left store)
-    {r : SlicesProgress} {left₁ : List ℤ} {store₁ : List ℕ} (t : Turned g m s from begun x left store r left₁ store₁) where
-  pub slices-end : r .again ≡ false → Pictured (P.slices g m f₀) g s from₀ r left₁ store₁
+    {r : SlicesProgress} {left₁ : List ℤ} {store₁ : List ℕ} (t : RefinesSlicesStep g m s from begun x left store r left₁ store₁) where
+  pub slices-end : r .continues ≡ false → RefinesSlices (P.slices g m f₀) g s from₀ r left₁ store₁
   unfolding P.slices
-  slices-end e = record { runs = loop-end (i .rest) (rw e at (t .runs (i .code))); reads = t .reads; held = t .held; few = t .few }
+  slices-end e = record { runs = loop-end (i .rest) (rw e at (t .runs (i .code))); reads = t .reads; storeFits = t .storeFits; few = t .few }
 
-  pub slices-less : r .again ≡ true → bitsLeft s (r .reader) < bitsLeft s from
-  slices-less e = takes-less (P.slicesTurn g m) (slices-take g m s) (rw e at (t .runs (i .code)))
+  pub slices-less : r .continues ≡ true → bitsLeft s (r .reader) < bitsLeft s from
+  slices-less e = takes-less (P.slicesStep g m) (slices-take g m s) (rw e at (t .runs (i .code)))
 
-  pub slices-on : r .again ≡ true → length store₁ ≡ length store
+  pub slices-on : r .continues ≡ true → length store₁ ≡ length store
       → AtSlices g m s from₀ f₀ (r .begun) (r .reader) (r .state) left₁ store₁
   slices-on e l = record {
     code = r .code;
     reads = t .reads;
-    held = t .held;
+    storeFits = t .storeFits;
     long = l ∙ i .long;
     rest = loop-on (i .rest) (rw e at (t .runs (i .code))) (slices-less e);
   }

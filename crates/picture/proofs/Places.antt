@@ -7,10 +7,10 @@ use native.Mathlib.Omega.{arith}
 use lib.Dec.{eqb}
 use lib.IntN.{ℤ, pos, negsuc, natAbs}
 use lib.ListN.{length}
-use Rattle.laws.specs.Turns.{Turn, again, stop}
+use Rattle.laws.specs.Loops.{Step, continue, finish}
 use Rattle.bits.specs.Bounds.{longestStream}
-use Rattle.bits.specs.Bits.{Found, boundary, has, got, next, found}
-use Rattle.bits.specs.Programs.{Prog, done, bind, bits, loop, many, run, turn}
+use Rattle.bits.specs.Bits.{Found, boundary, has, readAt, afterRead, found}
+use Rattle.bits.specs.Programs.{Prog, done, bind, bits, loop, many, run, continueWith}
 use Rattle.bits.proofs.Start.{isCode, Searched, first, none, found-is-first}
 use Rattle.bits.proofs.Programs.{run-bind, run-on, served-next}
 use Rattle.laws.proofs.Tests.{by-case}
@@ -19,8 +19,8 @@ use Rattle.picture_state.specs.declared.types.Sizes.{Sizes}
 use Rattle.picture_state.specs.declared.types.Matrices.{Matrices}
 use Rattle.picture_state.specs.declared.types.Picture.{Picture}
 use Rattle.picture_state.specs.declared.types.Context.{Context}
-use Rattle.picture_state.specs.State.{World, world, startCodeAs, storesAs}
-use Rattle.picture_state.specs.Ways.{Way, on, out, leave, onward, give}
+use Rattle.picture_state.specs.State.{SliceState, sliceState, startCodeAs, storesAs}
+use Rattle.picture_state.specs.Result.{Result, ok, error, ifOk, bindResult, pure}
 use Rattle.slice.specs.Slices.{isLast, slice}
 use Rattle.picture.specs.Pictures as P
 
@@ -29,8 +29,8 @@ use Rattle.picture.specs.Pictures as P
 record Takes {A : Type 0} (n : ℕ) (p : Prog A) : Type 0 where
   pub most : (s : List ℕ) (a : ℕ) → run p s a .at ≤ a + n
 
-next-near : (s : List ℕ) (a n : ℕ) → next s a n ≤ a + n
-unfolding next
+next-near : (s : List ℕ) (a n : ℕ) → afterRead s a n ≤ a + n
+unfolding afterRead
 next-near s a n = go (has s a n)
   where
     go : (b : Bool) → cond b (a + n) a ≤ a + n
@@ -84,14 +84,14 @@ comes-first {s = s} {a} p f c = record { least = rw (run-bind p f s a) (omega (a
 comes-bits : {A : Type 0} {s : List ℕ} {a b : ℕ} (n : ℕ) (f : ℕ → Prog A) → a + n ≤ length s * 8 → ((x : ℕ) → Comes s (a + n) b (f x))
     → Comes s a b (bind (bits n) f)
 unfolding run bind
-comes-bits {s = s} {a} {b} n f h c = record { least = rw (served-next s a n h) (c (got s a n) .least) }
+comes-bits {s = s} {a} {b} n f h c = record { least = rw (served-next s a n h) (c (readAt s a n) .least) }
 
 header-comes : (s : List ℕ) (a : ℕ) → a + 29 ≤ length s * 8 → Comes s a (a + 10 + 3 + 16) P.pictureHeader
 unfolding P.pictureHeader
 header-comes s a h =
     comes-bits 10 _ (omega arith) (λ temporal. comes-bits 3 _ (omega arith) (λ type. comes-bits 16 _ (omega arith) (λ delay. comes-here)))
 
-pub picture-past : (z : Sizes) (m : Matrices) (f : P.Frame) (s : List ℕ) (a : ℕ) → a + 29 ≤ length s * 8
+pub picture-past : (z : Sizes) (m : Matrices) (f : P.PictureState) (s : List ℕ) (a : ℕ) → a + 29 ≤ length s * 8
     → a + 29 ≤ run (P.picture z m f) s a .at
 unfolding P.picture
 picture-past z m f s a h =
@@ -101,17 +101,17 @@ picture-past z m f s a h =
 -- ---- bits are left before a picture start code
 
 -- where a picture went on and its start code is 0, the place e is not the end
-abbrev pub Ahead : List ℕ → ℕ → Way P.Frame → Type 0
-Ahead s e (on f) = f .picture .«start_code» ≡ pos 0 → e < length s * 8
-Ahead s e (out n l) = Unit {0}
+abbrev pub Ahead : List ℕ → ℕ → Result P.PictureState → Type 0
+Ahead s e (ok f) = f .picture .«start_code» ≡ pos 0 → e < length s * 8
+Ahead s e (error n l) = Unit {0}
 
 -- a turn from a on that goes on has found a start code
-abbrev TurnAhead : List ℕ → ℕ → ℕ → Turn P.Slices (Way P.Frame) → Type 0
-TurnAhead s a e (again x) = (a + 32 ≤ e) × (a + 40 ≤ length s * 8)
-TurnAhead s a e (stop w) = Ahead s e w
+abbrev StepAhead : List ℕ → ℕ → ℕ → Step P.SlicesLoopState (Result P.PictureState) → Type 0
+StepAhead s a e (continue x) = (a + 32 ≤ e) × (a + 40 ≤ length s * 8)
+StepAhead s a e (finish w) = Ahead s e w
 
-abbrev Turned : List ℕ → ℕ → ℕ → Prog (Turn P.Slices (Way P.Frame)) → Type 0
-Turned s a e p = TurnAhead s a (run p s e .at) (run p s e .value)
+abbrev OnStep : List ℕ → ℕ → ℕ → Prog (Step P.SlicesLoopState (Result P.PictureState)) → Type 0
+OnStep s a e p = StepAhead s a (run p s e .at) (run p s e .value)
 
 -- a start code that is no picture's was found
 pub record Other (s : List ℕ) (a e : ℕ) (c : ℤ) : Type 0 where
@@ -119,12 +119,12 @@ pub record Other (s : List ℕ) (a e : ℕ) (c : ℤ) : Type 0 where
   pub five : a + 40 ≤ length s * 8
   pub other : c ≡ pos 0 → ⊥
 
-past-ahead : (g : Context) (p : Picture) (s : List ℕ) (a e f : ℕ) (w : Way World) → Other s a e (p .«start_code») → e ≤ f
-    → Turned s a f (P.pastSlice g p w)
-unfolding P.pastSlice run
-past-ahead g p s a e f (out n l) h k = tt
-past-ahead g p s a e f (on w) h k =
-    by-case (Turned s a f) (isLast g w) (λ i z. absurd (h .other z)) (λ i. (omega arith, omega arith))
+past-ahead : (g : Context) (p : Picture) (s : List ℕ) (a e f : ℕ) (w : Result SliceState) → Other s a e (p .«start_code») → e ≤ f
+    → OnStep s a f (P.afterSlice g p w)
+unfolding P.afterSlice run
+past-ahead g p s a e f (error n l) h k = tt
+past-ahead g p s a e f (ok w) h k =
+    by-case (OnStep s a f) (isLast g w) (λ i z. absurd (h .other z)) (λ i. (omega arith, omega arith))
 
 -- a start code that is found has its four bytes behind a, and one more byte behind it
 pub code-ahead : (s : List ℕ) (a : ℕ) → isCode (found s a .code) ≡ true → (a + 32 ≤ found s a .at) × (found s a .at + 8 ≤ length s * 8)
@@ -138,76 +138,78 @@ slice-other : (v : ℕ) → P.isSlice (pos v) ≡ true → pos v ≡ pos 0 → �
 slice-other zero h e = false≢true h
 slice-other (suc v) h e = let z : suc v ≡ 0 = ap natAbs e in omega arith
 
-turn-ahead : (g : Context) (m : Matrices) (x : P.Slices) (s : List ℕ) (a : ℕ) → Turned s a a (P.slicesTurn g m x)
-unfolding P.slicesTurn run bind
-turn-ahead g m x s a = go (found s a .code) (found s a .at) (code-ahead s a)
+step-ahead : (g : Context) (m : Matrices) (x : P.SlicesLoopState) (s : List ℕ) (a : ℕ) → OnStep s a a (P.slicesStep g m x)
+unfolding P.slicesStep run bind
+step-ahead g m x s a = go (found s a .code) (found s a .at) (code-ahead s a)
   where
     go : (c : ℤ) (e : ℕ) → (isCode c ≡ true → (a + 32 ≤ e) × (e + 8 ≤ length s * 8))
-        → Turned s a e (
-        let p = startCodeAs c (x .frame .picture) in
-        let f = P.inPicture p (x .frame) in
-        cond (P.isSlice c) (bind (slice g m (natAbs c) (world (p .slice) (f .«block_data») (f .store))) (P.pastSlice g p))
-        (cond (P.isExtra c && not (x .begun)) (done (again (P.slicesOf false f))) (done (stop (on f)))))
+        → OnStep s a e (
+        let p = startCodeAs c (x .pictureState .picture) in
+        let f = P.withPicture p (x .pictureState) in
+        cond (P.isSlice c) (bind (slice g m (natAbs c) (sliceState (p .slice) (f .«block_data») (f .store))) (P.afterSlice g p))
+        (cond (P.isExtra c && not (x .begun)) (done (continue (P.slicesLoopState false f))) (done (finish (ok f)))))
     go (pos v) e h =
-        let p = startCodeAs (pos v) (x .frame .picture) in
-        let w = slice g m v (world (p .slice) (x .frame .«block_data») (x .frame .store)) in
+        let p = startCodeAs (pos v) (x .pictureState .picture) in
+        let w = slice g m v (sliceState (p .slice) (x .pictureState .«block_data») (x .pictureState .store)) in
         let k = h refl in
-        by-case (Turned s a e) (P.isSlice (pos v))
-        (λ i. rw (run-bind w (P.pastSlice g p) s e)
+        by-case (OnStep s a e) (P.isSlice (pos v))
+        (λ i. rw (run-bind w (P.afterSlice g p) s e)
         (past-ahead g p s a e (run w s e .at) (run w s e .value) (record { past = k .0; five = omega arith; other = slice-other v i }) (run-on w s e)))
-        (λ i. by-case (Turned s a e) (P.isExtra (pos v) && not (x .begun)) (λ j. (k .0, omega arith)) (λ j z. omega arith))
+        (λ i. by-case (OnStep s a e) (P.isExtra (pos v) && not (x .begun)) (λ j. (k .0, omega arith)) (λ j z. omega arith))
     go (negsuc v) e h = λ z. absurd (true≢false (sym (ap isCode z)))
 
-abbrev Left : List ℕ → ℕ → Prog (Way P.Frame) → Type 0
+abbrev Left : List ℕ → ℕ → Prog (Result P.PictureState) → Type 0
 Left s a p = Ahead s (run p s a .at) (run p s a .value)
 
-left-turn : (g : Context) (m : Matrices) (d : Way P.Frame) (s : List ℕ) (a n : ℕ) (t : Turn P.Slices (Way P.Frame)) (e : ℕ) → length s * 8 - a < suc n
-    → TurnAhead s a e t
-    → ((y : P.Slices) (b : ℕ) → length s * 8 - b < n → Left s b (loop n (P.slicesTurn g m) d y)) → Left s e (turn (loop n (P.slicesTurn g m) d) t)
+left-step : (g : Context) (m : Matrices) (d : Result P.PictureState) (s : List ℕ) (a n : ℕ) (t : Step P.SlicesLoopState (Result P.PictureState)) (e : ℕ)
+    → length s * 8 - a < suc n
+    → StepAhead s a e t
+    → ((y : P.SlicesLoopState) (b : ℕ) → length s * 8 - b < n → Left s b (loop n (P.slicesStep g m) d y))
+    → Left s e (continueWith (loop n (P.slicesStep g m) d) t)
 unfolding run
-left-turn g m d s a n (again y) e h k r = r y e (omega arith)
-left-turn g m d s a n (stop w) e h k r = k
+left-step g m d s a n (continue y) e h k r = r y e (omega arith)
+left-step g m d s a n (finish w) e h k r = k
 
 -- each turn that goes on brings the bits left down, so the fuel is not spent
-slices-ahead : (g : Context) (m : Matrices) (d : Way P.Frame) (s : List ℕ) (n : ℕ) (x : P.Slices) (a : ℕ) → length s * 8 - a < n
-    → Left s a (loop n (P.slicesTurn g m) d x)
+slices-ahead : (g : Context) (m : Matrices) (d : Result P.PictureState) (s : List ℕ) (n : ℕ) (x : P.SlicesLoopState) (a : ℕ) → length s * 8 - a < n
+    → Left s a (loop n (P.slicesStep g m) d x)
 unfolding loop
 slices-ahead g m d s zero x a h = let z : ⊥ = omega arith in absurd z
 slices-ahead g m d s (suc n) x a h =
-    rw (run-bind (P.slicesTurn g m x) (turn (loop n (P.slicesTurn g m) d)) s a)
-    (left-turn g m d s a n (run (P.slicesTurn g m x) s a .value) (run (P.slicesTurn g m x) s a .at) h (turn-ahead g m x s a)
+    rw (run-bind (P.slicesStep g m x) (continueWith (loop n (P.slicesStep g m) d)) s a)
+    (left-step g m d s a n (run (P.slicesStep g m x) s a .value) (run (P.slicesStep g m x) s a .at) h (step-ahead g m x s a)
     (λ y b. slices-ahead g m d s n y b))
 
-all-ahead : (g : Context) (m : Matrices) (f : P.Frame) (s : List ℕ) (a : ℕ) → length s ≤ longestStream → Left s a (P.slices g m f)
+all-ahead : (g : Context) (m : Matrices) (f : P.PictureState) (s : List ℕ) (a : ℕ) → length s ≤ longestStream → Left s a (P.slices g m f)
 unfolding P.slices
-all-ahead g m f s a h = slices-ahead g m (on f) s many (P.slicesOf false f) a (omega arith)
+all-ahead g m f s a h = slices-ahead g m (ok f) s many (P.slicesLoopState false f) a (omega arith)
 
-turned-ahead : (t : Stores) (s : List ℕ) (e : ℕ) (w : Way P.Frame) → Ahead s e w
-    → Left s e (leave (λ f. give (P.inPicture (storesAs t (f .picture)) f)) w)
-unfolding leave run
-turned-ahead t s e (on f) k = k
-turned-ahead t s e (out n l) k = tt
+turned-ahead : (t : Stores) (s : List ℕ) (e : ℕ) (w : Result P.PictureState) → Ahead s e w
+    → Left s e (ifOk (λ f. pure (P.withPicture (storesAs t (f .picture)) f)) w)
+unfolding ifOk run
+turned-ahead t s e (ok f) k = k
+turned-ahead t s e (error n l) k = tt
 
-coded-ahead : (z : Sizes) (m : Matrices) (f : P.Frame) (s : List ℕ) (a : ℕ) → length s ≤ longestStream → Left s a (P.coded z m f)
-unfolding P.coded onward
+coded-ahead : (z : Sizes) (m : Matrices) (f : P.PictureState) (s : List ℕ) (a : ℕ) → length s ≤ longestStream → Left s a (P.slicesInRoles z m f)
+unfolding P.slicesInRoles bindResult
 coded-ahead z m f s a h =
     let p = f .picture in
     let q = storesAs (P.before (p .stores)) p in
-    let c = P.slices (P.contextOf z q) m (P.inPicture q f) in
+    let c = P.slices (P.contextOf z q) m (P.withPicture q f) in
     by-case (Left s a) (eqb (p .«picture_type») 3) (λ e. all-ahead (P.contextOf z p) m f s a h)
     (λ e. rw (run-bind c _ s a)
-    (turned-ahead (P.after (p .stores)) s (run c s a .at) (run c s a .value) (all-ahead (P.contextOf z q) m (P.inPicture q f) s a h)))
+    (turned-ahead (P.after (p .stores)) s (run c s a .at) (run c s a .value) (all-ahead (P.contextOf z q) m (P.withPicture q f) s a h)))
 
-given-ahead : (s : List ℕ) (a : ℕ) (f : P.Frame) → a < length s * 8 → Left s a (give f)
+given-ahead : (s : List ℕ) (a : ℕ) (f : P.PictureState) → a < length s * 8 → Left s a (pure f)
 unfolding run
 given-ahead s a f h = λ c. h
 
 -- 40 bits at a are what a start code further on takes with the byte behind it
-pub picture-ahead : (z : Sizes) (m : Matrices) (f : P.Frame) (s : List ℕ) (a : ℕ) → length s ≤ longestStream → a + 40 ≤ length s * 8
+pub picture-ahead : (z : Sizes) (m : Matrices) (f : P.PictureState) (s : List ℕ) (a : ℕ) → length s ≤ longestStream → a + 40 ≤ length s * 8
     → Ahead s (run (P.picture z m f) s a .at) (run (P.picture z m f) s a .value)
 unfolding P.picture
 picture-ahead z m f s a h k =
     let o = run P.pictureHeader s a in
     rw (run-bind P.pictureHeader _ s a)
-    (by-case (Left s (o .at)) (P.isDecoded (o .value)) (λ e. coded-ahead z m (P.inPicture (P.headed (o .value) (f .picture)) f) s (o .at) h)
+    (by-case (Left s (o .at)) (P.isDecoded (o .value)) (λ e. coded-ahead z m (P.withPicture (P.withPictureHeader (o .value) (f .picture)) f) s (o .at) h)
     (λ e. given-ahead s (o .at) _ (omega (arith, header-takes .most s a))))

@@ -3,7 +3,7 @@ use mathlib.Core.Bool.{Bool, true, false}
 use mathlib.Core.List.{List}
 use Prim.Native.Nat.{ℕ, _≤_}
 use lib.IntN.{ℤ, natAbs}
-use Rattle.laws.specs.Turns.{Turn, again, stop}
+use Rattle.laws.specs.Loops.{Step, continue, finish}
 use Rattle.bits.specs.declared.reader.Reader.{Reader}
 use Rattle.bits.specs.Programs.{Prog}
 use Rattle.bits.specs.Runs.{Runs, Inside}
@@ -13,37 +13,38 @@ use Rattle.picture_state.specs.declared.types.PictureProgress.{PictureProgress}
 use Rattle.picture_state.specs.declared.types.Slice.{Slice}
 use Rattle.picture_state.specs.declared.types.SlicesProgress.{SlicesProgress}
 use Rattle.picture.specs.Pictures as P
-use Rattle.picture_state.specs.Ways.{Way}
-use Rattle.picture_state.specs.Contracts.{way, Held, Reads}
+use Rattle.picture_state.specs.Result.{Result}
+use Rattle.picture_state.specs.Contracts.{resultOf, StoreFits, ReadInvariant}
 
 -- a picture's state while its slices are read
-abbrev pub frameOf : Context → ℤ → Slice → List ℤ → List ℕ → P.Frame
-frameOf g code x left store =
-    P.frame (record { «picture_type» = g .«picture_type»; «start_code» = code; stores = g .stores; slice = x }) left store
+abbrev pub pictureStateOf : Context → ℤ → Slice → List ℤ → List ℕ → P.PictureState
+pictureStateOf g code x left store =
+    P.pictureState (record { «picture_type» = g .«picture_type»; «start_code» = code; stores = g .stores; slice = x }) left store
 
 -- what the slices of a picture do behind one
-abbrev pub slicesOn : Bool → Bool → ℕ → P.Frame → Turn P.Slices (Way P.Frame)
-slicesOn true begun n f = again (P.slicesOf begun f)
-slicesOn false begun n f = stop (way n f (f .store))
+abbrev pub slicesStepOf : Bool → Bool → ℕ → P.PictureState → Step P.SlicesLoopState (Result P.PictureState)
+slicesStepOf true begun n f = continue (P.slicesLoopState begun f)
+slicesStepOf false begun n f = finish (resultOf n f (f .store))
 
 -- a turn over the slices, whatever start code came before
-pub record Turned (g : Context) (m : Matrices) (s : List ℕ) (reader : Reader) (begun : Bool) (x : Slice) (left : List ℤ) (store : List ℕ)
+pub record RefinesSlicesStep (g : Context) (m : Matrices) (s : List ℕ) (reader : Reader) (begun : Bool) (x : Slice) (left : List ℤ) (store : List ℕ)
     (r : SlicesProgress) (left₁ : List ℤ) (store₁ : List ℕ) : Type 0 where
-  pub runs : (code : ℤ) → Runs (P.slicesTurn g m (P.slicesOf begun (frameOf g code x left store))) s reader
-      (slicesOn (r .again) (r .begun) (r .stop) (frameOf g (r .code) (r .state) left₁ store₁)) (r .reader)
-  pub reads : Reads s (r .reader) (r .state) left₁
-  pub held : Held g store₁
+  pub runs : (code : ℤ) → Runs (P.slicesStep g m (P.slicesLoopState begun (pictureStateOf g code x left store))) s reader
+      (slicesStepOf (r .continues) (r .begun) (r .stop) (pictureStateOf g (r .code) (r .state) left₁ store₁)) (r .reader)
+  pub reads : ReadInvariant s (r .reader) (r .state) left₁
+  pub storeFits : StoreFits g store₁
   pub few : natAbs (r .code) ≤ 255
 
 -- all slices of a picture
-pub record Pictured (p : Prog (Way P.Frame)) (g : Context) (s : List ℕ) (reader : Reader) (r : SlicesProgress) (left : List ℤ)
+pub record RefinesSlices (p : Prog (Result P.PictureState)) (g : Context) (s : List ℕ) (reader : Reader) (r : SlicesProgress) (left : List ℤ)
     (store : List ℕ) : Type 0 where
-  pub runs : Runs p s reader (way (r .stop) (frameOf g (r .code) (r .state) left store) store) (r .reader)
-  pub reads : Reads s (r .reader) (r .state) left
-  pub held : Held g store
+  pub runs : Runs p s reader (resultOf (r .stop) (pictureStateOf g (r .code) (r .state) left store) store) (r .reader)
+  pub reads : ReadInvariant s (r .reader) (r .state) left
+  pub storeFits : StoreFits g store
   pub few : natAbs (r .code) ≤ 255
 
 -- a picture, or its slices
-pub record Coded (p : Prog (Way P.Frame)) (s : List ℕ) (reader : Reader) (r : PictureProgress) (left : List ℤ) (store : List ℕ) : Type 0 where
-  pub runs : Runs p s reader (way (r .stop) (P.frame (r .picture) left store) store) (r .reader)
+pub record RefinesPicture (p : Prog (Result P.PictureState)) (s : List ℕ) (reader : Reader) (r : PictureProgress) (left : List ℤ) (store : List ℕ) : Type 0
+    where
+  pub runs : Runs p s reader (resultOf (r .stop) (P.pictureState (r .picture) left store) store) (r .reader)
   pub inside : Inside s (r .reader)

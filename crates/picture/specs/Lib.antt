@@ -1,3 +1,3 @@
 pub mod Pictures
 pub mod Contracts
-pub mod Behind
+pub mod CodeResults

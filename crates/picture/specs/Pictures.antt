@@ -5,7 +5,7 @@ use Prim.Native.Nat.{ℕ, _-_}
 use lib.Dec.{eqb, leb}
 use lib.IntN.{ℤ, pos, natAbs}
 use lib.Signed.{leZ}
-use Rattle.laws.specs.Turns.{Turn, again, stop}
+use Rattle.laws.specs.Loops.{Step, continue, finish}
 use Rattle.bits.specs.Programs.{Prog, done, bind, bits, nextStartCode, eqZ, loop, many, _>>=_, _>>_, if_then_else_}
 use Rattle.picture_state.specs.declared.types.Context.{Context}
 use Rattle.picture_state.specs.declared.types.Motion.{Motion}
@@ -13,22 +13,22 @@ use Rattle.picture_state.specs.declared.types.Stores.{Stores}
 use Rattle.picture_state.specs.declared.types.Sizes.{Sizes}
 use Rattle.picture_state.specs.declared.types.Matrices.{Matrices}
 use Rattle.picture_state.specs.declared.types.Picture.{Picture}
-use Rattle.picture_state.specs.State.{World, world, fullPxAs, rSizeAs, motionsAs, startCodeAs, typeAs, storesAs, sliceAs}
-use Rattle.picture_state.specs.Ways.{Way, on, out, leave, onward, give}
+use Rattle.picture_state.specs.State.{SliceState, sliceState, fullPxAs, rSizeAs, motionsAs, startCodeAs, typeAs, storesAs, sliceAs}
+use Rattle.picture_state.specs.Result.{Result, ok, error, ifOk, bindResult, pure}
 use Rattle.slice.specs.Slices.{isLast, slice}
 
--- what a picture changes: its state, the left-over coefficients and the store
-pub record Frame : Type 0 where
+-- what a picture changes: its state, block_data (the left-over coefficients) and the store
+pub record PictureState : Type 0 where
   pub picture : Picture
   pub «block_data» : List ℤ
   pub store : List ℕ
 
-abbrev pub frame : Picture → List ℤ → List ℕ → Frame
-frame p c l = record { picture = p; «block_data» = c; store = l }
+abbrev pub pictureState : Picture → List ℤ → List ℕ → PictureState
+pictureState p c l = record { picture = p; «block_data» = c; store = l }
 
 -- with another state of the picture
-abbrev pub inPicture : Picture → Frame → Frame
-inPicture p f = frame p (f .«block_data») (f .store)
+abbrev pub withPicture : Picture → PictureState → PictureState
+withPicture p f = pictureState p (f .«block_data») (f .store)
 
 -- 11172-2, 2.4.2.5: full_pel_.._vector and .._f_code of one direction, where the header has them
 pub data Direction : Type 0 where
@@ -73,8 +73,8 @@ motionBy absent m = m
 motionBy (present full f) m = if eqb f 0 then fullPxAs full m else rSizeAs (f - 1) (fullPxAs full m)
 
 -- RULES 7.1: what a header sets in the picture p
-abbrev pub headed : PictureHeader → Picture → Picture
-headed h p =
+abbrev pub withPictureHeader : PictureHeader → Picture → Picture
+withPictureHeader h p =
     let forward = motionBy (h .forward) (p .slice .«motion_forward») in
     let backward = motionBy (h .backward) (p .slice .«motion_backward») in
     typeAs (h .«picture_coding_type») (sliceAs (motionsAs forward backward (p .slice)) p)
@@ -84,12 +84,12 @@ abbrev pub contextOf : Sizes → Picture → Context
 contextOf z p = record { «picture_type» = p .«picture_type»; sizes = z; stores = p .stores }
 
 -- before a start code: has a slice been read already?
-pub record Slices : Type 0 where
+pub record SlicesLoopState : Type 0 where
   pub begun : Bool
-  pub frame : Frame
+  pub pictureState : PictureState
 
-abbrev pub slicesOf : Bool → Frame → Slices
-slicesOf begun f = record { begun = begun; frame = f }
+abbrev pub slicesLoopState : Bool → PictureState → SlicesLoopState
+slicesLoopState begun f = record { begun = begun; pictureState = f }
 
 -- RULES 7.3: user data (B2) and extensions (B5)
 abbrev pub isExtra : ℤ → Bool
@@ -100,24 +100,24 @@ abbrev pub isSlice : ℤ → Bool
 isSlice c = leZ (pos 1) c && leZ c (pos 0xaf)
 
 -- RULES 7.4: the picture ends where the address has reached the last macroblock; it keeps the code of this slice
-unfoldable pub pastSlice : Context → Picture → Way World → Prog (Turn Slices (Way Frame))
-pastSlice g p (out n l) = done (stop (out n l))
-pastSlice g p (on w) =
-    let f = frame (sliceAs (w .slice) p) (w .«block_data») (w .store) in
-    if isLast g w then done (stop (on f)) else done (again (slicesOf true f))
+unfoldable pub afterSlice : Context → Picture → Result SliceState → Prog (Step SlicesLoopState (Result PictureState))
+afterSlice g p (error n l) = done (finish (error n l))
+afterSlice g p (ok w) =
+    let f = pictureState (sliceAs (w .slice) p) (w .«block_data») (w .store) in
+    if isLast g w then done (finish (ok f)) else done (continue (slicesLoopState true f))
 
 -- RULES 7.3: the next start code; what is neither passed over nor a slice ends the picture and is kept
-unfoldable pub slicesTurn : Context → Matrices → Slices → Prog (Turn Slices (Way Frame))
-slicesTurn g m x = do
+unfoldable pub slicesStep : Context → Matrices → SlicesLoopState → Prog (Step SlicesLoopState (Result PictureState))
+slicesStep g m x = do
   c ← nextStartCode
-  let p = startCodeAs c (x .frame .picture)
-  let f = inPicture p (x .frame)
-  if isSlice c then bind (slice g m (natAbs c) (world (p .slice) (f .«block_data») (f .store))) (pastSlice g p)
-      else if isExtra c && not (x .begun) then done (again (slicesOf false f)) else done (stop (on f))
+  let p = startCodeAs c (x .pictureState .picture)
+  let f = withPicture p (x .pictureState)
+  if isSlice c then bind (slice g m (natAbs c) (sliceState (p .slice) (f .«block_data») (f .store))) (afterSlice g p)
+      else if isExtra c && not (x .begun) then done (continue (slicesLoopState false f)) else done (finish (ok f))
 
 -- RULES 7.3, 7.4: the slices of a picture, none of them read so far
-unfoldable pub slices : Context → Matrices → Frame → Prog (Way Frame)
-slices g m f = loop many (slicesTurn g m) (on f) (slicesOf false f)
+unfoldable pub slices : Context → Matrices → PictureState → Prog (Result PictureState)
+slices g m f = loop many (slicesStep g m) (ok f) (slicesLoopState false f)
 
 -- RULES 7.2: the roles of the stores while the slices of an I or P picture are read, and after them
 abbrev pub before : Stores → Stores
@@ -127,16 +127,16 @@ abbrev pub after : Stores → Stores
 after t = record { cur = t .fwd; fwd = t .bwd; bwd = t .cur }
 
 -- RULES 7.2: the slices, with the turn of the stores
-unfoldable pub coded : Sizes → Matrices → Frame → Prog (Way Frame)
-coded z m f =
+unfoldable pub slicesInRoles : Sizes → Matrices → PictureState → Prog (Result PictureState)
+slicesInRoles z m f =
     let p = f .picture in
     if eqb (p .«picture_type») 3 then slices (contextOf z p) m f
     else let q = storesAs (before (p .stores)) p in
-    onward (slices (contextOf z q) m (inPicture q f)) λ f₁. give (inPicture (storesAs (after (p .stores)) (f₁ .picture)) f₁)
+    bindResult (slices (contextOf z q) m (withPicture q f)) λ f₁. pure (withPicture (storesAs (after (p .stores)) (f₁ .picture)) f₁)
 
 -- a picture; one that is not decoded ends behind its header (RULES 8.4)
-unfoldable pub picture : Sizes → Matrices → Frame → Prog (Way Frame)
+unfoldable pub picture : Sizes → Matrices → PictureState → Prog (Result PictureState)
 picture z m f = do
   h ← pictureHeader
-  let x = inPicture (headed h (f .picture)) f
-  if isDecoded h then coded z m x else give x
+  let x = withPicture (withPictureHeader h (f .picture)) f
+  if isDecoded h then slicesInRoles z m x else pure x

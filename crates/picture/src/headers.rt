@@ -3,7 +3,7 @@ use bits::reader::Reader;
 ghost use mathlib.Core.Path.{_≡_};
 ghost use Rattle.bits.specs.Runs.{Inside, Reading};
 ghost use Rattle.picture.specs.Pictures.{direction, isZero, pictureHeader};
-ghost use Rattle.picture.specs.Behind.{directionOf, headerOf};
+ghost use Rattle.picture.specs.CodeResults.{directionOf, headerOf};
 
 // Full-pel flag and f code of one direction, where the header has them.
 pub struct Direction {

@@ -12,10 +12,10 @@ ghost use mathlib.Core.Bool.{not, _&&_};
 ghost use Prim.Native.Nat.{_≤_};
 ghost use Rattle.codes.specs.Lent.{Lent};
 ghost use Rattle.picture.specs.Pictures.{isSlice, isExtra, slices};
-ghost use Rattle.picture_state.specs.Contracts.{matricesIn, Reads, Held};
-ghost use Rattle.picture.specs.Contracts.{frameOf, Turned, Pictured};
-ghost use Rattle.macroblock.specs.Contracts.{Adds};
-ghost use Rattle.picture.specs.Behind.{pastOf};
+ghost use Rattle.picture_state.specs.Contracts.{matricesIn, ReadInvariant, StoreFits};
+ghost use Rattle.picture.specs.Contracts.{pictureStateOf, RefinesSlicesStep, RefinesSlices};
+ghost use Rattle.macroblock.specs.Contracts.{AddressAdds};
+ghost use Rattle.picture.specs.CodeResults.{afterSliceOf};
 
 // RULES 7.3: user data (B2) and extensions (B5).
 fn is_extra(code: i32) -> bool
@@ -48,10 +48,10 @@ fn passes_over(code: i32, begun: bool) -> bool
 }
 
 // RULES 7.4: behind a slice with this start code. The picture ends where the address has reached the last macroblock.
-fn past_slice(g: Context, code: i32, w: Progress) -> SlicesProgress
+fn after_slice(g: Context, code: i32, w: Progress) -> SlicesProgress
     requires { ⌜ g .sizes .«mb_size» ≤ 65536 ⌝ }
-    requires { ⌜ Adds (w .state .«macroblock_address») 1 ⌝ }
-    ensures { λ r. ⌜ r ≡ pastOf g code w ⌝ }
+    requires { ⌜ AddressAdds (w .state .«macroblock_address») 1 ⌝ }
+    ensures { λ r. ⌜ r ≡ afterSliceOf g code w ⌝ }
 {
     let reader = w.reader;
     let state = w.state;
@@ -62,7 +62,7 @@ fn past_slice(g: Context, code: i32, w: Progress) -> SlicesProgress
             code,
             state,
             begun: true,
-            again: false,
+            continues: false,
             stop,
         };
     }
@@ -72,13 +72,13 @@ fn past_slice(g: Context, code: i32, w: Progress) -> SlicesProgress
         code,
         state,
         begun: true,
-        again: !last,
+        continues: !last,
         stop,
     }
 }
 
 // RULES 7.3: the next start code; what is neither passed over nor a slice ends the picture and is kept.
-fn slices_turn(
+fn slices_step(
     s: &[u8],
     reader: Reader,
     store: &mut [u8],
@@ -88,11 +88,11 @@ fn slices_turn(
     begun: bool,
     state: Slice,
 ) -> SlicesProgress
-    requires { ⌜ Reads (now s) reader state (now values) ⌝ }
-    requires { ⌜ Held g (now store) ⌝ }
+    requires { ⌜ ReadInvariant (now s) reader state (now values) ⌝ }
+    requires { ⌜ StoreFits g (now store) ⌝ }
     requires { ⌜ Lent (now tables) ⌝ }
     ensures { λ r. ⌜
-        Turned g (matricesIn (now (tables .entry))) (now (s .entry)) reader begun state (now (values .entry)) (now (store .entry))
+        RefinesSlicesStep g (matricesIn (now (tables .entry))) (now (s .entry)) reader begun state (now (values .entry)) (now (store .entry))
         r (now (values .exit)) (now (store .exit))
         ⌝ }
 {
@@ -101,15 +101,15 @@ fn slices_turn(
     let code = found.code;
     if is_slice(code) {
         let w = read_slice(s, after, store, values, tables, g, code as usize, state);
-        return past_slice(g, code, w);
+        return after_slice(g, code, w);
     }
-    let again = passes_over(code, begun);
+    let continues = passes_over(code, begun);
     SlicesProgress {
         reader: after,
         code,
         state,
         begun: false,
-        again,
+        continues,
         stop: 0,
     }
 }
@@ -125,11 +125,11 @@ pub fn read_slices(
     before: i32,
     start: Slice,
 ) -> SlicesProgress
-    requires { ⌜ Reads (now s) reader start (now values) ⌝ }
-    requires { ⌜ Held g (now store) ⌝ }
+    requires { ⌜ ReadInvariant (now s) reader start (now values) ⌝ }
+    requires { ⌜ StoreFits g (now store) ⌝ }
     requires { ⌜ Lent (now tables) ⌝ }
     ensures { λ r. ⌜
-        Pictured (slices g (matricesIn (now (tables .entry))) (frameOf g before start (now (values .entry)) (now (store .entry))))
+        RefinesSlices (slices g (matricesIn (now (tables .entry))) (pictureStateOf g before start (now (values .entry)) (now (store .entry))))
         g (now (s .entry)) reader r (now (values .exit)) (now (store .exit))
         ⌝ }
 {
@@ -137,8 +137,8 @@ pub fn read_slices(
     let mut state = start;
     let mut begun = false;
     loop {
-        let t = slices_turn(s, from, store, values, tables, g, begun, state);
-        if !t.again {
+        let t = slices_step(s, from, store, values, tables, g, begun, state);
+        if !t.continues {
             return t;
         }
         from = t.reader;

@@ -3,7 +3,7 @@ use crate::headers::Direction;
 use crate::headers::HeaderRead;
 use crate::headers::is_zero;
 use crate::headers::read_picture_header;
-use crate::turns::read_coded;
+use crate::roles::read_slices_in_roles;
 use bits::reader::Reader;
 use picture_state::types::Motion;
 use picture_state::types::Picture;
@@ -13,10 +13,10 @@ ghost use mathlib.Core.Path.{_≡_};
 ghost use Rattle.bits.specs.Runs.{Inside};
 ghost use Rattle.codes.specs.Matrices.{Bounded};
 ghost use Rattle.picture_state.specs.Possible.{PossiblePicture};
-ghost use Rattle.picture.specs.Pictures.{frame, contextOf, isDecoded, motionBy, headed, picture};
-ghost use Rattle.picture_state.specs.Contracts.{matrices, Held};
-ghost use Rattle.picture.specs.Contracts.{Coded};
-ghost use Rattle.picture.specs.Behind.{directionOf, headerOf};
+ghost use Rattle.picture.specs.Pictures.{pictureState, contextOf, isDecoded, motionBy, withPictureHeader, picture};
+ghost use Rattle.picture_state.specs.Contracts.{matrices, StoreFits};
+ghost use Rattle.picture.specs.Contracts.{RefinesPicture};
+ghost use Rattle.picture.specs.CodeResults.{directionOf, headerOf};
 
 // Flag and r of a motion, from its direction in the header; an f code of 0 leaves r as it was.
 fn with_direction(m: Motion, d: Direction) -> Motion
@@ -36,7 +36,7 @@ fn with_direction(m: Motion, d: Direction) -> Motion
 
 // The picture p with what its header sets.
 fn with_header(p: Picture, h: HeaderRead) -> Picture
-    ensures { λ r. ⌜ r ≡ headed (headerOf h) p ⌝ }
+    ensures { λ r. ⌜ r ≡ withPictureHeader (headerOf h) p ⌝ }
 {
     let mut slice = p.slice;
     let motion_forward = with_direction(slice.motion_forward, h.forward);
@@ -71,9 +71,9 @@ pub fn read_picture(
     requires { ⌜ Inside (now s) reader ⌝ }
     requires { ⌜ PossiblePicture p ⌝ }
     requires { ⌜ Bounded (now values) ⌝ }
-    requires { ⌜ Held (contextOf sizes p) (now store) ⌝ }
+    requires { ⌜ StoreFits (contextOf sizes p) (now store) ⌝ }
     ensures { λ r. ⌜
-        Coded (picture sizes (matrices (now (intra .entry)) (now (other .entry))) (frame p (now (values .entry)) (now (store .entry))))
+        RefinesPicture (picture sizes (matrices (now (intra .entry)) (now (other .entry))) (pictureState p (now (values .entry)) (now (store .entry))))
         (now (s .entry)) reader r (now (values .exit)) (now (store .exit))
         ⌝ }
 {
@@ -81,7 +81,7 @@ pub fn read_picture(
     let from = h.reader;
     let headed = with_header(p, h);
     if is_decoded(h) {
-        return read_coded(s, from, store, values, sizes, intra, other, headed);
+        return read_slices_in_roles(s, from, store, values, sizes, intra, other, headed);
     }
     PictureProgress {
         reader: from,

@@ -2,5 +2,5 @@ pub mod Possible
 pub mod Kept
 pub mod Signed
 pub mod Exits
-pub mod Ways
+pub mod Results
 pub mod Ready

@@ -12,17 +12,17 @@ use Rattle.codes.specs.Matrices.{Bounded}
 use Rattle.picture_state.specs.Possible.{PossibleSlice}
 use Rattle.picture_state.specs.declared.types.Context.{Context}
 use Rattle.picture_state.specs.declared.types.Slice.{Slice}
-use Rattle.picture_state.specs.Contracts.{Held, Ready}
+use Rattle.picture_state.specs.Contracts.{StoreFits, MacroblockInvariant}
 
-pub held-on : {g : Context} {store store₁ : List ℕ} → Held g store → length store₁ ≡ length store → Held g store₁
+pub held-on : {g : Context} {store store₁ : List ℕ} → StoreFits g store → length store₁ ≡ length store → StoreFits g store₁
 held-on k e = record { across = k .across; down = k .down; size = k .size; stores = k .stores; whole = rw e (k .whole) }
 
 -- a picture has at most 65536 macroblocks
-pub size-most : {g : Context} {store : List ℕ} → Held g store → g .sizes .«mb_size» ≤ 65536
+pub size-most : {g : Context} {store : List ℕ} → StoreFits g store → g .sizes .«mb_size» ≤ 65536
 size-most k = omega (arith, k .size, mul-le-mul (k .across) (k .down))
 
-module _ {g : Context} {s : List ℕ} {reader : Reader} {x : Slice} {left : List ℤ} {store : List ℕ} (k : Ready g s reader x left store) where
+module _ {g : Context} {s : List ℕ} {reader : Reader} {x : Slice} {left : List ℤ} {store : List ℕ} (k : MacroblockInvariant g s reader x left store) where
   pub ready-on : {reader₁ : Reader} {x₁ : Slice} {left₁ : List ℤ} {store₁ : List ℕ} → Inside s reader₁
       → PossibleSlice x₁ → Bounded left₁ → x₁ .«macroblock_address» ≡ x .«macroblock_address» → length store₁ ≡ length store
-      → Ready g s reader₁ x₁ left₁ store₁
-  ready-on p i b a e = record { reads = record { inside = p; slice = i; block = b }; held = held-on (k .held) e; here = rw a (k .here) }
+      → MacroblockInvariant g s reader₁ x₁ left₁ store₁
+  ready-on p i b a e = record { reads = record { inside = p; slice = i; block = b }; storeFits = held-on (k .storeFits) e; here = rw a (k .here) }

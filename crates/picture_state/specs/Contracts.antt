@@ -7,7 +7,7 @@ use lib.Dec.{T}
 use lib.IntN.{ℤ, natAbs}
 use lib.ListN.{length}
 use lib.Signed.{nonNeg}
-use Rattle.laws.specs.Turns.{stop}
+use Rattle.laws.specs.Loops.{finish}
 use Rattle.bits.specs.declared.reader.Reader.{Reader}
 use Rattle.bits.specs.Programs.{Prog}
 use Rattle.bits.specs.Runs.{Runs, Inside}
@@ -20,9 +20,9 @@ use Rattle.picture_state.specs.declared.types.Matrices.{Matrices}
 use Rattle.picture_state.specs.declared.types.Progress.{Progress}
 use Rattle.picture_state.specs.declared.types.Slice.{Slice}
 use Rattle.picture_state.specs.declared.types.Stores.{Stores}
-use Rattle.picture_state.specs.State.{World, world}
+use Rattle.picture_state.specs.State.{SliceState, sliceState}
 use Rattle.picture_state.specs.Possible.{PossibleSlice}
-use Rattle.picture_state.specs.Ways.{Way, on, out}
+use Rattle.picture_state.specs.Result.{Result, ok, error}
 
 -- the two matrices, lent one by one
 abbrev pub matrices : List ℕ → List ℕ → Matrices
@@ -32,13 +32,13 @@ matrices intra other = record { «intra_quant_matrix» = intra; «non_intra_quan
 abbrev pub matricesIn : List ℕ → Matrices
 matricesIn t = matrices (matrixOf t true) (matrixOf t false)
 
--- 0 goes on, and any other number leaves with the store
-abbrev pub way : {A : Type 0} → ℕ → A → List ℕ → Way A
-way zero x l = on x
-way (suc n) x l = out (suc n) l
+-- 0 is a value, and any other number an error with the store
+abbrev pub resultOf : {A : Type 0} → ℕ → A → List ℕ → Result A
+resultOf zero x l = ok x
+resultOf (suc n) x l = error (suc n) l
 
 -- the numbers of the stores. None is predicted from itself; RULES 7.2 lets fwd and bwd be the same while an I or P picture is read
-pub record Three (t : Stores) : Type 0 where
+pub record DistinctStores (t : Stores) : Type 0 where
   pub cur : t .cur ≤ 2
   pub fwd : t .fwd ≤ 2
   pub bwd : t .bwd ≤ 2
@@ -46,37 +46,39 @@ pub record Three (t : Stores) : Type 0 where
   pub cur-bwd : t .cur ≡ t .bwd → ⊥
 
 -- sizes and stores, and memory for the three
-pub record Held (g : Context) (store : List ℕ) : Type 0 where
+pub record StoreFits (g : Context) (store : List ℕ) : Type 0 where
   pub across : g .sizes .«mb_width» ≤ 256
   pub down : g .sizes .«mb_height» ≤ 256
   pub size : g .sizes .«mb_size» ≡ g .sizes .«mb_width» * g .sizes .«mb_height»
-  pub stores : Three (g .stores)
+  pub stores : DistinctStores (g .stores)
   pub whole : storesBytes (g .sizes .«mb_size») ≤ length store
 
 -- the address is that of a macroblock
-pub record Here (g : Context) (address : ℤ) : Type 0 where
+pub record AddressInPicture (g : Context) (address : ℤ) : Type 0 where
   pub natural : T (nonNeg address)
   pub below : natAbs address < g .sizes .«mb_width» * g .sizes .«mb_height»
 
 -- what reads a part of a macroblock
-pub record Reads (s : List ℕ) (reader : Reader) (x : Slice) (left : List ℤ) : Type 0 where
+pub record ReadInvariant (s : List ℕ) (reader : Reader) (x : Slice) (left : List ℤ) : Type 0 where
   pub inside : Inside s reader
   pub slice : PossibleSlice x
   pub block : Bounded left
 
 -- all of it, for what works at a macroblock
-pub record Ready (g : Context) (s : List ℕ) (reader : Reader) (x : Slice) (left : List ℤ) (store : List ℕ) : Type 0 where
-  pub reads : Reads s reader x left
-  pub held : Held g store
-  pub here : Here g (x .«macroblock_address»)
+pub record MacroblockInvariant (g : Context) (s : List ℕ) (reader : Reader) (x : Slice) (left : List ℤ) (store : List ℕ) : Type 0 where
+  pub reads : ReadInvariant s reader x left
+  pub storeFits : StoreFits g store
+  pub here : AddressInPicture g (x .«macroblock_address»)
 
 -- p, from the reader on, goes where r says, with these coefficients left over and this store; and what works at a macroblock can go on from there
-pub record Went (p : Prog (Way World)) (g : Context) (s : List ℕ) (reader : Reader) (r : Progress) (left : List ℤ) (store : List ℕ) : Type 0 where
-  pub runs : Runs p s reader (way (r .stop) (world (r .state) left store) store) (r .reader)
-  pub ready : Ready g s (r .reader) (r .state) left store
+pub record RefinesAtMacroblock (p : Prog (Result SliceState)) (g : Context) (s : List ℕ) (reader : Reader) (r : Progress) (left : List ℤ)
+    (store : List ℕ) : Type 0 where
+  pub runs : Runs p s reader (resultOf (r .stop) (sliceState (r .state) left store) store) (r .reader)
+  pub ready : MacroblockInvariant g s (r .reader) (r .state) left store
 
 -- the same where no macroblock need have the address in the end
-pub record Passed (p : Prog (Way World)) (g : Context) (s : List ℕ) (reader : Reader) (r : Progress) (left : List ℤ) (store : List ℕ) : Type 0 where
-  pub runs : Runs p s reader (way (r .stop) (world (r .state) left store) store) (r .reader)
-  pub reads : Reads s (r .reader) (r .state) left
-  pub held : Held g store
+pub record RefinesInSlice (p : Prog (Result SliceState)) (g : Context) (s : List ℕ) (reader : Reader) (r : Progress) (left : List ℤ) (store : List ℕ) : Type 0
+    where
+  pub runs : Runs p s reader (resultOf (r .stop) (sliceState (r .state) left store) store) (r .reader)
+  pub reads : ReadInvariant s (r .reader) (r .state) left
+  pub storeFits : StoreFits g store

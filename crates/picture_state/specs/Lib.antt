@@ -1,5 +1,5 @@
 pub mod State
 pub mod Flags
 pub mod Possible
-pub mod Ways
+pub mod Result
 pub mod Contracts

@@ -9,18 +9,18 @@ use Rattle.picture_state.specs.declared.types.Stores.{Stores}
 use Rattle.picture_state.specs.declared.types.Slice.{Slice}
 use Rattle.picture_state.specs.declared.types.Picture.{Picture}
 
--- what macroblocks change: the slice's state, the left-over coefficients and the store
-pub record World : Type 0 where
+-- what macroblocks change: the slice's state, block_data (RULES S.7: the left-over coefficients) and the store
+pub record SliceState : Type 0 where
   pub slice : Slice
   pub «block_data» : List ℤ
   pub store : List ℕ
 
-abbrev pub world : Slice → List ℤ → List ℕ → World
-world s c l = record { slice = s; «block_data» = c; store = l }
+abbrev pub sliceState : Slice → List ℤ → List ℕ → SliceState
+sliceState s c l = record { slice = s; «block_data» = c; store = l }
 
 -- with another state of the slice
-abbrev pub inSlice : Slice → World → World
-inSlice s w = world s (w .«block_data») (w .store)
+abbrev pub withSlice : Slice → SliceState → SliceState
+withSlice s w = sliceState s (w .«block_data») (w .store)
 
 -- RULES 7.19: the vector 0
 abbrev pub zeroed : Motion → Motion

@@ -60,13 +60,13 @@ pub struct Progress {
     pub stop: u32,
 }
 
-// Where a turn over the slices of a picture ended. `again`: another start code follows. `begun`: a slice has been read.
+// Where a turn over the slices of a picture ended. `continues`: another start code follows. `begun`: a slice has been read.
 pub struct SlicesProgress {
     pub reader: Reader,
     pub code: i32,
     pub state: Slice,
     pub begun: bool,
-    pub again: bool,
+    pub continues: bool,
     pub stop: u32,
 }
 

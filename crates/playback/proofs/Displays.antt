@@ -7,7 +7,7 @@ use borrow.Author.Tests.{leb-true, le-leb}
 use Rattle.playback.specs.declared.state.Clock.{Clock}
 use Rattle.playback.specs.declared.state.Display.{Display}
 use Rattle.playback.specs.declared.state.State.{State}
-use Rattle.playback.specs.State.{mostPictures, frames, freshState, possibleDisplay, timedAs, heldAs}
+use Rattle.playback.specs.State.{mostPictures, frames, freshState, possibleDisplay, timedAs, hasReferenceFrameAs}
 use Rattle.playback.specs.Display.{counted}
 
 pub count-of : (v : Display) → possibleDisplay v ≡ true → v .«frames_decoded» ≤ mostPictures
@@ -23,7 +23,7 @@ unfolding possibleDisplay
 timed-possible c v p = p
 
 module _ (x : State) (p : possibleDisplay (x .display) ≡ true) where
-  pub held-possible : (b : Bool) → possibleDisplay (heldAs b x .display) ≡ true
+  pub held-possible : (b : Bool) → possibleDisplay (hasReferenceFrameAs b x .display) ≡ true
   unfolding possibleDisplay
   held-possible b = p
 

@@ -5,7 +5,7 @@ use mathlib.Core.List.{List}
 use Prim.Native.Nat.{ℕ, _≤_, _<_}
 use lib.IntN.{ℤ, pos, negℤ}
 use lib.ListN.{length, getD}
-use Rattle.laws.specs.Turns.{Turn, again, stop}
+use Rattle.laws.specs.Loops.{Step, continue, finish}
 use Rattle.laws.proofs.Tests.{by-case}
 use Rattle.bits.specs.Bounds.{longestStream, lastPosition}
 use Rattle.bits.specs.Programs.{Out, run, eqZ, findStartCode}
@@ -13,26 +13,26 @@ use Rattle.bits.proofs.Programs.{run-most}
 use Rattle.picture_state.specs.declared.types.Matrices.{Matrices}
 use Rattle.picture_state.specs.declared.types.Sizes.{Sizes}
 use Rattle.picture_state.specs.Possible.{between}
-use Rattle.picture_state.specs.Ways.{Way}
-use Rattle.picture.specs.Pictures.{Frame, picture}
+use Rattle.picture_state.specs.Result.{Result}
+use Rattle.picture.specs.Pictures.{PictureState, picture}
 use Rattle.picture_state.proofs.Possible.{picture-of, picture-by}
 use Rattle.picture.proofs.Kept.{Ends, StaysPossible, picture-kept}
 use Rattle.playback.specs.declared.state.State.{State}
-use Rattle.playback.specs.State.{place, startCode, searchedAs}
+use Rattle.playback.specs.State.{position, startCode, searchedAs}
 use Rattle.playback.specs.Search.{nextCode}
-use Rattle.playback.specs.Turns.{TurnState, Ended, frameOf, atPicture, pictureTurn}
+use Rattle.playback.specs.Steps.{DecodingState, LoopEnd, pictureStateOf, atPicture, pictureStep}
 use Rattle.playback.specs.Fit.{FitState}
-use Rattle.playback.specs.Cases.{Reads, TurnIs, gives, holds, leaves, is-seven}
+use Rattle.playback.specs.Cases.{ReadsPicture, StepCase, outputs, keeps-reference, aborts, is-seven}
 use Rattle.playback.proofs.Displays.{held-possible}
 use Rattle.playback.proofs.Searches.{Sought, hit, miss, sought}
-use Rattle.playback.proofs.Cases.{turn-is}
+use Rattle.playback.proofs.Cases.{picture-step-is}
 
 -- ---- a search
 
 module _ {z : Sizes} (x : State) {c : List ℤ} (f : FitState z x c) where
   placed : {k : ℤ} {e : ℕ} → e ≤ lastPosition → between (negℤ (pos 1)) (pos 255) k ≡ true → FitState z (searchedAs k e x) c
   placed e q = record {
-    place = e;
+    position = e;
     across = f .across;
     down = f .down;
     size = f .size;
@@ -42,7 +42,7 @@ module _ {z : Sizes} (x : State) {c : List ℤ} (f : FitState z x c) where
   }
 
   -- RULES 1.11: a start code that was searched, or -1
-  found : (k : ℤ) → between (negℤ (pos 1)) (pos 255) k ≡ true → {s : List ℕ} {o : Out ℤ} → Sought k s (place x) o → o .at ≤ lastPosition
+  found : (k : ℤ) → between (negℤ (pos 1)) (pos 255) k ≡ true → {s : List ℕ} {o : Out ℤ} → Sought k s (position x) o → o .at ≤ lastPosition
       → FitState z (searchedAs (o .value) (o .at) x) c
   found k b (hit v y w) h = placed h (rw v b)
   found k b (miss v y) h = placed h (rw v refl)
@@ -52,23 +52,23 @@ module _ {z : Sizes} (x : State) {c : List ℤ} (f : FitState z x c) where
   unfolding nextCode
   next-fits k b s short y e =
       rw e (by-case (λ (y : State). FitState z y c) (eqZ (startCode x) k) (λ e. f)
-      (λ e. found k b (sought k s (place x) short) (run-most (findStartCode k) s (place x) longestStream (f .place) short)))
+      (λ e. found k b (sought k s (position x) short) (run-most (findStartCode k) s (position x) longestStream (f .position) short)))
 
 -- ---- where another turn follows, the state fits again
 
-abbrev Goes : Sizes → Turn TurnState Ended → Type 0
-Goes z (again y) = FitState z (y .state) (y .«block_data»)
-Goes z (stop e) = Unit {0}
+abbrev Goes : Sizes → Step DecodingState LoopEnd → Type 0
+Goes z (continue y) = FitState z (y .state) (y .«block_data»)
+Goes z (finish e) = Unit {0}
 
 module _ (s : List ℕ) (z : Sizes) (m : Matrices) (short : length s ≤ longestStream) (bytes : (k : ℕ) → getD s k 0 < 256) where
-  turn-goes : (x : TurnState) {t : Turn TurnState Ended} → FitState z (x .state) (x .«block_data») → TurnIs s z m x t → Goes z t
-  turn-goes x k (gives h) = tt
-  turn-goes x k (holds {f} {a} i r b h) =
-      let kept = picture-kept z m (frameOf x) s (place (x .state)) (k .across) (k .down) (k .size) (picture-by (k .picture)) (k .block) short bytes in
-      let j = subst (λ (o : Out (Way Frame)). Ends (length (x .store)) (StaysPossible (x .store)) (o .value)) r kept in
-      let inside = run-most (picture z m (frameOf x)) s (place (x .state)) longestStream (k .place) short in
+  step-goes : (x : DecodingState) {t : Step DecodingState LoopEnd} → FitState z (x .state) (x .«block_data») → StepCase s z m x t → Goes z t
+  step-goes x k (outputs h) = tt
+  step-goes x k (keeps-reference {f} {a} i r b h) =
+      let kept = picture-kept z m (pictureStateOf x) s (position (x .state)) (k .across) (k .down) (k .size) (picture-by (k .picture)) (k .block) short bytes in
+      let j = subst (λ (o : Out (Result PictureState)). Ends (length (x .store)) (StaysPossible (x .store)) (o .value)) r kept in
+      let inside = run-most (picture z m (pictureStateOf x)) s (position (x .state)) longestStream (k .position) short in
       record {
-        place = subst (λ (o : Out (Way Frame)). o .at ≤ lastPosition) r inside;
+        position = subst (λ (o : Out (Result PictureState)). o .at ≤ lastPosition) r inside;
         across = k .across;
         down = k .down;
         size = k .size;
@@ -76,9 +76,9 @@ module _ (s : List ℕ) (z : Sizes) (m : Matrices) (short : length s ≤ longest
         block = j .block;
         display = held-possible (x .state) (k .display) true;
       }
-  turn-goes x k (leaves i r) = tt
-  turn-goes x k (is-seven i u) = tt
+  step-goes x k (aborts i r) = tt
+  step-goes x k (is-seven i u) = tt
 
-  pub turn-fits : (x : TurnState) {y : TurnState} → FitState z (x .state) (x .«block_data») → pictureTurn s z m x ≡ again y
+  pub turn-fits : (x : DecodingState) {y : DecodingState} → FitState z (x .state) (x .«block_data») → pictureStep s z m x ≡ continue y
       → FitState z (y .state) (y .«block_data»)
-  turn-fits x k e = subst (Goes z) e (turn-goes (atPicture s x) (next-fits (x .state) k (pos 0) refl s short _ refl) (turn-is s z m x))
+  turn-fits x k e = subst (Goes z) e (step-goes (atPicture s x) (next-fits (x .state) k (pos 0) refl s short _ refl) (picture-step-is s z m x))

@@ -4,6 +4,6 @@ pub mod Seeking
 pub mod Cases
 pub mod Fits
 pub mod Showing
-pub mod Turning
-pub mod TwoTurns
+pub mod PictureStep
+pub mod TwoSteps
 pub mod Next

@@ -8,10 +8,10 @@ use native.Mathlib.Omega.{arith}
 use lib.IntN.{ℤ, pos, negsuc, natAbs}
 use lib.ListN.{length, getD}
 use borrow.Author.Tests.{eqb-true}
-use Rattle.laws.specs.Turns.{again, stop}
+use Rattle.laws.specs.Loops.{continue, finish}
 use Rattle.bits.specs.Bounds.{longestStream}
 use Rattle.bits.specs.Bits.{Found, boundary, codePrefix, codeFrom, found}
-use Rattle.bits.specs.Programs.{Out, done, bind, run, eqZ, turn, loop, many, findTurn, findStartCode}
+use Rattle.bits.specs.Programs.{Out, done, bind, run, eqZ, continueWith, loop, many, findStep, findStartCode}
 use Rattle.bits.specs.Runs.{RunsAt}
 use Rattle.bits.proofs.Start.{isCode, Searched, first, none, found-end, found-is-first}
 use Rattle.bits.proofs.Rules.{at-find}
@@ -66,17 +66,17 @@ code-none s a = go (found s a) (found-is-first s a)
     go f (none w q) h = ap (λ (x : Found). x .code) q
 
 -- each turn that goes on brings the bits left down, so the fuel is not spent
-sought-from : (c : ℤ) (s : List ℕ) (n a : ℕ) → length s * 8 - a < n → Sought c s a (run (loop n (findTurn c) (negsuc 0) tt) s a)
-unfolding loop findTurn run bind
+sought-from : (c : ℤ) (s : List ℕ) (n a : ℕ) → length s * 8 - a < n → Sought c s a (run (loop n (findStep c) (negsuc 0) tt) s a)
+unfolding loop findStep run bind
 sought-from c s zero a h = let z : ⊥ = omega arith in absurd z
 sought-from c s (suc n) a h = go (found s a .code) (found s a .at) (code-ahead s a) (none-again s a) (code-none s a) (λ e. sought-from c s n e)
   where
     -- what the turns that are left find from each place on
     Further : Type 0
-    Further = (e : ℕ) → length s * 8 - e < n → Sought c s e (run (loop n (findTurn c) (negsuc 0) tt) s e)
+    Further = (e : ℕ) → length s * 8 - e < n → Sought c s e (run (loop n (findStep c) (negsuc 0) tt) s e)
 
     test : (k : ℤ) (e : ℕ) → (a + 32 ≤ e) × (e + 8 ≤ length s * 8) → Further → (b : Bool) → (b ≡ true → k ≡ c)
-        → Sought c s a (run (bind (cond b (done (stop k)) (done (again tt))) (turn (loop n (findTurn c) (negsuc 0)))) s e)
+        → Sought c s a (run (bind (cond b (done (finish k)) (done (continue tt))) (continueWith (loop n (findStep c) (negsuc 0)))) s e)
     test k e p r true f = hit (f refl) (p .0) (p .1)
     test k e p r false f = further (r e (omega arith))
       where
@@ -87,7 +87,8 @@ sought-from c s (suc n) a h = go (found s a .code) (found s a .at) (code-ahead s
     go : (k : ℤ) (e : ℕ) → (isCode k ≡ true → (a + 32 ≤ e) × (e + 8 ≤ length s * 8)) → (k ≡ negsuc 0 → Barren s e)
         → (isCode k ≡ false → k ≡ negsuc 0)
         → Further
-        → Sought c s a (run (bind (cond (eqZ k c || eqZ k (negsuc 0)) (done (stop k)) (done (again tt))) (turn (loop n (findTurn c) (negsuc 0)))) s e)
+        → Sought c s a
+        (run (bind (cond (eqZ k c || eqZ k (negsuc 0)) (done (finish k)) (done (continue tt))) (continueWith (loop n (findStep c) (negsuc 0)))) s e)
     go (pos v) e p q x r = test (pos v) e (p refl) r (eqZ (pos v) c || false) (λ t. eqZ-is (pos v) c (or-false (eqZ (pos v) c) t))
     go (negsuc zero) e p q x r = rw (or-true (eqZ (negsuc 0) c)) (miss refl (q refl))
     go (negsuc (suc v)) e p q x r = let z : suc (suc v) ≡ 1 = ap natAbs (x refl) in let no : ⊥ = omega arith in absurd no

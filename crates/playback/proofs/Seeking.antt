@@ -11,10 +11,10 @@ use borrow.Author.Tests.{eq-eqb, ne-eqb}
 use Rattle.laws.proofs.Ints.{same-bits}
 use Rattle.bits.specs.declared.reader.Reader.{Reader}
 use Rattle.bits.specs.Programs.{eqZ, findStartCode}
-use Rattle.bits.specs.Runs.{Runs, placeOf, readerAt}
+use Rattle.bits.specs.Runs.{Runs, positionOf, readerAt}
 use Rattle.bits.proofs.Codes.{eqZ-yes, eqZ-no}
 use Rattle.playback.specs.declared.state.State.{State}
-use Rattle.playback.specs.State.{place, startCode, searchedAs}
+use Rattle.playback.specs.State.{position, startCode, searchedAs}
 use Rattle.playback.specs.Search.{nextCode}
 use Rattle.playback.proofs.Searches.{eqZ-is}
 
@@ -24,8 +24,8 @@ module _ (c : ℤ) (s : List ℕ) (x : State) where
   unfolding nextCode
   seek-has e = rw e
 
-  pub seek-finds : {k : ℤ} {to : Reader} → eqZ (startCode x) c ≡ false → Runs (findStartCode c) s (readerAt (place x)) k to
-      → searchedAs k (placeOf to) x ≡ nextCode c s x
+  pub seek-finds : {k : ℤ} {to : Reader} → eqZ (startCode x) c ≡ false → Runs (findStartCode c) s (readerAt (position x)) k to
+      → searchedAs k (positionOf to) x ≡ nextCode c s x
   unfolding nextCode
   seek-finds g r = rw (g, r .is)
 

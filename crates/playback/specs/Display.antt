@@ -5,21 +5,21 @@ use Prim.Native.Nat.{ℕ, _+_}
 use lib.Dec.{eqb}
 use lib.IntN.{pos}
 use lib.Ieee.{Float, binary64, div, ofInt}
-use Rattle.laws.specs.Turns.{Turn, again, stop}
+use Rattle.laws.specs.Loops.{Step, continue, finish}
 use Rattle.bits.specs.Programs.{if_then_else_}
 use Rattle.playback.specs.declared.outcome.Outcome.{Outcome}
 use Rattle.playback.specs.declared.outcome.Outcome.the-variants.{Picture, Refused}
 use Rattle.playback.specs.declared.state.State.{State}
-use Rattle.playback.specs.State.{place, held, frames, nextTime, told, clockAs, heldAs}
+use Rattle.playback.specs.State.{position, hasReferenceFrame, frames, nextTime, shownPicture, clockAs, hasReferenceFrameAs}
 use Rattle.playback.specs.Search.{hasEnded}
 
 -- the result of a call: its outcome, and the state that it leaves
-pub record Result : Type 0 where
+pub record OutcomeState : Type 0 where
   pub outcome : Outcome
   pub state : State
 
-abbrev pub result : Outcome → State → Result
-result o x = record { outcome = o; state = x }
+abbrev pub outcomeState : Outcome → State → OutcomeState
+outcomeState o x = record { outcome = o; state = x }
 
 -- RULES 8.9: the time of n pictures at a rate, rounded once
 unfoldable pub timeOf : ℕ → Float → Float
@@ -36,16 +36,16 @@ counted x =
       «last_frame_time» = nextTime x;
     }) n x
 
--- the store number k is handed out with the time that is then shown
-unfoldable pub handed : ℕ → State → Result
-handed k x = result (Picture (told k (counted x))) (counted x)
+-- the store number k is output (RULES S.7: handed out) with the time that is then shown
+unfoldable pub outputPicture : ℕ → State → OutcomeState
+outputPicture k x = outcomeState (Picture (shownPicture k (counted x))) (counted x)
 
 -- RULES 8.5: after a picture, decoded or not
-unfoldable pub shown : State → Turn State Result
+unfoldable pub shown : State → Step State OutcomeState
 shown x =
-    if eqb (x .picture .«picture_type») 3 then stop (handed (x .picture .stores .cur) x)
-    else if held x then stop (handed (x .picture .stores .fwd) x)
-    else again (heldAs true x)
+    if eqb (x .picture .«picture_type») 3 then finish (outputPicture (x .picture .stores .cur) x)
+    else if hasReferenceFrame x then finish (outputPicture (x .picture .stores .fwd) x)
+    else continue (hasReferenceFrameAs true x)
 
 -- RULES 8.8: the last type is I or P
 abbrev pub isReference : State → Bool
@@ -53,10 +53,10 @@ isReference x = eqb (x .picture .«picture_type») 1 || eqb (x .picture .«pictu
 
 -- RULES 8.8: a picture is held, the bits have ended, and the last type is I or P
 abbrev pub isWaiting : List ℕ → State → Bool
-isWaiting s x = held x && hasEnded s (place x) && isReference x
+isWaiting s x = hasReferenceFrame x && hasEnded s (position x) && isReference x
 
 -- RULES 8.8, 8.11: no picture is found: the held one is flushed, with the time shown before, or the answer is 7
-unfoldable pub flushed : List ℕ → State → Result
+unfoldable pub flushed : List ℕ → State → OutcomeState
 flushed s x =
-    if isWaiting s x then result (Picture (told (x .picture .stores .bwd) (heldAs false x))) (heldAs false x)
-    else result (Refused 7) x
+    if isWaiting s x then outcomeState (Picture (shownPicture (x .picture .stores .bwd) (hasReferenceFrameAs false x))) (hasReferenceFrameAs false x)
+    else outcomeState (Refused 7) x

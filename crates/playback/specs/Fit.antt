@@ -11,11 +11,11 @@ use Rattle.picture_state.specs.declared.types.Sizes.{Sizes}
 use Rattle.picture_state.specs.Possible.{PossiblePicture}
 use Rattle.playback.specs.declared.state.Display.{Display}
 use Rattle.playback.specs.declared.state.State.{State}
-use Rattle.playback.specs.State.{place, possibleDisplay}
+use Rattle.playback.specs.State.{position, possibleDisplay}
 
 -- of the sizes, the place, the picture, the left-over coefficients and what is shown
 pub record Fit (z : Sizes) (a : ℕ) (p : Picture) (c : List ℤ) (v : Display) : Type 0 where
-  pub place : a ≤ lastPosition
+  pub position : a ≤ lastPosition
   pub across : z .«mb_width» ≤ 256
   pub down : z .«mb_height» ≤ 256
   pub size : z .«mb_size» ≡ z .«mb_width» * z .«mb_height»
@@ -24,4 +24,4 @@ pub record Fit (z : Sizes) (a : ℕ) (p : Picture) (c : List ℤ) (v : Display) 
   pub display : possibleDisplay v ≡ true
 
 abbrev pub FitState : Sizes → State → List ℤ → Type 0
-FitState z x c = Fit z (place x) (x .picture) c (x .display)
+FitState z x c = Fit z (position x) (x .picture) c (x .display)

@@ -1,7 +1,7 @@
 pub mod State
 pub mod Search
 pub mod Display
-pub mod Turns
-pub mod Turned
+pub mod Steps
+pub mod StepResults
 pub mod Fit
 pub mod Cases

@@ -7,13 +7,13 @@ use lib.IntN.{ℤ, pos, negsuc}
 use lib.ListN.{length}
 use Rattle.bits.specs.Programs.{run, eqZ, findStartCode, if_then_else_}
 use Rattle.playback.specs.declared.state.State.{State}
-use Rattle.playback.specs.State.{place, startCode, searchedAs}
+use Rattle.playback.specs.State.{position, startCode, searchedAs}
 
 -- RULES Q3, 8.2: the start code c is searched, unless the state has it already
 unfoldable pub nextCode : ℤ → List ℕ → State → State
 nextCode c s x =
     if eqZ (startCode x) c then x
-    else let o = run (findStartCode c) s (place x) in searchedAs (o .value) (o .at) x
+    else let o = run (findStartCode c) s (position x) in searchedAs (o .value) (o .at) x
 
 -- RULES 8.2: the next picture
 abbrev pub nextPicture : List ℕ → State → State

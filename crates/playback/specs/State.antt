@@ -5,7 +5,7 @@ use lib.Dec.{leb}
 use lib.Ieee.{Float}
 use lib.IntN.{ℤ}
 use Rattle.picture_state.specs.State.{startCodeAs, freshPicture}
-use Rattle.picture.specs.Pictures.{Frame}
+use Rattle.picture.specs.Pictures.{PictureState}
 use Rattle.header.specs.State.{noTime}
 use Rattle.playback.specs.declared.outcome.Shown.{Shown}
 use Rattle.playback.specs.declared.state.Clock.{Clock}
@@ -16,16 +16,16 @@ use Rattle.playback.specs.declared.state.State.{State}
 abbrev pub mostPictures : ℕ
 mostPictures = 134217728
 
--- the place in the stream, and the start code that was found last
-abbrev pub place : State → ℕ
-place x = x .position .0
+-- the position (RULES S.7: place) in the stream, and the start code that was found last
+abbrev pub position : State → ℕ
+position x = x .position .0
 
 abbrev pub startCode : State → ℤ
 startCode x = x .picture .«start_code»
 
--- RULES 8.5: a reference picture is held; RULES 8.10: how many pictures have been handed out
-abbrev pub held : State → Bool
-held x = x .display .«has_reference_frame»
+-- RULES 8.5: the Rust's has_reference_frame (RULES S.7: held); RULES 8.10: how many pictures have been handed out
+abbrev pub hasReferenceFrame : State → Bool
+hasReferenceFrame x = x .display .«has_reference_frame»
 
 abbrev pub frames : State → ℕ
 frames x = x .display .«frames_decoded»
@@ -38,8 +38,8 @@ abbrev pub shownTime : State → Float
 shownTime x = x .display .clock .«last_frame_time»
 
 -- RULES F.12: what is told of the picture in the store number k, with the state x as the call leaves it: the store, and the time shown
-abbrev pub told : ℕ → State → Shown
-told k x = record { store = k; time = shownTime x }
+abbrev pub shownPicture : ℕ → State → Shown
+shownPicture k x = record { store = k; time = shownTime x }
 
 -- RULES O.1: of the fresh record
 unfoldable pub freshState : State
@@ -66,20 +66,20 @@ abbrev pub searchedAs : ℤ → ℕ → State → State
 searchedAs c a x = record { position = record { 0 = a }; picture = startCodeAs c (x .picture); display = x .display }
 
 -- behind a picture that was read up to the place a
-abbrev pub pastFrame : Frame → ℕ → State → State
-pastFrame f a x = record { position = record { 0 = a }; picture = f .picture; display = x .display }
+abbrev pub stateAfterPicture : PictureState → ℕ → State → State
+stateAfterPicture f a x = record { position = record { 0 = a }; picture = f .picture; display = x .display }
 
 -- the clock and the count of pictures handed out
 abbrev pub clockAs : Clock → ℕ → State → State
 clockAs c n x = record {
   position = x .position;
   picture = x .picture;
-  display = record { clock = c; «has_reference_frame» = held x; «frames_decoded» = n };
+  display = record { clock = c; «has_reference_frame» = hasReferenceFrame x; «frames_decoded» = n };
 }
 
--- RULES 8.5, 8.8: held or not
-abbrev pub heldAs : Bool → State → State
-heldAs b x = record {
+-- RULES 8.5, 8.8: with this has_reference_frame
+abbrev pub hasReferenceFrameAs : Bool → State → State
+hasReferenceFrameAs b x = record {
   position = x .position;
   picture = x .picture;
   display = record { clock = x .display .clock; «has_reference_frame» = b; «frames_decoded» = frames x };

@@ -3,4 +3,4 @@ mod display;
 pub mod outcome;
 pub mod search;
 pub mod state;
-pub mod turns;
+pub mod steps;

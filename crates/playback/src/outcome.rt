@@ -10,8 +10,8 @@ pub struct Shown {
 }
 
 // Of the picture in the store number k, with the state as the call leaves it.
-pub fn told(d: State, k: usize) -> Shown
-    ensures { λ r. ⌜ r ≡ Rules.told k d ⌝ }
+pub fn shown_picture(d: State, k: usize) -> Shown
+    ensures { λ r. ⌜ r ≡ Rules.shownPicture k d ⌝ }
 {
     let time = d.display.clock.last_frame_time;
     Shown { store: k, time }
@@ -22,10 +22,10 @@ pub enum Outcome {
     Refused(u32),
 }
 
-// `again`: nothing was handed out, and another turn follows. `stop`: 8 or 9, else 0; with a stop the state is of no use (RULES 8.14).
-pub struct Turned {
+// `continues`: nothing was handed out, and another turn follows. `stop`: 8 or 9, else 0; with a stop the state is of no use (RULES 8.14).
+pub struct StepResult {
     pub state: State,
     pub outcome: Outcome,
-    pub again: bool,
+    pub continues: bool,
     pub stop: u32,
 }

@@ -8,8 +8,8 @@ ghost use lib.IntN.{natAbs};
 ghost use lib.ListN.{length};
 ghost use Rattle.bits.specs.Bounds.{longestStream, lastPosition};
 ghost use Rattle.bits.specs.Programs.{eqZ};
-ghost use Rattle.bits.specs.Runs.{Inside, placeOf};
-ghost use Rattle.playback.specs.State.{place, searchedAs};
+ghost use Rattle.bits.specs.Runs.{Inside, positionOf};
+ghost use Rattle.playback.specs.State.{position, searchedAs};
 ghost use Rattle.playback.specs.Search as Search;
 
 // Whether the start code that was found last is this one.
@@ -22,7 +22,7 @@ pub fn has_code(p: Picture, code: i32) -> bool
 
 // A search that ended here with a start code.
 fn searched(mut d: State, reader: Reader, code: i32) -> State
-    ensures { λ r. ⌜ r ≡ searchedAs code (placeOf reader) d ⌝ }
+    ensures { λ r. ⌜ r ≡ searchedAs code (positionOf reader) d ⌝ }
 {
     let mut p = d.picture;
     p.start_code = code;
@@ -34,7 +34,7 @@ fn searched(mut d: State, reader: Reader, code: i32) -> State
 
 // RULES Q3, 8.2: the search for a start code, unless the state has it already.
 pub fn next_code(s: &[u8], d: State, code: i32) -> State
-    requires { ⌜ place d ≤ lastPosition ⌝ }
+    requires { ⌜ position d ≤ lastPosition ⌝ }
     requires { ⌜ length (now s) ≤ longestStream ⌝ }
     ensures { λ r. ⌜ r ≡ Search.nextCode code (now (s .entry)) d ⌝ }
 {
@@ -48,7 +48,7 @@ pub fn next_code(s: &[u8], d: State, code: i32) -> State
 // RULES 8.3: a second picture start code is found ahead, or the bits end here.
 pub fn is_followed(s: &[u8], reader: Reader) -> bool
     requires { ⌜ Inside (now s) reader ⌝ }
-    ensures { λ r. ⌜ r ≡ Search.isFollowed (now (s .entry)) (placeOf reader) ⌝ }
+    ensures { λ r. ⌜ r ≡ Search.isFollowed (now (s .entry)) (positionOf reader) ⌝ }
 {
     let ahead = reader.has_start_code(s, 0);
     let code = ahead.code;

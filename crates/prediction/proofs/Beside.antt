@@ -11,8 +11,8 @@ use lib.Dec.{eqb}
 use lib.ListN.{length, getD, set, replicate, length-replicate}
 use Rattle.laws.specs.Stores.{storeRow}
 use Rattle.laws.proofs.Lists.{last-row, row-alike, row-in, rows-alike, rows-out, Stored, none-stored, stored-first, all-stored}
-use Rattle.prediction.specs.Apart.{Apart, chosen, sampled, laidAt, laidRows}
-use Rattle.prediction.specs.Samples.{average2, sample, laid}
+use Rattle.prediction.specs.Apart.{Disjoint, chosen, sampled, storedSampleAt, storedRows}
+use Rattle.prediction.specs.Samples.{average2, sample, storedSample}
 use Rattle.prediction.proofs.Lines.{Lines, no-line, line-on, lines-all}
 
 -- what f makes of a store at i is made of the numbers from i up to e further
@@ -25,28 +25,28 @@ Reads f e = (s t : List ℕ) (i : ℕ) → ((k : ℕ) → i ≤ k → k ≤ i + 
 pub record Making (interpolate : Bool) (f : List ℕ → ℕ → ℕ) (s : List ℕ) (i o b e : ℕ) (row : List ℕ) (x : ℕ) : Type 0 where
   pub read : i + b + e ≤ length s
   pub written : o + b ≤ length s
-  pub made : Stored (replicate 16 0) 0 (λ x. laidAt interpolate f s (i + x) (o + x)) b row x
+  pub made : Stored (replicate 16 0) 0 (λ x. storedSampleAt interpolate f s (i + x) (o + x)) b row x
 
 -- the loop's turn
 pub make-on : {interpolate : Bool} {f : List ℕ → ℕ → ℕ} {s row : List ℕ} {i o b e x v : ℕ} → Making interpolate f s i o b e row x → x < b
-    → v ≡ laidAt interpolate f s (i + x) (o + x) → Making interpolate f s i o b e (set row x v) (x + 1)
+    → v ≡ storedSampleAt interpolate f s (i + x) (o + x) → Making interpolate f s i o b e (set row x v) (x + 1)
 make-on m h e = record { read = m .read; written = m .written; made = stored-first (m .made) h e }
 
 -- ---- the rows so far
 
 -- y of the b rows are written, each number made by f
 pub record Rows (interpolate : Bool) (f : List ℕ → ℕ → ℕ) (s : List ℕ) (from to dw b : ℕ) (now : List ℕ) (y : ℕ) : Type 0 where
-  pub lines : Lines s to dw b b (λ old y x. laid interpolate old (f s (from + y * dw + x))) now y
+  pub lines : Lines s to dw b b (λ old y x. storedSample interpolate old (f s (from + y * dw + x))) now y
 
-pub no-row : {interpolate : Bool} {f : List ℕ → ℕ → ℕ} {s : List ℕ} {from to dw b e : ℕ} → Apart (length s) from to dw b e
+pub no-row : {interpolate : Bool} {f : List ℕ → ℕ → ℕ} {s : List ℕ} {from to dw b e : ℕ} → Disjoint (length s) from to dw b e
     → Rows interpolate f s from to dw b s 0
 no-row k = record { lines = no-line (k .wide) (k .target) }
 
 pub all-rows : {interpolate : Bool} {f : List ℕ → ℕ → ℕ} {s now : List ℕ} {from to dw b y : ℕ} → Rows interpolate f s from to dw b now y → b ≤ y
-    → now ≡ laidRows interpolate f s from to dw b
+    → now ≡ storedRows interpolate f s from to dw b
 all-rows l h = lines-all (l .lines) h
 
-module _ {interpolate : Bool} {f : List ℕ → ℕ → ℕ} {s : List ℕ} {from to dw b e : ℕ} (k : Apart (length s) from to dw b e) {before : List ℕ} {y : ℕ}
+module _ {interpolate : Bool} {f : List ℕ → ℕ → ℕ} {s : List ℕ} {from to dw b e : ℕ} (k : Disjoint (length s) from to dw b e) {before : List ℕ} {y : ℕ}
     (l : Rows interpolate f s from to dw b before y) (q : y < b) where
   -- the next row lies in the store
   pub none-made : Making interpolate f before (from + y * dw) (to + y * dw) b e (replicate 16 0) 0
@@ -65,7 +65,7 @@ module _ {interpolate : Bool} {f : List ℕ → ℕ → ℕ} {s : List ℕ} {fro
   kept : (j : ℕ) → from + y * dw ≤ j → j < from + y * dw + b + e → getD before j 0 ≡ getD s j 0
   kept j low high =
       ap (λ (z : List ℕ). getD z j 0) (l .lines .is)
-      ∙ rows-out s to dw b (λ y x. laidAt interpolate f s (from + y * dw + x) (to + y * dw + x)) y j 0
+      ∙ rows-out s to dw b (λ y x. storedSampleAt interpolate f s (from + y * dw + x) (to + y * dw + x)) y j 0
       (λ z r. ⊎-elim (λ h. inl (omega arith)) (λ h. inr (omega (arith, k .wide, mul-le-mul-right dw r))) (beside j low high))
 
   -- the loop's turn: the row that was made is written
@@ -79,17 +79,17 @@ module _ {interpolate : Bool} {f : List ℕ → ℕ → ℕ} {s : List ℕ} {fro
             ∙ row-alike before (to + y * dw) _ _ b
             (λ x r.
             ap (λ (z : List ℕ). getD z x 0) (all-stored (m .made) all)
-            ∙ row-in (replicate 16 0) 0 (λ x. laidAt interpolate f before (from + y * dw + x) (to + y * dw + x)) b x x 0
+            ∙ row-in (replicate 16 0) 0 (λ x. storedSampleAt interpolate f before (from + y * dw + x) (to + y * dw + x)) b x x 0
             (omega (arith, length-replicate {A = ℕ} 16 0)) r (omega arith)
-            ∙ ap (laid interpolate (getD before (to + y * dw + x) 0))
+            ∙ ap (storedSample interpolate (getD before (to + y * dw + x) 0))
             (reads before s (from + y * dw + x) (λ j low high. kept j (omega arith) (omega arith)))));
       }
 
 -- the same where the size of a row, n, is known to be b
-pub rows-turn : {interpolate : Bool} {f : List ℕ → ℕ → ℕ} {s before now row : List ℕ} {from to dw b n e y x : ℕ} → n ≡ b → Apart (length s) from to dw n e
+pub rows-step : {interpolate : Bool} {f : List ℕ → ℕ → ℕ} {s before now row : List ℕ} {from to dw b n e y x : ℕ} → n ≡ b → Disjoint (length s) from to dw n e
     → Rows interpolate f s from to dw n before y → y < n → Reads f e → b ≤ 16 → Making interpolate f before (from + y * dw) (to + y * dw) b e row x
     → b ≤ x → now ≡ storeRow before (to + y * dw) (λ x. getD row x 0) b → Rows interpolate f s from to dw n now (y + 1)
-rows-turn {interpolate} {f} {s} {before} {now} {row} {from} {to} {dw} {b} {n} {e} {y} {x} is k l q reads =
+rows-step {interpolate} {f} {s} {before} {now} {row} {from} {to} {dw} {b} {n} {e} {y} {x} is k l q reads =
     subst
     (λ (b : ℕ).
     b ≤ 16
@@ -126,11 +126,11 @@ chosen-is s dw zero (suc (suc k)) i r b = absurd (omega arith)
 chosen-is s dw (suc zero) (suc (suc k)) i r b = absurd (omega arith)
 
 pub chosen-rows : (interpolate : Bool) (s : List ℕ) (from to dw b right below : ℕ) → (right ≤ 1) × (below ≤ 1)
-    → laidRows interpolate (chosen dw (below * dw + right) (eqb (below * 2 + right) 3)) s from to dw b
-    ≡ laidRows interpolate (sampled dw (eqb right 1) (eqb below 1)) s from to dw b
+    → storedRows interpolate (chosen dw (below * dw + right) (eqb (below * 2 + right) 3)) s from to dw b
+    ≡ storedRows interpolate (sampled dw (eqb right 1) (eqb below 1)) s from to dw b
 chosen-rows interpolate s from to dw b right below h =
     rows-alike s to dw b _ _ b
-    (λ y x q k. ap (laid interpolate (getD s (to + y * dw + x) 0)) (chosen-is s dw right below (from + y * dw + x) (h .0) (h .1)))
+    (λ y x q k. ap (storedSample interpolate (getD s (to + y * dw + x) 0)) (chosen-is s dw right below (from + y * dw + x) (h .0) (h .1)))
 
 -- both are 1 where the average is of four
 pub both-one : (dw right below : ℕ) → (right ≤ 1) × (below ≤ 1) → eqb (below * 2 + right) 3 ≡ true → (below * dw + right ≡ dw + 1) × (right ≡ 1)

@@ -12,10 +12,10 @@ use lib.ListN.{length, getD}
 use Rattle.laws.specs.Signed.{odd}
 use Rattle.laws.specs.Stores.{storeRows}
 use Rattle.laws.proofs.Lists.{last-row, length-mid, mid-at, rows-alike, rows-put}
-use Rattle.prediction.specs.declared.place.Place.{Place}
-use Rattle.prediction.specs.Apart.{Apart, sampled, laidRows}
-use Rattle.prediction.specs.Predict.{Placed, width, bytes, address, maxAddress, reach, predicted}
-use Rattle.prediction.specs.Samples.{average2, average4, sample, laid}
+use Rattle.prediction.specs.declared.position.BlockPosition.{BlockPosition}
+use Rattle.prediction.specs.Apart.{Disjoint, sampled, storedRows}
+use Rattle.prediction.specs.Predict.{BlockInPlane, width, bytes, address, maxAddress, reach, predicted}
+use Rattle.prediction.specs.Samples.{average2, average4, sample, storedSample}
 use Rattle.prediction.proofs.Places.{column-in, block-in, source-in, halves-reach}
 
 -- a sample of a part is that of the whole
@@ -45,16 +45,17 @@ module _ (s : List ℕ) (from n dw j : ℕ) where
   sample-mid false false h = here (omega arith)
 
 -- the rows in the whole store are those of the plane
-row-by-row : {p : Place} → Placed p → (s : List ℕ) (from to a : ℕ) (h v : ℤ) (interpolate : Bool) → from + bytes p ≤ length s → to + bytes p ≤ length s
+row-by-row : {p : BlockPosition} → BlockInPlane p → (s : List ℕ) (from to a : ℕ) (h v : ℤ) (interpolate : Bool) → from + bytes p ≤ length s
+    → to + bytes p ≤ length s
     → a + reach p h v ≤ maxAddress p
-    → laidRows interpolate (sampled (width p) (odd h) (odd v)) s (from + a) (to + address p) (width p) (p .size)
+    → storedRows interpolate (sampled (width p) (odd h) (odd v)) s (from + a) (to + address p) (width p) (p .size)
     ≡ putMid to (bytes p) s (predicted p (midOf from (bytes p) s) (midOf to (bytes p) s) h v interpolate a)
 unfolding predicted
 row-by-row {p} k s from to a h v interpolate fit room q =
     let n = bytes p in
     let w = width p in
     let g : ℕ → ℕ → ℕ = λ y x.
-    laid interpolate (getD (midOf to (bytes p) s) (address p + y * width p + x) 0)
+    storedSample interpolate (getD (midOf to (bytes p) s) (address p + y * width p + x) 0)
     (sample (midOf from (bytes p) s) (width p) (odd h) (odd v) (a + y * width p + x)) in
     rows-alike s (to + address p) w (p .size) _ g (p .size)
     (λ y x r l.
@@ -62,7 +63,7 @@ row-by-row {p} k s from to a h v interpolate fit room q =
     let j : a + reach p h v + y * w + p .size ≤ n = last-row (a + reach p h v) w (p .size) (p .size) n (source-in k (a + reach p h v) q) y r in
     let e : to + address p + y * w + x ≡ to + (address p + y * w + x) = omega arith in
     let f : from + a + y * w + x ≡ from + (a + y * w + x) = omega arith in
-    ap₂ (laid interpolate) (ap (λ (m : ℕ). getD s m 0) e ∙ sym (mid-at to n s (address p + y * w + x) 0 (omega arith)))
+    ap₂ (storedSample interpolate) (ap (λ (m : ℕ). getD s m 0) e ∙ sym (mid-at to n s (address p + y * w + x) 0 (omega arith)))
     (ap (sample s w (odd h) (odd v)) f ∙ sample-mid s from n w (a + y * w + x) (odd h) (odd v) (omega arith)))
     ∙ ap (λ (z : List ℕ). storeRows z (to + address p) w (p .size) g (p .size)) (sym (put-same to n s))
     ∙ rows-put to n s (midOf to n s) (address p) w (p .size) g (p .size) (omega arith)
@@ -70,11 +71,11 @@ row-by-row {p} k s from to a h v interpolate fit room q =
 
 -- ---- the same with the numbers that the code has for those of the place
 
-module _ {p : Place} (k : Placed p) (s : List ℕ) (from to a : ℕ) (h v : ℤ) {w d right below : ℕ} (ew : w ≡ width p) (ed : d ≡ address p)
+module _ {p : BlockPosition} (k : BlockInPlane p) (s : List ℕ) (from to a : ℕ) (h v : ℤ) {w d right below : ℕ} (ew : w ≡ width p) (ed : d ≡ address p)
     (er : (right ≤ 1) × (eqb right 1 ≡ odd h)) (eb : (below ≤ 1) × (eqb below 1 ≡ odd v)) (fit : from + bytes p ≤ length s) (room : to + bytes p ≤ length s)
     (q : a + reach p h v ≤ maxAddress p) where
   -- what the rows ask
-  pub apart-fits : (from + bytes p ≤ to) ⊎ (to + bytes p ≤ from) → Apart (length s) (from + a) (to + d) w (p .size) (below * w + right)
+  pub apart-fits : (from + bytes p ≤ to) ⊎ (to + bytes p ≤ from) → Disjoint (length s) (from + a) (to + d) w (p .size) (below * w + right)
   apart-fits apart =
       rw (ew, ed)
       (let i = source-in k (a + reach p h v) q in
@@ -89,6 +90,6 @@ module _ {p : Place} (k : Placed p) (s : List ℕ) (from to a : ℕ) (h v : ℤ)
 
   -- and what they make
   pub apart-copied : (interpolate : Bool) {last : List ℕ}
-      → last ≡ laidRows interpolate (sampled w (eqb right 1) (eqb below 1)) s (from + a) (to + d) w (p .size)
+      → last ≡ storedRows interpolate (sampled w (eqb right 1) (eqb below 1)) s (from + a) (to + d) w (p .size)
       → last ≡ putMid to (bytes p) s (predicted p (midOf from (bytes p) s) (midOf to (bytes p) s) h v interpolate a)
   apart-copied interpolate e = e ∙ rw (ew, ed, er .1, eb .1) (row-by-row k s from to a h v interpolate fit room q)

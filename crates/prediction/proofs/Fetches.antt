@@ -8,8 +8,8 @@ use lib.Dec.{ltb}
 use lib.IntN.{ℤ, pos, natAbs}
 use lib.Signed.{ltZ}
 use Rattle.laws.proofs.Ints.{v, lit, natAbs-is, one-side, lt-no, yes-lt, no-lt}
-use Rattle.prediction.specs.declared.place.Fetch.the-variants.{Alone, Past, Copied}
-use Rattle.prediction.specs.declared.place.Place.{Place}
+use Rattle.prediction.specs.declared.position.Fetch.the-variants.{Alone, Past, Copied}
+use Rattle.prediction.specs.declared.position.BlockPosition.{BlockPosition}
 use Rattle.prediction.specs.Predict.{start, maxAddress, reach, fetch}
 
 -- a number that is not negative, against a natural number
@@ -19,7 +19,7 @@ above z m e h = yes-lt (lit m) (v z) (omega (arith, lt-no (v z) (lit 0) e, natAb
 not-above : (z : ℤ) (m : ℕ) → natAbs z ≤ m → ltZ (pos m) z ≡ false
 not-above z m h = no-lt (lit m) (v z) (omega (arith, natAbs-is z))
 
-module _ (p : Place) (h v : ℤ) where
+module _ (p : BlockPosition) (h v : ℤ) where
   pub below : ltZ (start p h v) (pos 0) ≡ true → Alone ≡ fetch p h v
   unfolding fetch
   below e = rw e

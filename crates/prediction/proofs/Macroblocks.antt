@@ -12,15 +12,15 @@ use lib.Dec.{eqb, ltb}
 use lib.IntN.{ℤ, pos, negsuc, natAbs}
 use Rattle.laws.specs.Signed.{half0}
 use Rattle.laws.proofs.Nums.{neg-abs}
-use Rattle.prediction.specs.declared.place.Macroblock.{Macroblock}
-use Rattle.prediction.specs.declared.place.Place.{Place}
+use Rattle.prediction.specs.declared.position.Macroblock.{Macroblock}
+use Rattle.prediction.specs.declared.position.BlockPosition.{BlockPosition}
 use Rattle.prediction.specs.declared.planes.Plane.{Plane}
 use Rattle.prediction.specs.declared.planes.Plane.the-variants.{Y, Cr, Cb}
 use Rattle.prediction.specs.declared.predict.Predicted.{Predicted}
 use Rattle.prediction.specs.declared.predict.Predicted.the-variants.{Done, Refused}
-use Rattle.prediction.specs.Planes.{macroblocks, blockSize, planeOf, planeLength, planeStart, After, inPlane, next, ofStores, predictedPlanes}
-use Rattle.prediction.specs.Predict.{Inside, Placed, macroblockAt, blockOf, bytes, chroma}
-use Rattle.prediction.specs.Writers.{lumaPlace, chromaPlace, blockWidth, blockPlace}
+use Rattle.prediction.specs.Planes.{macroblocks, blockSize, planeOf, planeLength, planeStart, After, inPlane, thenPlane, ofStores, predictedPlanes}
+use Rattle.prediction.specs.Predict.{Inside, BlockInPlane, macroblockAt, blockOf, bytes, chroma}
+use Rattle.prediction.specs.Writers.{lumaAddress, chromaAddress, blockWidth, blockAddress}
 use Rattle.prediction.proofs.Places.{at-place, block-in}
 use Rattle.prediction.specs.Planes.{storesBytes}
 
@@ -48,13 +48,13 @@ module _ {m : Macroblock} (i : Inside m) where
   pub count-most : macroblocks m ≤ 65536
   count-most = mul-le-mul (i .across) (i .down)
 
-  pub placed : (q : Plane) → Placed (blockOf m (blockSize q))
+  pub placed : (q : Plane) → BlockInPlane (blockOf m (blockSize q))
   placed Y = record { size = inr refl; inside = i }
   placed Cr = record { size = inl refl; inside = i }
   placed Cb = record { size = inl refl; inside = i }
 
   -- the four blocks of Y, and the one of Cr and Cb, lie in their planes
-  pub luma-in : (block : ℕ) → lumaPlace (m .across * 16) (m .row) (m .column) block + 7 * (m .across * 16) + 8 ≤ 256 * macroblocks m
+  pub luma-in : (block : ℕ) → lumaAddress (m .across * 16) (m .row) (m .column) block + 7 * (m .across * 16) + 8 ≤ 256 * macroblocks m
   luma-in block =
       let u : block / 2 % 2 ≤ 1 = omega arith in
       let t : block % 2 ≤ 1 = omega arith in
@@ -64,7 +64,7 @@ module _ {m : Macroblock} (i : Inside m) where
             (omega (arith, i .column)),
       )
 
-  pub chroma-in : chromaPlace (m .across * 8) (m .row) (m .column) + 7 * (m .across * 8) + 8 ≤ 64 * macroblocks m
+  pub chroma-in : chromaAddress (m .across * 8) (m .row) (m .column) + 7 * (m .across * 8) + 8 ≤ 64 * macroblocks m
   chroma-in = omega (arith, block-in (placed Cr))
 
 -- the side of a macroblock's block in a plane
@@ -86,12 +86,12 @@ module _ {m : Macroblock} (i : Inside m) (number : ℕ) where
   pub width-most : blockWidth m number ≤ 4096
   width-most = mul-le-mul (i .across) (size-most (planeOf number))
 
-  pub place-in : blockPlace m number + 7 * blockWidth m number + 8 ≤ planeLength (planeOf number) (macroblocks m)
-  unfolding blockPlace
-  place-in = go (ltb number 4) (eqb number 4)
+  pub position-in : blockAddress m number + 7 * blockWidth m number + 8 ≤ planeLength (planeOf number) (macroblocks m)
+  unfolding blockAddress
+  position-in = go (ltb number 4) (eqb number 4)
     where
       go : (luma : Bool) (cb : Bool) → let q = cond luma Y (cond cb Cb Cr) in let w = m .across * blockSize q in
-          cond luma (lumaPlace w (m .row) (m .column) number) (chromaPlace w (m .row) (m .column)) + 7 * w + 8 ≤ planeLength q (macroblocks m)
+          cond luma (lumaAddress w (m .row) (m .column) number) (chromaAddress w (m .row) (m .column)) + 7 * w + 8 ≤ planeLength q (macroblocks m)
       go true cb = luma-in i number
       go false true = chroma-in i
       go false false = chroma-in i
@@ -134,7 +134,8 @@ planes-apart m q from to n = go (decLt from to)
     go (no h) = let r : to < from = above (decLt to from) h in inr (omega (arith, plane-small m q, mul-le-mul-right (384 * macroblocks m) r))
 
 -- the same place, planes and vector
-pub alike : {p r : Place} {from from′ to to′ : ℕ} {h h′ v v′ : ℤ} (interpolate : Bool) (store : List ℕ) → p ≡ r → from ≡ from′ → to ≡ to′ → h ≡ h′ → v ≡ v′
+pub alike : {p r : BlockPosition} {from from′ to to′ : ℕ} {h h′ v v′ : ℤ} (interpolate : Bool) (store : List ℕ) → p ≡ r → from ≡ from′ → to ≡ to′ → h ≡ h′ → v
+    ≡ v′
     → inPlane p from to h v interpolate store ≡ inPlane r from′ to′ h′ v′ interpolate store
 alike interpolate store ep ef et eh ev = rw (ep, ef, et, eh, ev)
 
@@ -143,12 +144,12 @@ unfolding half0
 half-most (pos a) n h = omega arith
 half-most (negsuc a) n h = omega (arith, neg-abs (pos (suc a / 2)))
 
-next-done : (o : After) (f : List ℕ → After) → o .answer ≡ Done → next o f ≡ f (o .store)
-unfolding next
+next-done : (o : After) (f : List ℕ → After) → o .answer ≡ Done → thenPlane o f ≡ f (o .store)
+unfolding thenPlane
 next-done o f e = ap (λ (a : Predicted). elim a [ Done ↦ f (o .store) | Refused ↦ o ]) e
 
-next-refused : (o : After) (f : List ℕ → After) → o .answer ≡ Refused → next o f ≡ o
-unfolding next
+next-refused : (o : After) (f : List ℕ → After) → o .answer ≡ Refused → thenPlane o f ≡ o
+unfolding thenPlane
 next-refused o f e = ap (λ (a : Predicted). elim a [ Done ↦ f (o .store) | Refused ↦ o ]) e
 
 module _ (m : Macroblock) (from to : ℕ) (h v : ℤ) (interpolate : Bool) (store : List ℕ) where
@@ -159,25 +160,25 @@ module _ (m : Macroblock) (from to : ℕ) (h v : ℤ) (interpolate : Bool) (stor
   second = ofStores m from to interpolate Cr (chroma h) (chroma v) (first .store)
 
   -- what follows Cr, and Y
-  abbrev behind-cr : List ℕ → After
-  behind-cr = ofStores m from to interpolate Cb (chroma h) (chroma v)
+  abbrev after-cr : List ℕ → After
+  after-cr = ofStores m from to interpolate Cb (chroma h) (chroma v)
 
-  abbrev behind-y : List ℕ → After
-  behind-y s = next (ofStores m from to interpolate Cr (chroma h) (chroma v) s) behind-cr
+  abbrev after-y : List ℕ → After
+  after-y s = thenPlane (ofStores m from to interpolate Cr (chroma h) (chroma v) s) after-cr
 
   abbrev third : After
-  third = behind-cr (second .store)
+  third = after-cr (second .store)
 
   pub first-refused : first .answer ≡ Refused → predictedPlanes m from to h v interpolate store ≡ first
   unfolding predictedPlanes
-  first-refused e = next-refused first behind-y e
+  first-refused e = next-refused first after-y e
 
-  after-first : first .answer ≡ Done → predictedPlanes m from to h v interpolate store ≡ next second behind-cr
+  after-first : first .answer ≡ Done → predictedPlanes m from to h v interpolate store ≡ thenPlane second after-cr
   unfolding predictedPlanes
-  after-first e = next-done first behind-y e
+  after-first e = next-done first after-y e
 
   pub second-refused : first .answer ≡ Done → second .answer ≡ Refused → predictedPlanes m from to h v interpolate store ≡ second
-  second-refused e g = after-first e ∙ next-refused second behind-cr g
+  second-refused e g = after-first e ∙ next-refused second after-cr g
 
   pub both-done : first .answer ≡ Done → second .answer ≡ Done → predictedPlanes m from to h v interpolate store ≡ third
-  both-done e g = after-first e ∙ next-done second behind-cr g
+  both-done e g = after-first e ∙ next-done second after-cr g

@@ -8,8 +8,8 @@ use native.Mathlib.Omega.{arith}
 use lib.Dec.{eqb}
 use lib.IntN.{ℤ}
 use Rattle.laws.specs.Signed.{odd}
-use Rattle.prediction.specs.declared.place.Place.{Place}
-use Rattle.prediction.specs.Predict.{Placed, width, height, bytes, address, maxAddress, reach}
+use Rattle.prediction.specs.declared.position.BlockPosition.{BlockPosition}
+use Rattle.prediction.specs.Predict.{BlockInPlane, width, height, bytes, address, maxAddress, reach}
 
 -- a block of s rows of s in a plane W wide and H high, at row R and column C
 pub at-place : (R C s W H : ℕ) → 0 < s → R + s ≤ H → C + s ≤ W → R * W + C + (s - 1) * W + s ≤ W * H
@@ -34,11 +34,11 @@ reach-is (suc (suc n)) below w r b = absurd (omega arith)
 reach-is zero (suc (suc n)) w r b = absurd (omega arith)
 reach-is (suc zero) (suc (suc n)) w r b = absurd (omega arith)
 
-pub halves-reach : (p : Place) (h v : ℤ) {right below : ℕ} → (right ≤ 1) × (eqb right 1 ≡ odd h) → (below ≤ 1) × (eqb below 1 ≡ odd v)
+pub halves-reach : (p : BlockPosition) (h v : ℤ) {right below : ℕ} → (right ≤ 1) × (eqb right 1 ≡ odd h) → (below ≤ 1) × (eqb below 1 ≡ odd v)
     → below * width p + right ≡ reach p h v
 halves-reach p h v {right} {below} r b = reach-is right below (width p) (r .0) (b .0) ∙ rw (r .1, b .1)
 
-module _ {p : Place} (k : Placed p) where
+module _ {p : BlockPosition} (k : BlockInPlane p) where
   pub size-from : 8 ≤ p .size
   size-from = ⊎-elim (λ e. omega arith) (λ e. omega arith) (k .size)
 

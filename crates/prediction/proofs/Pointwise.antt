@@ -14,10 +14,10 @@ use lib.ListN.{length, getD}
 use Rattle.laws.specs.Signed.{odd}
 use Rattle.laws.specs.Stores.{storeRows}
 use Rattle.laws.proofs.Lists.{rows-in, rows-out}
-use Rattle.prediction.specs.declared.place.Place.{Place}
+use Rattle.prediction.specs.declared.position.BlockPosition.{BlockPosition}
 use Rattle.prediction.specs.Blocks.{rowOf, columnOf, inBlock}
-use Rattle.prediction.specs.Predict.{Placed, width, bytes, address, predicted}
-use Rattle.prediction.specs.Samples.{sample, laid}
+use Rattle.prediction.specs.Predict.{BlockInPlane, width, bytes, address, predicted}
+use Rattle.prediction.specs.Samples.{sample, storedSample}
 use Rattle.prediction.proofs.Places.{size-from, column-in, block-in}
 
 -- k is at the row and column that are counted of it
@@ -70,15 +70,16 @@ old-at d at dw b k g = go (leb at k) refl
     go false e = refl
 
 -- a prediction is such a write
-pub predicted-at : {p : Place} → Placed p → (s d : List ℕ) (h v : ℤ) (interpolate : Bool) (from k : ℕ) → bytes p ≤ length d
+pub predicted-at : {p : BlockPosition} → BlockInPlane p → (s d : List ℕ) (h v : ℤ) (interpolate : Bool) (from k : ℕ) → bytes p ≤ length d
     → getD (predicted p s d h v interpolate from) k 0
     ≡ cond (inBlock (address p) (width p) (p .size) k)
-    (laid interpolate (getD d k 0) (sample s (width p) (odd h) (odd v) (from + rowOf (address p) (width p) k * width p + columnOf (address p) (width p) k)))
+    (storedSample interpolate (getD d k 0)
+    (sample s (width p) (odd h) (odd v) (from + rowOf (address p) (width p) k * width p + columnOf (address p) (width p) k)))
     (getD d k 0)
 unfolding predicted
 predicted-at {p} q s d h v interpolate from k fit =
     block-at d (address p) (width p) (p .size)
-    (λ y x. laid interpolate (getD d (address p + y * width p + x) 0) (sample s (width p) (odd h) (odd v) (from + y * width p + x))) k 0
+    (λ y x. storedSample interpolate (getD d (address p + y * width p + x) 0) (sample s (width p) (odd h) (odd v) (from + y * width p + x))) k 0
     (omega (arith, size-from q)) (omega (arith, column-in q)) (omega (arith, block-in q))
     ∙ old-at d (address p) (width p) (p .size) k
-    (λ n. laid interpolate n (sample s (width p) (odd h) (odd v) (from + rowOf (address p) (width p) k * width p + columnOf (address p) (width p) k)))
+    (λ n. storedSample interpolate n (sample s (width p) (odd h) (odd v) (from + rowOf (address p) (width p) k * width p + columnOf (address p) (width p) k)))

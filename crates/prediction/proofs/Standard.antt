@@ -13,11 +13,11 @@ use Rattle.laws.specs.Signed.{odd}
 use Rattle.laws.proofs.Bytes.{half-is}
 use Rattle.laws.proofs.Ints.{v as vary, lit, _⊕_, _⊖_, _⊛_, at-dif, eq-by, eq-of, le-of, no-lt}
 use Rattle.laws.proofs.Lists.{rows-in}
-use Rattle.prediction.specs.declared.place.Fetch.the-variants.{Copied}
-use Rattle.prediction.specs.declared.place.Place.{Place}
-use Rattle.prediction.specs.Predict.{Placed, width, height, bytes, address, start, maxAddress, reach, fetch, predicted, chroma}
-use Rattle.prediction.specs.Samples.{average2, average4, sample, laid}
-use Rattle.prediction.specs.Standard.{roundedDiv, whole, half, chrominance, pelPast, none, formed, pel, bothWays, InPicture}
+use Rattle.prediction.specs.declared.position.Fetch.the-variants.{Copied}
+use Rattle.prediction.specs.declared.position.BlockPosition.{BlockPosition}
+use Rattle.prediction.specs.Predict.{BlockInPlane, width, height, bytes, address, start, maxAddress, reach, fetch, predicted, chroma}
+use Rattle.prediction.specs.Samples.{average2, average4, sample, storedSample}
+use Rattle.prediction.specs.Standard.{roundedDiv, whole, half, chrominance, pelPast, none, formed, pel, interpolated, InPicture}
 use Rattle.prediction.proofs.Fetches.{inside}
 use Rattle.prediction.proofs.Places.{column-in, block-in}
 
@@ -89,7 +89,7 @@ cases false false e f g h = e
 
 -- ---- a block in the picture
 
-module _ {p : Place} (k : Placed p) (h v : ℤ) (i : InPicture p h v) where
+module _ {p : BlockPosition} (k : BlockInPlane p) (h v : ℤ) (i : InPicture p h v) where
   -- the row and the column of the block's first sample
   pub row : ℕ
   row = natAbs (pos (p .row * p .size) +ℤ whole v)
@@ -159,13 +159,14 @@ module _ {p : Place} (k : Placed p) (h v : ℤ) (i : InPicture p h v) where
 
     module _ (d : List ℕ) (fit : bytes p ≤ length d) (ry : y < p .size) (rx : x < p .size) where
       laid-is : (interpolate : Bool) → getD (predicted p s d h v interpolate (row * width p + column)) (address p + y * width p + x) 0
-          ≡ laid interpolate (getD d (address p + y * width p + x) 0) (pel s (width p) h v (p .row * p .size + y) (p .column * p .size + x))
+          ≡ storedSample interpolate (getD d (address p + y * width p + x) 0) (pel s (width p) h v (p .row * p .size + y) (p .column * p .size + x))
       unfolding predicted
       laid-is interpolate =
           rows-in d (address p) (width p) (p .size)
-          (λ y x. laid interpolate (getD d (address p + y * width p + x) 0) (sample s (width p) (odd h) (odd v) (row * width p + column + y * width p + x)))
+          (λ y x. storedSample interpolate (getD d (address p + y * width p + x) 0)
+          (sample s (width p) (odd h) (odd v) (row * width p + column + y * width p + x)))
           (p .size) y x (address p + y * width p + x) 0 (omega (arith, column-in k)) (omega (arith, block-in k)) ry rx refl
-          ∙ ap (laid interpolate (getD d (address p + y * width p + x) 0)) sample-is
+          ∙ ap (storedSample interpolate (getD d (address p + y * width p + x) 0)) sample-is
 
       -- a first prediction is the standard's
       pub forward : getD (predicted p s d h v false (row * width p + column)) (address p + y * width p + x) 0
@@ -174,5 +175,5 @@ module _ {p : Place} (k : Placed p) (h v : ℤ) (i : InPicture p h v) where
 
       -- and a second one laid over it is the average of both
       pub backward : getD (predicted p s d h v true (row * width p + column)) (address p + y * width p + x) 0
-          ≡ bothWays (getD d (address p + y * width p + x) 0) (pel s (width p) h v (p .row * p .size + y) (p .column * p .size + x))
+          ≡ interpolated (getD d (address p + y * width p + x) 0) (pel s (width p) h v (p .row * p .size + y) (p .column * p .size + x))
       backward = laid-is true ∙ two-rounded (getD d (address p + y * width p + x) 0) (pel s (width p) h v (p .row * p .size + y) (p .column * p .size + x))

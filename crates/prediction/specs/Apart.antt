@@ -5,10 +5,10 @@ use mathlib.Core.Logic.{_⊎_}
 use Prim.Native.Nat.{ℕ, _+_, _*_, _-_, _≤_}
 use lib.ListN.{getD}
 use Rattle.laws.specs.Stores.{storeRows}
-use Rattle.prediction.specs.Samples.{average2, sample, laid}
+use Rattle.prediction.specs.Samples.{average2, sample, storedSample}
 
 -- b rows of b, the first at `from` or `to` and each next one dw further, lie in n bytes; those at `from` are read e further, and the two are apart
-pub record Apart (n from to dw b e : ℕ) : Type 0 where
+pub record Disjoint (n from to dw b e : ℕ) : Type 0 where
   pub wide : b ≤ dw
   pub source : from + (b - 1) * dw + b + e ≤ n
   pub target : to + (b - 1) * dw + b ≤ n
@@ -27,9 +27,9 @@ abbrev pub chosen : ℕ → ℕ → Bool → List ℕ → ℕ → ℕ
 chosen dw other four s i = cond four (sampled dw true true s i) (paired other s i)
 
 -- RULES 6.8: what f makes of the store at i, in place of what stands at o or averaged with it
-abbrev pub laidAt : Bool → (List ℕ → ℕ → ℕ) → List ℕ → ℕ → ℕ → ℕ
-laidAt interpolate f s i o = laid interpolate (getD s o 0) (f s i)
+abbrev pub storedSampleAt : Bool → (List ℕ → ℕ → ℕ) → List ℕ → ℕ → ℕ → ℕ
+storedSampleAt interpolate f s i o = storedSample interpolate (getD s o 0) (f s i)
 
 -- RULES 6.7, 6.8: the store with b rows of b at `to`, made so of those at `from`
-abbrev pub laidRows : Bool → (List ℕ → ℕ → ℕ) → List ℕ → ℕ → ℕ → ℕ → ℕ → List ℕ
-laidRows interpolate f s from to dw b = storeRows s to dw b (λ y x. laidAt interpolate f s (from + y * dw + x) (to + y * dw + x)) b
+abbrev pub storedRows : Bool → (List ℕ → ℕ → ℕ) → List ℕ → ℕ → ℕ → ℕ → ℕ → List ℕ
+storedRows interpolate f s from to dw b = storeRows s to dw b (λ y x. storedSampleAt interpolate f s (from + y * dw + x) (to + y * dw + x)) b

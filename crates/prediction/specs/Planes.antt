@@ -5,10 +5,10 @@ use Prim.Native.Nat.{ℕ, _+_, _*_}
 use borrow.Rule.Slice.PartMut.{midOf, putMid}
 use lib.Dec.{eqb, ltb}
 use lib.IntN.{ℤ}
-use Rattle.prediction.specs.declared.place.Fetch.{Fetch}
-use Rattle.prediction.specs.declared.place.Fetch.the-variants.{Alone, Past, Copied}
-use Rattle.prediction.specs.declared.place.Macroblock.{Macroblock}
-use Rattle.prediction.specs.declared.place.Place.{Place}
+use Rattle.prediction.specs.declared.position.Fetch.{Fetch}
+use Rattle.prediction.specs.declared.position.Fetch.the-variants.{Alone, Past, Copied}
+use Rattle.prediction.specs.declared.position.Macroblock.{Macroblock}
+use Rattle.prediction.specs.declared.position.BlockPosition.{BlockPosition}
 use Rattle.prediction.specs.declared.planes.Plane.{Plane}
 use Rattle.prediction.specs.declared.planes.Plane.the-variants.{Y, Cr, Cb}
 use Rattle.prediction.specs.declared.predict.Predicted.{Predicted}
@@ -56,7 +56,7 @@ pub record After : Type 0 where
   pub answer : Predicted
 
 -- what is done with the block at p of the plane that begins at `to`, from the plane at `from`
-unfoldable pub follow : Fetch → Place → ℕ → ℕ → ℤ → ℤ → Bool → List ℕ → After
+unfoldable pub follow : Fetch → BlockPosition → ℕ → ℕ → ℤ → ℤ → Bool → List ℕ → After
 follow Alone p from to h v interpolate store = record { store = store; answer = Done }
 follow Past p from to h v interpolate store = record { store = store; answer = Refused }
 follow (Copied a) p from to h v interpolate store =
@@ -66,12 +66,12 @@ follow (Copied a) p from to h v interpolate store =
     }
 
 -- RULES 6.4 to 6.9 for one plane
-abbrev pub inPlane : Place → ℕ → ℕ → ℤ → ℤ → Bool → List ℕ → After
+abbrev pub inPlane : BlockPosition → ℕ → ℕ → ℤ → ℤ → Bool → List ℕ → After
 inPlane p from to h v = follow (fetch p h v) p from to h v
 
 -- a refusal ends the prediction
-unfoldable pub next : After → (List ℕ → After) → After
-next o f = elim (o .answer) [ Done ↦ f (o .store) | Refused ↦ o ]
+unfoldable pub thenPlane : After → (List ℕ → After) → After
+thenPlane o f = elim (o .answer) [ Done ↦ f (o .store) | Refused ↦ o ]
 
 -- the plane q of the store number `to` from that of the store number `from`
 abbrev pub ofStores : Macroblock → ℕ → ℕ → Bool → Plane → ℤ → ℤ → List ℕ → After
@@ -80,5 +80,5 @@ ofStores m from to interpolate q h v = inPlane (blockOf m (blockSize q)) (planeS
 -- RULES 6.2, 6.10: Y, then Cr and Cb with the vector halved; h and v are in half samples
 unfoldable pub predictedPlanes : Macroblock → ℕ → ℕ → ℤ → ℤ → Bool → List ℕ → After
 predictedPlanes m from to h v interpolate store =
-    next (ofStores m from to interpolate Y h v store) (λ s.
-    next (ofStores m from to interpolate Cr (chroma h) (chroma v) s) (ofStores m from to interpolate Cb (chroma h) (chroma v)))
+    thenPlane (ofStores m from to interpolate Y h v store) (λ s.
+    thenPlane (ofStores m from to interpolate Cr (chroma h) (chroma v) s) (ofStores m from to interpolate Cb (chroma h) (chroma v)))

@@ -20,5 +20,5 @@ sample s dw across down i =
     (cond down (average2 (getD s i 0) (getD s (i + dw) 0)) (getD s i 0))
 
 -- a predicted sample in place of an old one, or averaged with it
-abbrev pub laid : Bool → ℕ → ℕ → ℕ
-laid interpolate old new = cond interpolate (average2 old new) new
+abbrev pub storedSample : Bool → ℕ → ℕ → ℕ
+storedSample interpolate old new = cond interpolate (average2 old new) new

@@ -6,7 +6,7 @@ use lib.Dec.{eqb}
 use lib.IntN.{ℤ, pos, natAbs, _+ℤ_, _-ℤ_, _*ℤ_}
 use lib.ListN.{getD}
 use lib.Signed.{shrZ, quotZ, _≤ℤ_}
-use Rattle.prediction.specs.declared.place.Place.{Place}
+use Rattle.prediction.specs.declared.position.BlockPosition.{BlockPosition}
 use Rattle.prediction.specs.Predict.{width, height}
 
 -- n // d of numbers that are not negative: to the nearest integer, halves up
@@ -46,11 +46,11 @@ abbrev pub pel : List ℕ → ℕ → ℤ → ℤ → ℕ → ℕ → ℕ
 pel s wide right down i j = formed s wide (half right) (half down) (pos i +ℤ whole down) (pos j +ℤ whole right)
 
 -- 2.4.4.3: the average of a forward and a backward prediction
-abbrev pub bothWays : ℕ → ℕ → ℕ
-bothWays forward backward = roundedDiv (forward + backward) 2
+abbrev pub interpolated : ℕ → ℕ → ℕ
+interpolated forward backward = roundedDiv (forward + backward) 2
 
 -- 2.4.4.2 allows no reference outside the picture: all samples that the block at p refers to are inside
-pub record InPicture (p : Place) (h v : ℤ) : Type 0 where
+pub record InPicture (p : BlockPosition) (h v : ℤ) : Type 0 where
   pub top : pos 0 ≤ℤ (pos (p .row * p .size) +ℤ whole v)
   pub bottom : (pos (p .row * p .size) +ℤ whole v +ℤ pos (p .size) +ℤ half v) ≤ℤ pos (height p)
   pub left : pos 0 ≤ℤ (pos (p .column * p .size) +ℤ whole h)

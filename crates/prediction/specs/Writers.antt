@@ -7,7 +7,7 @@ use lib.IntN.{ℤ, pos, _+ℤ_}
 use lib.ListN.{getD}
 use Rattle.laws.specs.Signed.{clamp255}
 use Rattle.laws.specs.Stores.{storeRows}
-use Rattle.prediction.specs.declared.place.Macroblock.{Macroblock}
+use Rattle.prediction.specs.declared.position.Macroblock.{Macroblock}
 use Rattle.prediction.specs.Planes.{blockSize, planeOf}
 
 -- one byte everywhere
@@ -27,18 +27,18 @@ unfoldable pub addBlock : List ℕ → ℕ → ℕ → List ℤ → List ℕ
 addBlock d di dw s = storeRows d di dw 8 (λ y x. clamp255 (pos (getD d (di + y * dw + x) 0) +ℤ getD s (y * 8 + x) (pos 0))) 8
 
 -- the place of block 0 to 3 in the plane Y of width dw, for the macroblock at row and column
-abbrev pub lumaPlace : ℕ → ℕ → ℕ → ℕ → ℕ
-lumaPlace dw row column block = (row * 16 + block / 2 % 2 * 8) * dw + column * 16 + block % 2 * 8
+abbrev pub lumaAddress : ℕ → ℕ → ℕ → ℕ → ℕ
+lumaAddress dw row column block = (row * 16 + block / 2 % 2 * 8) * dw + column * 16 + block % 2 * 8
 
 -- the place of block 4 or 5 in its plane, of width dw
-abbrev pub chromaPlace : ℕ → ℕ → ℕ → ℕ
-chromaPlace dw row column = row * 8 * dw + column * 8
+abbrev pub chromaAddress : ℕ → ℕ → ℕ → ℕ
+chromaAddress dw row column = row * 8 * dw + column * 8
 
 -- RULES 3.1: the width of the plane of block 0 to 5
 abbrev pub blockWidth : Macroblock → ℕ → ℕ
 blockWidth m number = m .across * blockSize (planeOf number)
 
 -- RULES 6.12: the place of block 0 to 5 in its plane
-unfoldable pub blockPlace : Macroblock → ℕ → ℕ
-blockPlace m number =
-    cond (ltb number 4) (lumaPlace (blockWidth m number) (m .row) (m .column) number) (chromaPlace (blockWidth m number) (m .row) (m .column))
+unfoldable pub blockAddress : Macroblock → ℕ → ℕ
+blockAddress m number =
+    cond (ltb number 4) (lumaAddress (blockWidth m number) (m .row) (m .column) number) (chromaAddress (blockWidth m number) (m .row) (m .column))

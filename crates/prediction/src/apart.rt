@@ -4,7 +4,7 @@
 // shuffles it, which takes longer. An offset of 0 averages a sample with itself: a copy.
 use crate::samples::average2;
 use crate::samples::average4;
-use crate::samples::laid;
+use crate::samples::stored_sample;
 ghost use mathlib.Core.Path.{_≡_};
 ghost use mathlib.Core.Bool.{true};
 ghost use mathlib.Core.Logic.{_⊎_};
@@ -12,7 +12,7 @@ ghost use Prim.Native.Nat.{_+_, _*_, _≤_, _<_};
 ghost use lib.Dec.{eqb};
 ghost use lib.ListN.{length, getD};
 ghost use Rattle.laws.specs.Stores.{storeRow};
-ghost use Rattle.prediction.specs.Apart.{Apart, paired, chosen, sampled, laidAt, laidRows};
+ghost use Rattle.prediction.specs.Apart.{Disjoint, paired, chosen, sampled, storedSampleAt, storedRows};
 
 // So many bytes of a row that was made.
 fn put_row(d: &mut [u8], at: usize, row: &[u8; 16], size: usize)
@@ -30,18 +30,18 @@ fn put_row(d: &mut [u8], at: usize, row: &[u8; 16], size: usize)
 // The sample at i averaged with the one that stands `other` further, in place of the one at o or averaged with it.
 fn pair_at(store: &[u8], i: usize, o: usize, other: usize, interpolate: bool) -> u8
     requires { ⌜ (i + other < length (now store)) × (o < length (now store)) ⌝ }
-    ensures { λ r. ⌜ r ≡ laidAt interpolate (paired other) (now (store .entry)) i o ⌝ }
+    ensures { λ r. ⌜ r ≡ storedSampleAt interpolate (paired other) (now (store .entry)) i o ⌝ }
 {
-    laid(interpolate, store[o], average2(store[i], store[i + other]))
+    stored_sample(interpolate, store[o], average2(store[i], store[i + other]))
 }
 
 // The sample at i averaged with the one to the right, the one below and the one between them, in place of the one at o or averaged with it.
 fn four_at(store: &[u8], i: usize, o: usize, dw: usize, right: usize, interpolate: bool) -> u8
     requires { ⌜ (i + (dw + 1) < length (now store)) × (o < length (now store)) ⌝ }
     requires { ⌜ right ≡ 1 ⌝ }
-    ensures { λ r. ⌜ r ≡ laidAt interpolate (sampled dw true true) (now (store .entry)) i o ⌝ }
+    ensures { λ r. ⌜ r ≡ storedSampleAt interpolate (sampled dw true true) (now (store .entry)) i o ⌝ }
 {
-    laid(
+    stored_sample(
         interpolate,
         store[o],
         average4(
@@ -66,7 +66,7 @@ fn laid_at(
 ) -> u8
     requires { ⌜ (i + other < length (now store)) × (o < length (now store)) ⌝ }
     requires { ⌜ (four ≡ true → (other ≡ dw + 1) × (right ≡ 1)) ⌝ }
-    ensures { λ r. ⌜ r ≡ laidAt interpolate (chosen dw other four) (now (store .entry)) i o ⌝ }
+    ensures { λ r. ⌜ r ≡ storedSampleAt interpolate (chosen dw other four) (now (store .entry)) i o ⌝ }
 {
     if four {
         return four_at(store, i, o, dw, right, interpolate);
@@ -87,8 +87,8 @@ pub fn predict_apart(
 )
     requires { ⌜ (size ≡ 8) ⊎ (size ≡ 16) ⌝ }
     requires { ⌜ (right ≤ 1) × (below ≤ 1) ⌝ }
-    requires { ⌜ Apart (length (now store)) from to dw size (below * dw + right) ⌝ }
-    ensures { λ _. ⌜ now (store .exit) ≡ laidRows interpolate (sampled dw (eqb right 1) (eqb below 1)) (now (store .entry)) from to dw size ⌝ }
+    requires { ⌜ Disjoint (length (now store)) from to dw size (below * dw + right) ⌝ }
+    ensures { λ _. ⌜ now (store .exit) ≡ storedRows interpolate (sampled dw (eqb right 1) (eqb below 1)) (now (store .entry)) from to dw size ⌝ }
 {
     let other = below * dw + right;
     let four = below * 2 + right == 3;

@@ -1,6 +1,6 @@
 // Prediction, and the writers of blocks.
 pub mod apart;
-pub mod place;
+pub mod position;
 pub mod planes;
 pub mod predict;
 pub mod rows;

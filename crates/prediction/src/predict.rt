@@ -1,9 +1,9 @@
 // Blocks of one plane predicted from another, and a macroblock's three planes from another store.
 use crate::apart::predict_apart;
-use crate::place::Fetch;
-use crate::place::Macroblock;
-use crate::place::Place;
-use crate::place::half_sample;
+use crate::position::Fetch;
+use crate::position::Macroblock;
+use crate::position::BlockPosition;
+use crate::position::half_sample;
 use crate::planes::Plane;
 use crate::planes::block_size;
 use crate::planes::plane_start;
@@ -15,7 +15,7 @@ ghost use borrow.Rule.Slice.PartMut.{midOf, putMid};
 ghost use lib.IntN.{natAbs};
 ghost use lib.ListN.{length};
 ghost use Rattle.prediction.specs.Planes.{macroblocks, inPlane, ofStores, predictedPlanes, storesBytes};
-ghost use Rattle.prediction.specs.Predict.{Inside, Placed, bytes, maxAddress, reach, predicted};
+ghost use Rattle.prediction.specs.Predict.{Inside, BlockInPlane, bytes, maxAddress, reach, predicted};
 
 // RULES Q9: refused is number 9.
 pub enum Predicted {
@@ -28,13 +28,13 @@ fn copy_block(
     store: &mut [u8],
     from: usize,
     to: usize,
-    p: Place,
+    p: BlockPosition,
     h: i32,
     v: i32,
     interpolate: bool,
     at: usize,
 )
-    requires { ⌜ Placed p ⌝ }
+    requires { ⌜ BlockInPlane p ⌝ }
     requires { ⌜ (from + bytes p ≤ length (now store)) × (to + bytes p ≤ length (now store)) ⌝ }
     requires { ⌜ (from + bytes p ≤ to) ⊎ (to + bytes p ≤ from) ⌝ }
     requires { ⌜ at + reach p h v ≤ maxAddress p ⌝ }
@@ -63,12 +63,12 @@ pub fn predict_plane(
     store: &mut [u8],
     from: usize,
     to: usize,
-    p: Place,
+    p: BlockPosition,
     h: i32,
     v: i32,
     interpolate: bool,
 ) -> Predicted
-    requires { ⌜ Placed p ⌝ }
+    requires { ⌜ BlockInPlane p ⌝ }
     requires { ⌜ (natAbs h ≤ 2048) × (natAbs v ≤ 2048) ⌝ }
     requires { ⌜ (from + bytes p ≤ length (now store)) × (to + bytes p ≤ length (now store)) × ((from + bytes p ≤ to) ⊎ (to + bytes p ≤ from)) ⌝ }
     ensures answer { λ r. ⌜ r ≡ inPlane p from to h v interpolate (now (store .entry)) .answer ⌝ }

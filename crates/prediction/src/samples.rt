@@ -1,6 +1,6 @@
 // Samples and their averages (RULES 6.7, 6.8).
 ghost use mathlib.Core.Path.{_≡_};
-ghost use Rattle.prediction.specs.Samples.{average2, average4, laid};
+ghost use Rattle.prediction.specs.Samples.{average2, average4, storedSample};
 
 pub fn average2(a: u8, b: u8) -> u8
     ensures { λ r. ⌜ r ≡ average2 a b ⌝ }
@@ -15,8 +15,8 @@ pub fn average4(a: u8, b: u8, c: u8, d: u8) -> u8
 }
 
 // A predicted sample in place of an old one, or averaged with it.
-pub fn laid(interpolate: bool, old: u8, new: u8) -> u8
-    ensures { λ r. ⌜ r ≡ laid interpolate old new ⌝ }
+pub fn stored_sample(interpolate: bool, old: u8, new: u8) -> u8
+    ensures { λ r. ⌜ r ≡ storedSample interpolate old new ⌝ }
 {
     if interpolate {
         return average2(old, new);

@@ -1,5 +1,5 @@
 // The results of a block, and the place in its plane at which they are written (RULES 6.12, 6.13).
-use crate::place::Macroblock;
+use crate::position::Macroblock;
 use crate::planes::block_size;
 use crate::planes::plane_of;
 use crate::rows::put_eight;
@@ -13,7 +13,7 @@ ghost use Rattle.laws.specs.Stores.{storeRow};
 ghost use Rattle.prediction.specs.Planes.{macroblocks, planeOf, planeLength};
 ghost use Rattle.prediction.specs.Predict.{Inside};
 ghost use Rattle.laws.specs.Sizes.{Narrow};
-ghost use Rattle.prediction.specs.Writers.{lumaPlace, chromaPlace, blockWidth, blockPlace, setConst, overwrite, addConst, addBlock};
+ghost use Rattle.prediction.specs.Writers.{lumaAddress, chromaAddress, blockWidth, blockAddress, setConst, overwrite, addConst, addBlock};
 
 // The result k of a row of them as a byte.
 fn clamped(s: &[i32; 64], from: usize, k: usize) -> u8
@@ -163,10 +163,10 @@ pub fn block_set_add(d: &mut [u8], di: usize, dw: usize, s: &[i32; 64])
 }
 
 // The place of block 0, 1, 2 or 3 in the plane Y.
-fn luma_place(m: Macroblock, block: usize) -> usize
+fn luma_address(m: Macroblock, block: usize) -> usize
     requires { ⌜ Inside m ⌝ }
     requires { ⌜ block < 4 ⌝ }
-    ensures is { λ r. ⌜ r ≡ lumaPlace (m .across * 16) (m .row) (m .column) block ⌝ }
+    ensures is { λ r. ⌜ r ≡ lumaAddress (m .across * 16) (m .row) (m .column) block ⌝ }
     ensures inside { λ r. ⌜ r + 7 * (m .across * 16) + 8 ≤ 256 * macroblocks m ⌝ }
 {
     let dw = m.across * 16;
@@ -174,9 +174,9 @@ fn luma_place(m: Macroblock, block: usize) -> usize
 }
 
 // The place of block 4 in the plane Cb and of block 5 in the plane Cr.
-pub fn chroma_place(m: Macroblock) -> usize
+pub fn chroma_address(m: Macroblock) -> usize
     requires { ⌜ Inside m ⌝ }
-    ensures is { λ r. ⌜ r ≡ chromaPlace (m .across * 8) (m .row) (m .column) ⌝ }
+    ensures is { λ r. ⌜ r ≡ chromaAddress (m .across * 8) (m .row) (m .column) ⌝ }
     ensures inside { λ r. ⌜ r + 7 * (m .across * 8) + 8 ≤ 64 * macroblocks m ⌝ }
 {
     let dw = m.across * 8;
@@ -193,13 +193,13 @@ pub fn block_width(m: Macroblock, number: usize) -> usize
 }
 
 // The place of block 0 to 5 in its plane.
-pub fn block_place(m: Macroblock, number: usize) -> usize
+pub fn block_address(m: Macroblock, number: usize) -> usize
     requires { ⌜ Inside m ⌝ }
-    ensures is { λ r. ⌜ r ≡ blockPlace m number ⌝ }
+    ensures is { λ r. ⌜ r ≡ blockAddress m number ⌝ }
     ensures inside { λ r. ⌜ r + 7 * blockWidth m number + 8 ≤ planeLength (planeOf number) (macroblocks m) ⌝ }
 {
     if number < 4 {
-        return luma_place(m, number);
+        return luma_address(m, number);
     }
-    chroma_place(m)
+    chroma_address(m)
 }

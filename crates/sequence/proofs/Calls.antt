@@ -6,13 +6,13 @@ use mathlib.Core.List.{List, [], _∷_}
 use Prim.Native.Nat.{ℕ, suc, _*_, _≤_, _<_}
 use native.Mathlib.Omega.{arith}
 use lib.ListN.{length, getD}
-use Rattle.laws.specs.Turns.{turns}
-use Rattle.laws.proofs.Loops.{turns-again, turns-stop}
+use Rattle.laws.specs.Loops.{iterate}
+use Rattle.laws.proofs.Loops.{steps-again, steps-stop}
 use Rattle.bits.specs.Bounds.{longestStream}
 use Rattle.bits.specs.Programs.{many}
 use Rattle.picture_state.specs.declared.types.Sizes.{Sizes}
 use Rattle.picture_state.specs.declared.types.Matrices.{Matrices}
-use Rattle.picture_state.specs.Ways.{on}
+use Rattle.picture_state.specs.Result.{ok}
 use Rattle.picture_state.proofs.Possible.{stores-of}
 use Rattle.standard.specs.Standard as S
 use Rattle.standard.proofs.Related.{Rule}
@@ -21,33 +21,33 @@ use Rattle.decoder.specs.declared.answers.Opening.the-variants as O
 use Rattle.playback.specs.declared.outcome.Shown.{Shown}
 use Rattle.playback.specs.declared.outcome.Outcome.{Outcome}
 use Rattle.playback.specs.declared.outcome.Outcome.the-variants as H
-use Rattle.playback.specs.State.{frames, told}
-use Rattle.playback.specs.Turns as P
-use Rattle.playback.specs.Turns.{TurnState, Ended, gave, pictureTurn}
-use Rattle.decoder.specs.Record.{Left, left, given, resumed, place}
+use Rattle.playback.specs.State.{frames, shownPicture}
+use Rattle.playback.specs.Steps as P
+use Rattle.playback.specs.Steps.{DecodingState, LoopEnd, finished, pictureStep}
+use Rattle.decoder.specs.Record.{CallResult, callResult, decodingStateOf, withDecodingState, position}
 use Rattle.decoder.specs.Opening.{opening}
-use Rattle.decoder.specs.HandOut as C
-use Rattle.decoder.specs.Run.{Going, going, call, behind, begin}
+use Rattle.decoder.specs.Decode as C
+use Rattle.decoder.specs.Run.{CallState, callState, call, stateAfter, stateAfterOpening}
 use Rattle.demands.proofs.Keeps.{Keeps, keeps-resumed}
-use Rattle.demands.proofs.RunTurns.{hands, flushes}
-use Rattle.demands.proofs.RunCall.{EndsFrom, turns-end, keeps-call}
-use Rattle.sequence.specs.Sequence.{Carried, begins, carried, pictures}
-use Rattle.sequence.specs.Display.{displayed, allButLast, shown, storeOf, Holds, Hands}
-use Rattle.sequence.proofs.Turns.{Waiting}
+use Rattle.demands.proofs.RunSteps.{hands, flushes}
+use Rattle.demands.proofs.RunCall.{EndsFrom, steps-end, keeps-call}
+use Rattle.sequence.specs.Sequence.{SequenceState, initialState, stateAfterDecoded, pictures}
+use Rattle.sequence.specs.Display.{displayed, allButLast, shown, storeOf, StoreHolds, OutputsInOrder}
+use Rattle.sequence.proofs.Steps.{Waiting}
 use Rattle.sequence.proofs.Opened.{readied}
 use Rattle.sequence.proofs.Pictures.{inverted, no-pictures}
-use Rattle.sequence.proofs.Stores.{Sound, Waits, sound-behind}
-use Rattle.sequence.proofs.Handing.{last-turn, handing, holding}
+use Rattle.sequence.proofs.Stores.{Sound, Waits, sound-after}
+use Rattle.sequence.proofs.Outputs.{last-step, handing, holding}
 
 module _ (s : List ℕ) (long : length s ≤ longestStream) (bytes : (k : ℕ) → getD s k 0 < 256) where
   -- a call that hands out a picture leaves what the next one needs
-  hands-keep : {d : Decoder} {l : List ℕ} {n : ℕ} {i : Shown} {y : TurnState} (k : Keeps s d l) → EndsFrom s long bytes d k n (gave (H.Picture i) y)
-      → Keeps s (resumed d y) (y .store)
+  hands-keep : {d : Decoder} {l : List ℕ} {n : ℕ} {i : Shown} {y : DecodingState} (k : Keeps s d l) → EndsFrom s long bytes d k n (finished (H.Picture i) y)
+      → Keeps s (withDecodingState d y) (y .store)
   hands-keep k (hands j e) = keeps-resumed k j
   hands-keep k (flushes j e u) = keeps-resumed k j
 
-  abbrev unfinished : TurnState → Ended
-  unfinished y = gave (H.Refused 7) y
+  abbrev unfinished : DecodingState → LoopEnd
+  unfinished y = finished (H.Refused 7) y
 
   -- ---- the pictures behind the first, of a record with the sequence of d
 
@@ -59,53 +59,56 @@ module _ (s : List ℕ) (long : length s ≤ longestStream) (bytes : (k : ℕ) �
     m = d .sequence .matrices
 
     -- a call is given this
-    abbrev at : TurnState → Going
-    at y = going (resumed d y) (y .store)
+    abbrev at : DecodingState → CallState
+    at y = callState (withDecodingState d y) (y .store)
 
     module _ (area : z .«mb_size» ≡ z .«mb_width» * z .«mb_height») where
       -- w waits, and the call at g has come to y, with some turns left
-      held-calls : (c : S.Decoded) (cs : List S.Decoded) (n : ℕ) (x : Carried) (a : ℕ) (y : TurnState) (w : S.Decoded) (g : TurnState) (k : ℕ)
-          → x .held ≡ true → pictures (rule .rules) z m s n x a ≡ on (c ∷ cs) → Waiting x a y → Sound (z .«mb_size») x
-          → Waits (z .«mb_size») w x → Keeps s (resumed d g) (g .store) → P.pictures s z m g ≡ turns (suc k) (pictureTurn s z m) unfinished y
-          → Hands (z .«mb_size») s (at g) (displayed w (allButLast (c ∷ cs)))
-      unfolding C.ended P.pictures
+      held-calls : (c : S.Decoded) (cs : List S.Decoded) (n : ℕ) (x : SequenceState) (a : ℕ) (y : DecodingState) (w : S.Decoded) (g : DecodingState) (k : ℕ)
+          → x .hasReferenceFrame ≡ true → pictures (rule .rules) z m s n x a ≡ ok (c ∷ cs) → Waiting x a y → Sound (z .«mb_size») x
+          → Waits (z .«mb_size») w x → Keeps s (withDecodingState d g) (g .store) → P.pictures s z m g ≡ iterate (suc k) (pictureStep s z m) unfinished y
+          → OutputsInOrder (z .«mb_size») s (at g) (displayed w (allButLast (c ∷ cs)))
+      unfolding C.callResultOf P.pictures
       held-calls c [] n x a y w g k held h v i j kept e =
-          let turn = last-turn rule s long z m x a y v c (inverted rule s z m n x a c [] h) in
-          let ends = e ∙ turns-stop (pictureTurn s z m) k unfinished y _ turn in
-          ap (λ (r : Left Outcome). r .answer) (keeps-call s long (resumed d g) (g .store) kept ∙ ap (C.ended (resumed d g) (resumed d g)) ends)
+          let turn = last-step rule s long z m x a y v c (inverted rule s z m n x a c [] h) in
+          let ends = e ∙ steps-stop (pictureStep s z m) k unfinished y _ turn in
+          ap (λ (r : CallResult Outcome). r .answer)
+              (keeps-call s long (withDecodingState d g) (g .store) kept ∙ ap (C.callResultOf (withDecodingState d g) (withDecodingState d g)) ends)
       held-calls c (c′ ∷ cs) n x a y w g k held h v i j kept e =
           let q = inverted rule s z m n x a c (c′ ∷ cs) h in
           let o = handing rule s long z m x a y v c c′ cs q area i held w j in
-          let told-of = H.Picture (told (storeOf (o .picture)) (o .left .state)) in
-          let ends : P.pictures s z m g ≡ gave told-of (o .left) = e ∙ turns-stop (pictureTurn s z m) k unfinished y _ (o .turn) in
-          let left-is : call s (at g) ≡ left told-of (resumed d (o .left)) (o .left .store) =
-          keeps-call s long (resumed d g) (g .store) kept ∙ ap (C.ended (resumed d g) (resumed d g)) ends in
-          let kept′ : Keeps s (resumed d (o .left)) (o .left .store) =
-          hands-keep kept (subst (EndsFrom s long bytes (resumed d g) kept (frames (g .state))) ends (turns-end s long bytes (resumed d g) kept)) in
-          let rest = held-calls c′ cs (q .fuel) (carried x c) _ (o .left) (o .next) (o .left) 1 (o .held) (q .rest) (o .waiting)
-          (sound-behind rule s z m area x a c (c′ ∷ cs) q i) (o .waits) kept′ refl in
-          subst (Hands (z .«mb_size») s (at g)) (sym (o .order (allButLast (c′ ∷ cs)))) (
-            ap (λ (r : Left Outcome). r .answer) left-is ∙ ap (λ (r : Left Outcome). H.Picture (told (storeOf (o .picture)) (r .decoder .state))) (sym left-is),
-            subst (λ (l : List ℕ). Holds (z .«mb_size») l (o .picture)) (sym (ap (λ (r : Left Outcome). r .store) left-is ∙ o .pels)) (o .holds),
-            subst (λ (g : Going). Hands (z .«mb_size») s g (displayed (o .next) (allButLast (c′ ∷ cs)))) (sym (ap behind left-is)) rest,
+          let told-of = H.Picture (shownPicture (storeOf (o .picture)) (o .left .state)) in
+          let ends : P.pictures s z m g ≡ finished told-of (o .left) = e ∙ steps-stop (pictureStep s z m) k unfinished y _ (o .step) in
+          let left-is : call s (at g) ≡ callResult told-of (withDecodingState d (o .left)) (o .left .store) =
+          keeps-call s long (withDecodingState d g) (g .store) kept ∙ ap (C.callResultOf (withDecodingState d g) (withDecodingState d g)) ends in
+          let kept′ : Keeps s (withDecodingState d (o .left)) (o .left .store) =
+          hands-keep kept
+              (subst (EndsFrom s long bytes (withDecodingState d g) kept (frames (g .state))) ends (steps-end s long bytes (withDecodingState d g) kept)) in
+          let rest = held-calls c′ cs (q .fuel) (stateAfterDecoded x c) _ (o .left) (o .next) (o .left) 1 (o .hasReferenceFrame) (q .rest) (o .waiting)
+          (sound-after rule s z m area x a c (c′ ∷ cs) q i) (o .waits) kept′ refl in
+          subst (OutputsInOrder (z .«mb_size») s (at g)) (sym (o .order (allButLast (c′ ∷ cs)))) (
+            ap (λ (r : CallResult Outcome). r .answer) left-is
+                ∙ ap (λ (r : CallResult Outcome). H.Picture (shownPicture (storeOf (o .picture)) (r .decoder .state))) (sym left-is),
+            subst (λ (l : List ℕ). StoreHolds (z .«mb_size») l (o .picture)) (sym (ap (λ (r : CallResult Outcome). r .store) left-is ∙ o .pels)) (o .holds),
+            subst (λ (g : CallState). OutputsInOrder (z .«mb_size») s g (displayed (o .next) (allButLast (c′ ∷ cs)))) (sym (ap stateAfter left-is)) rest,
           )
 
       -- from the first on
-      first-calls : (ds : List S.Decoded) (n : ℕ) (x : Carried) (a : ℕ) (y : TurnState) → x .held ≡ false
-          → pictures (rule .rules) z m s n x a ≡ on ds → Waiting x a y → Sound (z .«mb_size») x → Keeps s (resumed d y) (y .store)
-          → Hands (z .«mb_size») s (at y) (shown (allButLast ds))
-      unfolding P.pictures C.ended
+      first-calls : (ds : List S.Decoded) (n : ℕ) (x : SequenceState) (a : ℕ) (y : DecodingState) → x .hasReferenceFrame ≡ false
+          → pictures (rule .rules) z m s n x a ≡ ok ds → Waiting x a y → Sound (z .«mb_size») x → Keeps s (withDecodingState d y) (y .store)
+          → OutputsInOrder (z .«mb_size») s (at y) (shown (allButLast ds))
+      unfolding P.pictures C.callResultOf
       first-calls [] n x a y held h w i kept = no-pictures rule s z m n x a held h
       first-calls (c ∷ []) n x a y held h w i kept =
-          let turn = last-turn rule s long z m x a y w c (inverted rule s z m n x a c [] h) in
-          ap (λ (r : Left Outcome). r .answer) (keeps-call s long (resumed d y) (y .store) kept
-          ∙ ap (C.ended (resumed d y) (resumed d y)) (turns-stop (pictureTurn s z m) 1 unfinished y _ turn))
+          let turn = last-step rule s long z m x a y w c (inverted rule s z m n x a c [] h) in
+          ap (λ (r : CallResult Outcome). r .answer) (keeps-call s long (withDecodingState d y) (y .store) kept
+          ∙ ap (C.callResultOf (withDecodingState d y) (withDecodingState d y)) (steps-stop (pictureStep s z m) 1 unfinished y _ turn))
       first-calls (c ∷ c′ ∷ cs) n x a y held h w i kept =
           let q = inverted rule s z m n x a c (c′ ∷ cs) h in
           let o = holding rule s long z m x a y w c c′ cs q area i held in
-          held-calls c′ cs (q .fuel) (carried x c) _ (o .left) c y 0 (o .held) (q .rest) (o .waiting)
-          (sound-behind rule s z m area x a c (c′ ∷ cs) q i) (o .waits) kept
-          (turns-again (pictureTurn s z m) 1 unfinished y (o .left) (o .turn))
+          held-calls c′ cs (q .fuel) (stateAfterDecoded x c) _ (o .left) c y 0 (o .hasReferenceFrame) (q .rest) (o .waiting)
+          (sound-after rule s z m area x a c (c′ ∷ cs) q i) (o .waits) kept
+          (steps-again (pictureStep s z m) 1 unfinished y (o .left) (o .step))
 
 -- ---- the whole
 
@@ -114,10 +117,10 @@ module _ (rule : Rule) (s l : List ℕ) (bytes : (k : ℕ) → getD s k 0 < 256)
   first = opening s l .decoder
 
   -- from an opening that accepts the first header on: where the pictures behind it conform, the calls hand them out as they are shown
-  pub pictures-handed : (ds : List S.Decoded)
-      → pictures (rule .rules) (first .sequence .sizes) (first .sequence .matrices) s many (begins (opening s l .store)) (place first) ≡ on ds
-      → Hands (first .sequence .sizes .«mb_size») s (begin s l) (shown (allButLast ds))
-  pictures-handed ds h =
+  pub pictures-output : (ds : List S.Decoded)
+      → pictures (rule .rules) (first .sequence .sizes) (first .sequence .matrices) s many (initialState (opening s l .store)) (position first) ≡ ok ds
+      → OutputsInOrder (first .sequence .sizes .«mb_size») s (stateAfterOpening s l) (shown (allButLast ds))
+  pictures-output ds h =
       let r = readied s l ready in
-      first-calls s (r .short) bytes rule first (r .starting .1) ds many (begins (opening s l .store)) (place first)
-      (given first (opening s l .store)) refl h (r .starting .0) (record { three = stores-of _ refl; long = r .keeps .turn .long }) (r .keeps)
+      first-calls s (r .short) bytes rule first (r .starting .1) ds many (initialState (opening s l .store)) (position first)
+      (decodingStateOf first (opening s l .store)) refl h (r .starting .0) (record { three = stores-of _ refl; long = r .keeps .step .long }) (r .keeps)

@@ -7,12 +7,12 @@ use borrow.Author.Tests.{eqb-true}
 use lib.Dec.{eqb}
 use Rattle.picture_state.specs.declared.types.Sizes.{Sizes}
 use Rattle.picture_state.specs.declared.types.Matrices.{Matrices}
-use Rattle.picture_state.specs.Ways.{on}
+use Rattle.picture_state.specs.Result.{ok}
 use Rattle.standard.specs.Standard.{Decoded}
 use Rattle.standard.proofs.Related.{Rule}
 use Rattle.demands.specs.Display as R
-use Rattle.demands.specs.Display.{Coded, samplesOf}
-use Rattle.sequence.specs.Sequence.{Carried, pictures}
+use Rattle.demands.specs.Display.{CodedPicture, samplesOf}
+use Rattle.sequence.specs.Sequence.{SequenceState, pictures}
 use Rattle.sequence.specs.Display.{displayed, allButLast, shown, storeOf}
 use Rattle.sequence.proofs.Pictures.{inverted}
 
@@ -20,7 +20,7 @@ use Rattle.sequence.proofs.Pictures.{inverted}
 abbrev pub samples : ℕ → Decoded → List ℕ
 samples n d = samplesOf n (storeOf d) (d .pels)
 
-abbrev pub coded : ℕ → Decoded → Coded
+abbrev pub coded : ℕ → Decoded → CodedPicture
 coded n d = record { isB = eqb (d .header .«picture_coding_type») 3; decoded = true; samples = samples n d }
 
 abbrev behind : ℕ → Decoded → List Decoded → List (List ℕ)
@@ -39,7 +39,7 @@ waits-same n w (d ∷ ds) = go (eqb (d .header .«picture_coding_type») 3) (wai
 
 module _ (rule : Rule) (s : List ℕ) (z : Sizes) (m : Matrices) where
   -- from the first on, which is an I picture
-  pub shown-same : (n : ℕ) (x : Carried) (a : ℕ) (ds : List Decoded) → x .held ≡ false → pictures (rule .rules) z m s n x a ≡ on ds
+  pub shown-same : (n : ℕ) (x : SequenceState) (a : ℕ) (ds : List Decoded) → x .hasReferenceFrame ≡ false → pictures (rule .rules) z m s n x a ≡ ok ds
       → R.displayed [] (map (coded (z .«mb_size»)) (allButLast ds)) ≡ map (samples (z .«mb_size»)) (shown (allButLast ds))
   unfolding R.displayed
   shown-same n x a [] held h = refl

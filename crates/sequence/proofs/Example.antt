@@ -6,13 +6,13 @@ use lib.ListN.{replicate, take, drop}
 use lib.Ieee.{ofInt}
 use Rattle.laws.specs.Each.{allBelow}
 use Rattle.laws.specs.Signed.{clamp255, odd}
-use Rattle.laws.specs.Turns.{turns}
+use Rattle.laws.specs.Loops.{iterate}
 use Rattle.laws.specs.Stores.{storeRow, storeRows}
-use Rattle.bits.specs.Bits.{bitAt, bitsAt, got, next, codePrefix, codeFrom, found}
-use Rattle.bits.specs.Programs.{run, bind, forBelow, loop, many, findTurn, findStartCode}
+use Rattle.bits.specs.Bits.{bitAt, bitsAt, readAt, afterRead, codePrefix, codeFrom, found}
+use Rattle.bits.specs.Programs.{run, bind, forBelow, loop, many, findStep, findStartCode}
 use Rattle.codes.specs.Tables as Tables
 use Rattle.codes.specs.Standard.{macroblockTypeIntraCodes, macroblockTypePredictiveCodes, macroblockTypeBCodes}
-use Rattle.codes.specs.Walk.{walkTurn, walk, vlc}
+use Rattle.codes.specs.Walk.{walkStep, walk, vlc}
 use Rattle.codes.specs.Codes as Codes
 use Rattle.codes.specs.Matrices.{downFrom, diagonals, zigZag, intraQuantMatrix, nonIntraQuantMatrix, premultiplierMatrix}
 use Rattle.codes.specs.Rates.{pixelAspectRatio, pictureRate}
@@ -25,10 +25,10 @@ use Rattle.coefficients.specs.Standard.{or32, dctZZ0}
 use Rattle.transform.specs.Butterfly.{butterfly}
 use Rattle.transform.specs.Idct.{columns, rows as rowPass, idct}
 use Rattle.prediction.specs.Standard.{formed}
-use Rattle.prediction.specs.Writers.{overwrite, addBlock, blockPlace}
-use Rattle.picture_state.specs.Ways.{Way, on, out, also, leave, onward, plain}
+use Rattle.prediction.specs.Writers.{overwrite, addBlock, blockAddress}
+use Rattle.picture_state.specs.Result.{Result, ok, error, andThen, ifOk, bindResult, lift}
 use Rattle.macroblock_head.specs.Heads.{macroblockType}
-use Rattle.slice.specs.Slices.{extraTurn, extra}
+use Rattle.slice.specs.Slices.{extraStep, extra}
 use Rattle.standard.specs.Rules.{rust}
 use Rattle.standard.specs.Standard as S
 use Rattle.standard.specs.Standard.Words as Words
@@ -41,10 +41,10 @@ use Rattle.decoder.specs.declared.answers.Opening.{Opening}
 use Rattle.decoder.specs.declared.answers.Opening.the-variants.{Ready}
 use Rattle.playback.specs.State.{freshState}
 use Rattle.playback.specs.Search.{nextCode}
-use Rattle.decoder.specs.Record.{Left, fresh, place}
-use Rattle.decoder.specs.Headers.{findSequence, accepted, askSize, askHeader, askStore}
+use Rattle.decoder.specs.Record.{CallResult, fresh, position}
+use Rattle.decoder.specs.Headers.{findSequence, accepted, checkSize, checkHeader, checkStore}
 use Rattle.decoder.specs.Opening.{opened, openingFrom, opening}
-use Rattle.sequence.specs.Sequence.{following, begins, pictures}
+use Rattle.sequence.specs.Sequence.{nextPictureOrEnd, initialState, pictures}
 use Rattle.sequence.specs.Display.{storeOf, shown, allButLast}
 
 -- 32 × 16 samples; user data, which make up the 136 bytes that opening asks for
@@ -75,24 +75,24 @@ endBytes = 0x00 ∷ 0x00 ∷ 0x01 ∷ 0xb7 ∷ 0x00 ∷ []
 abbrev stream : List ℕ
 stream = headerBytes ++ (groupBytes ++ (intraBytes ++ (predictiveBytes ++ (bothWaysBytes ++ (intraBytes ++ endBytes)))))
 
-abbrev opened-by : Left Opening
+abbrev opened-by : CallResult Opening
 opened-by = opening stream (replicate 2304 7)
 
 -- the pictures of the stream s, behind the opening o
-abbrev decoded : List ℕ → Left Opening → Way (List S.Decoded)
-decoded s o = pictures rust (o .decoder .sequence .sizes) (o .decoder .sequence .matrices) s many (begins (o .store)) (place (o .decoder))
+abbrev decoded : List ℕ → CallResult Opening → Result (List S.Decoded)
+decoded s o = pictures rust (o .decoder .sequence .sizes) (o .decoder .sequence .matrices) s many (initialState (o .store)) (position (o .decoder))
 
-abbrev types : Way (List S.Decoded) → List ℕ
-types (on ds) = map (λ (d : S.Decoded). d .header .«picture_coding_type») ds
-types (out n l) = []
+abbrev types : Result (List S.Decoded) → List ℕ
+types (ok ds) = map (λ (d : S.Decoded). d .header .«picture_coding_type») ds
+types (error n l) = []
 
 -- what is shown: the number of a store, and the samples 15 to 17 of the first row of its plane Y
 abbrev seen : S.Decoded → List ℕ
 seen p = storeOf p ∷ take 3 (drop (768 * storeOf p + 15) (p .pels))
 
-abbrev rows : Way (List S.Decoded) → List (List ℕ)
-rows (on ds) = map seen (shown (allButLast ds))
-rows (out n l) = []
+abbrev rows : Result (List S.Decoded) → List (List ℕ)
+rows (ok ds) = map seen (shown (allButLast ds))
+rows (error n l) = []
 
 pub record Sequence : Type 0 where
   pub ready : opened-by .answer ≡ Ready
@@ -101,21 +101,23 @@ pub record Sequence : Type 0 where
   pub handed : rows (decoded stream opened-by) ≡ (0 ∷ 133 ∷ 128 ∷ 128 ∷ []) ∷ (2 ∷ 132 ∷ 132 ∷ 130 ∷ []) ∷ []
 
 pub sequence : Sequence
-unfolding clamp255 odd storeRow storeRows bitAt bitsAt got next codePrefix codeFrom found run bind forBelow loop findTurn findStartCode turns ofInt allBelow
+unfolding clamp255 odd storeRow storeRows bitAt bitsAt readAt afterRead codePrefix codeFrom found run bind forBelow loop findStep findStartCode iterate ofInt
+    allBelow
     Tables.macroblockAddressIncrementIndex Tables.macroblockAddressIncrementValue Tables.macroblockTypeIntraIndex Tables.macroblockTypeIntraValue
     Tables.macroblockTypePredictiveIndex Tables.macroblockTypePredictiveValue Tables.macroblockTypeBIndex Tables.macroblockTypeBValue
     Tables.motionIndex Tables.motionValue Tables.dctSizeLuminanceIndex Tables.dctSizeLuminanceValue Tables.dctSizeChrominanceIndex
     Tables.dctSizeChrominanceValue Tables.dctCoeffIndex Tables.dctCoeffValue
-    walkTurn walk vlc Codes.macroblockAddressIncrement Codes.macroblockTypeIntra Codes.macroblockTypePredictive Codes.macroblockTypeB Codes.motion
+    walkStep walk vlc Codes.macroblockAddressIncrement Codes.macroblockTypeIntra Codes.macroblockTypePredictive Codes.macroblockTypeB Codes.motion
     Codes.dctSizeLuminance Codes.dctSizeChrominance Codes.dctCoeff
     downFrom diagonals zigZag intraQuantMatrix nonIntraQuantMatrix premultiplierMatrix pixelAspectRatio pictureRate
     macroblockTypeIntraCodes macroblockTypePredictiveCodes macroblockTypeBCodes
     complement right recon reconstructed residual standardVector or32 dctZZ0 Dcs.dcSize Coefficients.runLevel Coefficients.coefficient dequantised
-    Syntax.pairTurn Syntax.pairs butterfly columns rowPass idct formed overwrite addBlock blockPlace
-    also leave onward plain macroblockType extraTurn extra
-    Words.field Words.whileTurn Words.while S.increment inTable Prediction.vector Prediction.forVector Prediction.backVector
+    Syntax.pairStep Syntax.pairs butterfly columns rowPass idct formed overwrite addBlock blockAddress
+    andThen ifOk bindResult lift macroblockType extraStep extra
+    Words.field Words.whileStep Words.while S.increment inTable Prediction.vector Prediction.forVector Prediction.backVector
     Prediction.predictedPlane Prediction.predictedFrom Prediction.predicted Prediction.skippedFrom Prediction.skipped
-    Block.reconstructed Block.dctDc Block.written Block.intraBlock Block.nonIntraBlock Block.blocks S.coded S.macroblock
-    S.pastMacroblock S.sliceTurn S.slice S.direction S.header S.pastSlice S.slicesTurn S.slices S.picture
-    fresh freshState cleared nextCode matrix size rest findSequence accepted askSize askHeader askStore opened openingFrom opening following pictures
+    Block.reconstructed Block.dctDc Block.written Block.intraBlock Block.nonIntraBlock Block.blocks S.codedMacroblock S.macroblock
+    S.afterMacroblock S.sliceStep S.slice S.direction S.header S.afterSlice S.slicesStep S.slices S.picture
+    fresh freshState cleared nextCode matrix size rest findSequence accepted checkSize checkHeader checkStore opened openingFrom opening nextPictureOrEnd
+        pictures
 sequence = record { ready = refl; four = refl; handed = refl }

@@ -1,9 +1,9 @@
 pub mod Searches
-pub mod Turns
+pub mod Steps
 pub mod Opened
 pub mod Pictures
 pub mod Stores
-pub mod Handing
+pub mod Outputs
 pub mod Display
 pub mod Calls
 pub mod Example

@@ -9,16 +9,16 @@ use borrow.Author.Tests.{eqb-true, eq-eqb}
 use lib.Dec.{eqb}
 use lib.IntN.{ℤ, pos, negsuc}
 use lib.ListN.{length, getD}
-use Rattle.laws.specs.Turns.{Turn, again, stop, turns}
+use Rattle.laws.specs.Loops.{Step, continue, finish, iterate}
 use Rattle.laws.proofs.Tests.{both}
 use Rattle.bits.specs.Bounds.{longestStream}
 use Rattle.bits.specs.Bits.{Found, boundary, codePrefix, found}
-use Rattle.bits.specs.Programs.{Out, done, run, bind, eqZ, loop, turn, many, findTurn, findStartCode}
+use Rattle.bits.specs.Programs.{Out, done, run, bind, eqZ, loop, continueWith, many, findStep, findStartCode}
 use Rattle.bits.proofs.Start.{Searched, first, none, found-on, found-is-first}
 use Rattle.picture_state.specs.declared.types.Matrices.{Matrices}
-use Rattle.picture_state.specs.Ways.{Way, on, out}
+use Rattle.picture_state.specs.Result.{Result, ok, error}
 use Rattle.standard.specs.Standard.Words.{forbidden, conforms}
-use Rattle.sequence.specs.Sequence.{isPassed, followTurn, following}
+use Rattle.sequence.specs.Sequence.{isSkipped, followStep, nextPictureOrEnd}
 
 -- ---- start codes apart
 
@@ -57,19 +57,19 @@ apart s q p hq hp l k = go (p - q) (omega arith)
 
 abbrev turned : List ℕ → ℕ → Found → Out ℤ
 turned s n f =
-    run (bind (cond (eqZ (f .code) (pos 0) || eqZ (f .code) (negsuc 0)) (done (stop (f .code))) (done (again tt)))
-    (turn (loop n (findTurn (pos 0)) (negsuc 0)))) s (f .at)
+    run (bind (cond (eqZ (f .code) (pos 0) || eqZ (f .code) (negsuc 0)) (done (finish (f .code))) (done (continue tt)))
+    (continueWith (loop n (findStep (pos 0)) (negsuc 0)))) s (f .at)
 
-finds-from : (s : List ℕ) (n a p : ℕ) → length s * 8 - a < n → boundary a ≤ p → PictureAt s p → run (loop n (findTurn (pos 0)) (negsuc 0) tt) s a .value ≡ pos 0
-unfolding loop findTurn run bind
+finds-from : (s : List ℕ) (n a p : ℕ) → length s * 8 - a < n → boundary a ≤ p → PictureAt s p → run (loop n (findStep (pos 0)) (negsuc 0) tt) s a .value ≡ pos 0
+unfolding loop findStep run bind
 finds-from s zero a p h b k = let z : ⊥ = omega arith in absurd z
 finds-from s (suc n) a p h b k = go (found s a) (found-is-first s a) (λ e i j. finds-from s n e p i j k)
   where
     Further : Type 0
-    Further = (e : ℕ) → length s * 8 - e < n → boundary e ≤ p → run (loop n (findTurn (pos 0)) (negsuc 0) tt) s e .value ≡ pos 0
+    Further = (e : ℕ) → length s * 8 - e < n → boundary e ≤ p → run (loop n (findStep (pos 0)) (negsuc 0) tt) s e .value ≡ pos 0
 
     test : (q : ℕ) → boundary a ≤ q → codePrefix s q ≡ true → q + 5 ≤ length s → q ≤ p → Further → (t : Bool) → eqb (getD s (q + 3) 0) 0 ≡ t
-        → run (bind (cond (t || false) (done (stop (pos (getD s (q + 3) 0)))) (done (again tt))) (turn (loop n (findTurn (pos 0)) (negsuc 0)))) s
+        → run (bind (cond (t || false) (done (finish (pos (getD s (q + 3) 0)))) (done (continue tt))) (continueWith (loop n (findStep (pos 0)) (negsuc 0)))) s
         ((q + 4) * 8) .value ≡ pos 0
     test q f c w l r true e = ap pos (eqb-true _ _ e)
     test q f c w l r false e = r ((q + 4) * 8) (omega arith) (omega (arith, four))
@@ -106,11 +106,11 @@ pub record Next (s : List ℕ) (n a : ℕ) (f : Found) : Type 0 where
   pub from : boundary a ≤ byte
   pub there : PictureAt s byte
   pub at : f .at ≡ (byte + 4) * 8
-  pub runs : run (loop n (findTurn (pos 0)) (negsuc 0) tt) s a ≡ record { value = pos 0; at = f .at }
+  pub runs : run (loop n (findStep (pos 0)) (negsuc 0) tt) s a ≡ record { value = pos 0; at = f .at }
 
-abbrev foundIn : Found → Way Found → Found
-foundIn d (on f) = f
-foundIn d (out n l) = d
+abbrev foundIn : Found → Result Found → Found
+foundIn d (ok f) = f
+foundIn d (error n l) = d
 
 is-zero : (c : ℤ) → eqZ c (pos 0) ≡ true → c ≡ pos 0
 is-zero (pos n) e = ap pos (eqb-true n 0 e)
@@ -125,17 +125,17 @@ or-none true y h = h
 or-none false y h = refl
 
 -- what is passed over is a start code
-passed-code : (m : Matrices) (s : List ℕ) (c : ℤ) (e : ℕ) → isPassed m s (record { code = c; at = e }) ≡ true → eqZ c (negsuc 0) ≡ false
+passed-code : (m : Matrices) (s : List ℕ) (c : ℤ) (e : ℕ) → isSkipped m s (record { code = c; at = e }) ≡ true → eqZ c (negsuc 0) ≡ false
 passed-code m s (pos n) e h = refl
 passed-code m s (negsuc n) e h = absurd (false≢true h)
 
-abbrev follows : Matrices → List ℕ → ℕ → ℕ → Way Found
-follows m s n a = turns n (followTurn m s) (λ a. forbidden) a
+abbrev follows : Matrices → List ℕ → ℕ → ℕ → Result Found
+follows m s n a = iterate n (followStep m s) (λ a. forbidden) a
 
-follows-finds : (m : Matrices) (s : List ℕ) (n a : ℕ) (f : Found) → follows m s n a ≡ on f → eqZ (f .code) (pos 0xb7) ≡ false → Next s n a f
-unfolding turns loop findTurn run bind
+follows-finds : (m : Matrices) (s : List ℕ) (n a : ℕ) (f : Found) → follows m s n a ≡ ok f → eqZ (f .code) (pos 0xb7) ≡ false → Next s n a f
+unfolding iterate loop findStep run bind
 follows-finds m s zero a f h e = absurd (false≢true (ap conforms h))
-follows-finds m s (suc n) a f h e = go (found s a) refl (eqZ c (pos 0) || eqZ c (pos 0xb7)) refl (isPassed m s (found s a)) refl h
+follows-finds m s (suc n) a f h e = go (found s a) refl (eqZ c (pos 0) || eqZ c (pos 0xb7)) refl (isSkipped m s (found s a)) refl h
     (λ b i. follows-finds m s n b f i e)
   where
     c : ℤ
@@ -150,9 +150,10 @@ follows-finds m s (suc n) a f h e = go (found s a) refl (eqZ c (pos 0) || eqZ c 
         natural (negsuc n) = 0
     stands g (none w q) z = absurd (true≢false (ap (λ (k : ℤ). eqZ k (pos 0)) (sym z ∙ ap (λ (f : Found). f .code) q)))
 
-    go : (g : Found) → found s a ≡ g → (t : Bool) → (eqZ (g .code) (pos 0) || eqZ (g .code) (pos 0xb7)) ≡ t → (u : Bool) → isPassed m s g ≡ u
-        → _≡_ {A = Way Found} (elim (cond t (stop (on g)) (cond u (again (g .at)) (stop forbidden))) [ again y ↦ follows m s n y | stop v ↦ v ]) (on f)
-        → ((b : ℕ) → follows m s n b ≡ on f → Next s n b f) → Next s (suc n) a f
+    go : (g : Found) → found s a ≡ g → (t : Bool) → (eqZ (g .code) (pos 0) || eqZ (g .code) (pos 0xb7)) ≡ t → (u : Bool) → isSkipped m s g ≡ u
+        → _≡_ {A = Result Found} (elim (cond t (finish (ok g)) (cond u (continue (g .at)) (finish forbidden))) [ continue y ↦ follows m s n y | finish v ↦ v ])
+        (ok f)
+        → ((b : ℕ) → follows m s n b ≡ ok f → Next s n b f) → Next s (suc n) a f
     go g q true t u p h r =
         let same : g ≡ f = ap (foundIn g) h in
         let z : f .code ≡ pos 0 = is-zero (f .code)
@@ -176,11 +177,12 @@ follows-finds m s (suc n) a f h e = go (found s a) refl (eqZ c (pos 0) || eqZ c 
           there = i .there;
           at = i .at;
           runs = ap (turned s n) q
-              ∙ ap (λ (b : Bool). run (bind (cond b (done (stop (g .code))) (done (again tt))) (turn (loop n (findTurn (pos 0)) (negsuc 0)))) s (g .at)) no
+              ∙ ap (λ (b : Bool). run (bind (cond b (done (finish (g .code))) (done (continue tt))) (continueWith (loop n (findStep (pos 0)) (negsuc 0)))) s
+              (g .at)) no
               ∙ i .runs;
         }
     go g q false t false p h r = absurd (false≢true (ap conforms h))
 
-pub following-finds : (m : Matrices) (s : List ℕ) (a : ℕ) (f : Found) → following m s a ≡ on f → eqZ (f .code) (pos 0xb7) ≡ false → Next s many a f
-unfolding following
+pub following-finds : (m : Matrices) (s : List ℕ) (a : ℕ) (f : Found) → nextPictureOrEnd m s a ≡ ok f → eqZ (f .code) (pos 0xb7) ≡ false → Next s many a f
+unfolding nextPictureOrEnd
 following-finds m s a f h e = follows-finds m s many a f h e

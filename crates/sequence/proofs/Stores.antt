@@ -15,23 +15,23 @@ use Rattle.picture_state.specs.declared.types.Matrices.{Matrices}
 use Rattle.picture_state.specs.Possible.{PossibleStores}
 use Rattle.standard.specs.Standard as S
 use Rattle.standard.proofs.Related.{Rule}
-use Rattle.standard.proofs.Agreement.{WayIs}
+use Rattle.standard.proofs.Agreement.{ResultIs}
 use Rattle.standard.proofs.Spared.{Leaves, picture-spared}
 use Rattle.prediction.specs.Planes.{storesBytes}
-use Rattle.sequence.specs.Sequence.{Carried, carried}
-use Rattle.sequence.specs.Display.{storeOf, Holds}
+use Rattle.sequence.specs.Sequence.{SequenceState, stateAfterDecoded}
+use Rattle.sequence.specs.Display.{storeOf, StoreHolds}
 use Rattle.sequence.proofs.Pictures.{Begun}
 
 -- between pictures: three stores, and memory for them
-pub record Sound (n : ℕ) (x : Carried) : Type 0 where
+pub record Sound (n : ℕ) (x : SequenceState) : Type 0 where
   pub three : PossibleStores (x .stores)
   pub long : storesBytes n ≤ length (x .pels)
 
 -- the picture w waits: its store is `bwd`, and has its samples
-pub record Waits (n : ℕ) (w : S.Decoded) (x : Carried) : Type 0 where
+pub record Waits (n : ℕ) (w : S.Decoded) (x : SequenceState) : Type 0 where
   pub reference : eqb (w .header .«picture_coding_type») 3 ≡ false
   pub store : w .stores .bwd ≡ x .stores .bwd
-  pub holds : Holds n (x .pels) w
+  pub holds : StoreHolds n (x .pels) w
 
 abbrev turned : Stores → Stores
 turned t = record { cur = t .fwd; fwd = t .bwd; bwd = t .cur }
@@ -46,7 +46,8 @@ three-turned h = record {
   fwd-bwd = λ e. h .cur-bwd (sym e);
 }
 
-module _ (rule : Rule) (s : List ℕ) (z : Sizes) (m : Matrices) (area : z .«mb_size» ≡ z .«mb_width» * z .«mb_height») (x : Carried) (a : ℕ) (c : S.Decoded)
+module _ (rule : Rule) (s : List ℕ) (z : Sizes) (m : Matrices) (area : z .«mb_size» ≡ z .«mb_width» * z .«mb_height») (x : SequenceState) (a : ℕ)
+    (c : S.Decoded)
     (cs : List S.Decoded) (q : Begun rule s z m x a c cs) (h : Sound (z .«mb_size») x) where
   abbrev n : ℕ
   n = z .«mb_size»
@@ -62,7 +63,7 @@ module _ (rule : Rule) (s : List ℕ) (z : Sizes) (m : Matrices) (area : z .«mb
 
   leaves : Leaves (rule .rules) z m (x .stores) (x .pels) s room area c
   leaves =
-      subst (WayIs (Leaves (rule .rules) z m (x .stores) (x .pels) s room area)) (q .value)
+      subst (ResultIs (Leaves (rule .rules) z m (x .stores) (x .pels) s room area)) (q .value)
       (picture-spared (rule .rules) z m (x .stores) (x .pels) s room area (x .forward) (x .backward) .value (q .f .at))
 
   -- behind a B picture the stores have their roles, behind another they have turned
@@ -72,8 +73,8 @@ module _ (rule : Rule) (s : List ℕ) (z : Sizes) (m : Matrices) (area : z .«mb
   pub p-stores : isB ≡ false → c .stores ≡ turned (x .stores)
   p-stores e = leaves .stores ∙ ap (λ (b : Bool). cond b (x .stores) (turned (x .stores))) e
 
-  pub sound-behind : Sound n (carried x c)
-  sound-behind = record { three = go isB refl; long = omega (arith, h .long, leaves .spared .long) }
+  pub sound-after : Sound n (stateAfterDecoded x c)
+  sound-after = record { three = go isB refl; long = omega (arith, h .long, leaves .spared .long) }
     where
       go : (b : Bool) → isB ≡ b → PossibleStores (c .stores)
       go true e = subst PossibleStores (sym (b-stores e)) (h .three)
@@ -94,12 +95,12 @@ module _ (rule : Rule) (s : List ℕ) (z : Sizes) (m : Matrices) (area : z .«mb
     store-is = ap (λ (b : Bool). cond b (w .stores .cur) (w .stores .bwd)) (k .reference) ∙ k .store
 
     -- the picture that waits has its samples behind the next one
-    pub still-holds : Holds n (c .pels) w
+    pub still-holds : StoreHolds n (c .pels) w
     still-holds i l =
         ap (λ (j : ℕ). getD (c .pels) (j * N + i) 0) store-is ∙ bwd-same i l ∙ ap (λ (j : ℕ). getD (x .pels) (j * N + i) 0) (sym store-is) ∙ k .holds i l
 
     -- and waits on behind a B picture
-    pub waits-on : isB ≡ true → Waits n w (carried x c)
+    pub waits-on : isB ≡ true → Waits n w (stateAfterDecoded x c)
     waits-on e = record { reference = k .reference; store = k .store ∙ ap (λ (t : Stores). t .bwd) (sym (b-stores e)); holds = still-holds }
 
     -- it is in the store `fwd` behind another
@@ -107,5 +108,5 @@ module _ (rule : Rule) (s : List ℕ) (z : Sizes) (m : Matrices) (area : z .«mb
     store-next e = ap (λ (t : Stores). t .fwd) (p-stores e) ∙ sym store-is
 
   -- an I or P picture waits
-  pub waits-now : isB ≡ false → Waits n c (carried x c)
+  pub waits-now : isB ≡ false → Waits n c (stateAfterDecoded x c)
   waits-now e = record { reference = e; store = refl; holds = λ i l. refl }

@@ -7,8 +7,8 @@ use lib.ListN.{getD}
 use Rattle.bits.specs.Programs.{if_then_else_}
 use Rattle.standard.specs.Standard.{Decoded}
 use Rattle.playback.specs.declared.outcome.Outcome.the-variants.{Picture, Refused}
-use Rattle.playback.specs.State.{told}
-use Rattle.decoder.specs.Run.{Going, call, behind}
+use Rattle.playback.specs.State.{shownPicture}
+use Rattle.decoder.specs.Run.{CallState, call, stateAfter}
 
 -- 2.4.1: a B picture is shown at once; an I or P picture waits for the next one, so that the B pictures between them come first. w is the one that waits
 abbrev pub displayed : Decoded → List Decoded → List Decoded
@@ -31,11 +31,12 @@ abbrev pub storeOf : Decoded → ℕ
 storeOf d = if eqb (d .header .«picture_coding_type») 3 then d .stores .cur else d .stores .bwd
 
 -- RULES 6.11: in the store of the picture d, of n macroblocks, l has the samples that d was decoded to
-abbrev pub Holds : ℕ → List ℕ → Decoded → Type 0
-Holds n l d = (i : ℕ) → i < 384 * n → getD l (storeOf d * (384 * n) + i) 0 ≡ getD (d .pels) (storeOf d * (384 * n) + i) 0
+abbrev pub StoreHolds : ℕ → List ℕ → Decoded → Type 0
+StoreHolds n l d = (i : ℕ) → i < 384 * n → getD l (storeOf d * (384 * n) + i) 0 ≡ getD (d .pels) (storeOf d * (384 * n) + i) 0
 
 -- the calls from y on hand out these pictures, one after the other, and leave their samples in the store; then the answer is 7
-abbrev pub Hands : ℕ → List ℕ → Going → List Decoded → Type 0
-Hands n s y [] = call s y .answer ≡ Refused 7
-Hands n s y (d ∷ ds) =
-    (call s y .answer ≡ Picture (told (storeOf d) (call s y .decoder .state))) × Holds n (call s y .store) d × Hands n s (behind (call s y)) ds
+abbrev pub OutputsInOrder : ℕ → List ℕ → CallState → List Decoded → Type 0
+OutputsInOrder n s y [] = call s y .answer ≡ Refused 7
+OutputsInOrder n s y (d ∷ ds) =
+    (call s y .answer ≡ Picture (shownPicture (storeOf d) (call s y .decoder .state))) × StoreHolds n (call s y .store) d
+    × OutputsInOrder n s (stateAfter (call s y)) ds

@@ -12,7 +12,7 @@ use lib.Signed.{leZ}
 use mir.Syntax.{w32}
 use mir.Val.{SFits, toZ, ofZ}
 use mir.Facts.{toZ-ofZ}
-use Rattle.laws.specs.Turns.{again, stop}
+use Rattle.laws.specs.Loops.{continue, finish}
 use Rattle.laws.proofs.Ints.{Dif, v, lit, _⊕_, _⊖_, low, eq-by, yes-le, fits-by}
 use Rattle.laws.proofs.Tests.{both}
 use Rattle.bits.specs.declared.reader.Reader.{Reader}
@@ -20,11 +20,11 @@ use Rattle.bits.specs.Programs.{bits, reads, skips, nonZero, many, done}
 use Rattle.bits.specs.Runs.{Runs, Inside, Reading, bitsLeft}
 use Rattle.bits.proofs.Gives.{given-by, g-bits}
 use Rattle.bits.proofs.Rules.{Loops, loop-start, loop-on, loop-end, takes-less, r-call, r-yes, r-no, r-done, r-reads}
-use Rattle.picture_state.specs.State.{World, world}
-use Rattle.picture_state.specs.Ways.{Way, on}
+use Rattle.picture_state.specs.State.{SliceState, sliceState}
+use Rattle.picture_state.specs.Result.{Result, ok}
 use Rattle.picture_state.specs.Possible.{PossibleSlice}
 use Rattle.macroblock.specs.Macroblocks.{macroblock}
-use Rattle.slice.specs.Slices.{slicing, extraTurn, extra, pastMacroblock, sliceTurn, sliceStart, slice}
+use Rattle.slice.specs.Slices.{sliceLoopState, extraStep, extra, afterMacroblock, sliceStep, sliceStart, slice}
 use Rattle.picture_state.proofs.Possible.{between-of, between-by}
 use Rattle.macroblock_head.proofs.Kept.{still-kept}
 use Rattle.picture_state.proofs.Kept.{predictors-reset}
@@ -33,35 +33,35 @@ use Rattle.picture_state.specs.declared.types.Context.{Context}
 use Rattle.picture_state.specs.declared.types.Matrices.{Matrices}
 use Rattle.picture_state.specs.declared.types.Slice.{Slice}
 use Rattle.picture_state.specs.declared.types.Progress.{Progress}
-use Rattle.slice.specs.Contracts.{onTurn, macroblocks, GoesOn, Sliced}
-use Rattle.picture_state.specs.Contracts.{Held, Reads, Passed}
-use Rattle.macroblock.specs.Contracts.{Adds, Awaits}
-use Rattle.picture_state.proofs.Ways.{way-out}
+use Rattle.slice.specs.Contracts.{sliceStepOf, macroblocks, RefinesAfterMacroblock, RefinesMacroblocks}
+use Rattle.picture_state.specs.Contracts.{StoreFits, ReadInvariant, RefinesInSlice}
+use Rattle.macroblock.specs.Contracts.{AddressAdds, IncrementInvariant}
+use Rattle.picture_state.proofs.Results.{way-out}
 
 -- ---- the extra bytes
 
 pub record AtExtra (s : List ℕ) (from₀ from : Reader) : Type 0 where
   pub inside : Inside s from
-  pub rest : Loops many extraTurn tt tt s from₀ tt from (bitsLeft s from)
+  pub rest : Loops many extraStep tt tt s from₀ tt from (bitsLeft s from)
 
 pub at-extra : {s : List ℕ} {from : Reader} → Inside s from → AtExtra s from from
 at-extra i = record { inside = i; rest = loop-start (omega (arith, i .stream)) }
 
 module _ {s : List ℕ} {from₀ from to : Reader} (i : AtExtra s from₀ from) {b : ℕ} (r : Reading (bits 1) s from b to) where
   pub extra-end : b ≡ 0 → Reading extra s from₀ tt to
-  unfolding extra extraTurn
+  unfolding extra extraStep
   extra-end h = record { runs = loop-end (i .rest) (r-call _ (r .runs) (r-yes _ (eq-eqb b 0 h) r-done)); inside = r .inside }
 
   module _ (h : b ≡ 0 → ⊥) {next : Reader} (q : Reading (skips 8) s to tt next) where
-    extra-turn : Runs (extraTurn tt) s from (again tt) next
-    unfolding extraTurn
-    extra-turn = r-call _ (r .runs) (r-no _ (ne-eqb b 0 h) (r-call _ (q .runs) r-done))
+    extra-step : Runs (extraStep tt) s from (continue tt) next
+    unfolding extraStep
+    extra-step = r-call _ (r .runs) (r-no _ (ne-eqb b 0 h) (r-call _ (q .runs) r-done))
 
     pub extra-less : bitsLeft s next < bitsLeft s from
-    extra-less = takes-less extraTurn (extra-takes s) extra-turn
+    extra-less = takes-less extraStep (extra-takes s) extra-step
 
     pub extra-on : AtExtra s from₀ next
-    extra-on = record { inside = q .inside; rest = loop-on (i .rest) extra-turn extra-less }
+    extra-on = record { inside = q .inside; rest = loop-on (i .rest) extra-step extra-less }
 
 -- ---- the start
 
@@ -82,12 +82,12 @@ module _ (number width : ℕ) (h : number ≤ 175) (k : width ≤ 256) where
   pub start-is : toZ w32 (ofZ w32 (toZ w32 ((number - 1) * width) -ℤ pos 1)) ≡ pos ((number - 1) * width) -ℤ pos 1
   start-is = toZ-ofZ start-fits ∙ eq-by start-dif (lit ((number - 1) * width) ⊖ lit 1) refl
 
-module _ {s : List ℕ} {reader from to : Reader} {g : Context} {x : Slice} {left : List ℤ} {store : List ℕ} (k : Reads s reader x left)
-    (held : Held g store) (number : ℕ) (h : number ≤ 175) {q : ℕ} (r : Reading (reads 5) s reader q from) (e : Reading extra s from tt to) where
+module _ {s : List ℕ} {reader from to : Reader} {g : Context} {x : Slice} {left : List ℤ} {store : List ℕ} (k : ReadInvariant s reader x left)
+    (held : StoreFits g store) (number : ℕ) (h : number ≤ 175) {q : ℕ} (r : Reading (reads 5) s reader q from) (e : Reading extra s from tt to) where
   scale-read : Runs (bits 5) s reader q from
   scale-read = r-reads 5 (omega arith) (r .runs)
 
-  pub start-awaits : Awaits g s to true (sliceStart g number q x) left store
+  pub start-awaits : IncrementInvariant g s to true (sliceStart g number q x) left store
   start-awaits =
       let a = lit ((number - 1) * g .sizes .«mb_width») ⊖ lit 1 in
       let m = rows number (g .sizes .«mb_width») h (held .across) in
@@ -104,46 +104,46 @@ module _ {s : List ℕ} {reader from to : Reader} {g : Context} {x : Slice} {lef
           };
           block = k .block;
         };
-        held = held;
+        storeFits = held;
         begins = λ z. yes-le a (lit 44543) (omega arith);
         later = λ z. absurd (false≢true (sym z));
       }
 
-  pub slice-runs : (m : Matrices) {y : Slice} → y ≡ sliceStart g number q x → {w : Way World} {end : Reader}
-      → Runs (macroblocks g m (on (world x left store)) (world y left store)) s to w end
-      → Runs (slice g m number (world x left store)) s reader w end
+  pub slice-runs : (m : Matrices) {y : Slice} → y ≡ sliceStart g number q x → {w : Result SliceState} {end : Reader}
+      → Runs (macroblocks g m (ok (sliceState x left store)) (sliceState y left store)) s to w end
+      → Runs (slice g m number (sliceState x left store)) s reader w end
   unfolding slice
   slice-runs m i r = r-call _ scale-read (r-call _ (e .runs) (rw i at r))
 
 -- ---- behind a macroblock
 
-pub adds-one : {x : Slice} → PossibleSlice x → Adds (x .«macroblock_address») 1
+pub adds-one : {x : Slice} → PossibleSlice x → AddressAdds (x .«macroblock_address») 1
 adds-one {x} k =
     let a = x .«macroblock_address» in
     let b = between-of 1 402700000 (v a) (k .address) in
     record { from = both _ _ (k .address) .0; to = yes-le (v a ⊕ lit 1) (lit 402800000) (omega arith) }
 
 module _ {g : Context} {s : List ℕ} {reader : Reader} {x : Slice} {n : ℕ} where
-  pub goes-stop : (n ≡ 0 → ⊥) → GoesOn g s reader x n false
-  unfolding pastMacroblock
+  pub goes-stop : (n ≡ 0 → ⊥) → RefinesAfterMacroblock g s reader x n false
+  unfolding afterMacroblock
   goes-stop h =
-      record { runs = λ left store. rw (way-out (world x left store) store h) r-done; later = λ z. absurd (false≢true z) }
+      record { runs = λ left store. rw (way-out (sliceState x left store) store h) r-done; later = λ z. absurd (false≢true z) }
 
-  pub goes-last : n ≡ 0 → leZ (pos (g .sizes .«mb_size»)) (x .«macroblock_address» +ℤ pos 1) ≡ true → GoesOn g s reader x n false
-  unfolding pastMacroblock
+  pub goes-last : n ≡ 0 → leZ (pos (g .sizes .«mb_size»)) (x .«macroblock_address» +ℤ pos 1) ≡ true → RefinesAfterMacroblock g s reader x n false
+  unfolding afterMacroblock
   goes-last z e = record { runs = λ left store. rw z (r-yes _ e r-done); later = λ z. absurd (false≢true z) }
 
   pub goes-more : n ≡ 0 → leZ (pos (g .sizes .«mb_size»)) (x .«macroblock_address» +ℤ pos 1) ≡ false → {more : Bool} {to : Reader}
-      → Reading (nonZero 23) s reader more to → to ≡ reader → GoesOn g s reader x n more
-  unfolding pastMacroblock
+      → Reading (nonZero 23) s reader more to → to ≡ reader → RefinesAfterMacroblock g s reader x n more
+  unfolding afterMacroblock
   goes-more z e {more} r same =
       record {
-        runs = λ left store. rw z (r-no _ e (r-call _ (rw same at (r .runs)) (picked more (world x left store) store)));
+        runs = λ left store. rw z (r-no _ e (r-call _ (rw same at (r .runs)) (picked more (sliceState x left store) store)));
         later = λ m. e;
       }
     where
-      picked : (t : Bool) (w : World) (store : List ℕ)
-          → Runs (cond t (done (again (slicing false w))) (done (stop (on w)))) s reader (onTurn t 0 w store) reader
+      picked : (t : Bool) (w : SliceState) (store : List ℕ)
+          → Runs (cond t (done (continue (sliceLoopState false w))) (done (finish (ok w)))) s reader (sliceStepOf t 0 w store) reader
       picked true w store = r-done
       picked false w store = r-done
 
@@ -152,37 +152,37 @@ module _ {g : Context} {s : List ℕ} {reader : Reader} {x : Slice} {n : ℕ} wh
 -- before a macroblock, at `from`
 pub record AtMacroblock (g : Context) (m : Matrices) (s : List ℕ) (from₀ : Reader) (x₀ : Slice) (left₀ : List ℤ) (store₀ : List ℕ)
     (first : Bool) (from : Reader) (x : Slice) (left : List ℤ) (store : List ℕ) : Type 0 where
-  pub awaits : Awaits g s from first x left store
+  pub awaits : IncrementInvariant g s from first x left store
   pub long : length store ≡ length store₀
-  pub rest : (w₀ : Way World)
-      → Loops many (sliceTurn g m) w₀ (slicing true (world x₀ left₀ store₀)) s from₀
-      (slicing first (world x left store)) from (bitsLeft s from)
+  pub rest : (w₀ : Result SliceState)
+      → Loops many (sliceStep g m) w₀ (sliceLoopState true (sliceState x₀ left₀ store₀)) s from₀
+      (sliceLoopState first (sliceState x left store)) from (bitsLeft s from)
 
 pub at-macroblock : {g : Context} {m : Matrices} {s : List ℕ} {from : Reader} {x : Slice} {left : List ℤ} {store : List ℕ}
-    → Awaits g s from true x left store → AtMacroblock g m s from x left store true from x left store
+    → IncrementInvariant g s from true x left store → AtMacroblock g m s from x left store true from x left store
 at-macroblock k = record { awaits = k; long = refl; rest = λ w₀. loop-start (omega (arith, k .reads .inside .stream)) }
 
 module _ {g : Context} {m : Matrices} {s : List ℕ} {from₀ : Reader} {x₀ : Slice} {left₀ : List ℤ} {store₀ : List ℕ}
     {first : Bool} {from : Reader} {x : Slice} {left : List ℤ} {store : List ℕ}
     (i : AtMacroblock g m s from₀ x₀ left₀ store₀ first from x left store) {r : Progress} {left₁ : List ℤ} {store₁ : List ℕ}
-    (p : Passed (macroblock g m first (world x left store)) g s from r left₁ store₁)
-    {more : Bool} (q : GoesOn g s (r .reader) (r .state) (r .stop) more) where
-  macroblock-turn : Runs (sliceTurn g m (slicing first (world x left store))) s from
-      (onTurn more (r .stop) (world (r .state) left₁ store₁) store₁) (r .reader)
-  unfolding sliceTurn
-  macroblock-turn = r-call _ (p .runs) (q .runs left₁ store₁)
+    (p : RefinesInSlice (macroblock g m first (sliceState x left store)) g s from r left₁ store₁)
+    {more : Bool} (q : RefinesAfterMacroblock g s (r .reader) (r .state) (r .stop) more) where
+  macroblock-step : Runs (sliceStep g m (sliceLoopState first (sliceState x left store))) s from
+      (sliceStepOf more (r .stop) (sliceState (r .state) left₁ store₁) store₁) (r .reader)
+  unfolding sliceStep
+  macroblock-step = r-call _ (p .runs) (q .runs left₁ store₁)
 
-  pub slice-end : more ≡ false → Sliced (λ w₀. macroblocks g m w₀ (world x₀ left₀ store₀)) g s from₀ r left₁ store₁
+  pub slice-end : more ≡ false → RefinesMacroblocks (λ w₀. macroblocks g m w₀ (sliceState x₀ left₀ store₀)) g s from₀ r left₁ store₁
   slice-end e =
-      record { passed = λ w₀. record { runs = loop-end (i .rest w₀) (rw e at macroblock-turn); reads = p .reads; held = p .held } }
+      record { passed = λ w₀. record { runs = loop-end (i .rest w₀) (rw e at macroblock-step); reads = p .reads; storeFits = p .storeFits } }
 
   pub slice-less : more ≡ true → bitsLeft s (r .reader) < bitsLeft s from
-  slice-less e = takes-less (sliceTurn g m) (slice-takes g m s) (rw e at macroblock-turn)
+  slice-less e = takes-less (sliceStep g m) (slice-takes g m s) (rw e at macroblock-step)
 
   pub slice-on : more ≡ true → length store₁ ≡ length store
       → AtMacroblock g m s from₀ x₀ left₀ store₀ false (r .reader) (r .state) left₁ store₁
   slice-on e l = record {
-    awaits = record { reads = p .reads; held = p .held; begins = λ z. absurd (false≢true z); later = λ z. q .later e };
+    awaits = record { reads = p .reads; storeFits = p .storeFits; begins = λ z. absurd (false≢true z); later = λ z. q .later e };
     long = l ∙ i .long;
-    rest = λ w₀. loop-on (i .rest w₀) (rw e at macroblock-turn) (slice-less e);
+    rest = λ w₀. loop-on (i .rest w₀) (rw e at macroblock-step) (slice-less e);
   }

@@ -5,53 +5,53 @@ use lib.Dec.{eqb}
 use lib.IntN.{pos, _+ℤ_, _-ℤ_}
 use lib.ListN.{replicate}
 use lib.Signed.{leZ}
-use Rattle.laws.specs.Turns.{Turn, again, stop}
+use Rattle.laws.specs.Loops.{Step, continue, finish}
 use Rattle.bits.specs.Programs.{Prog, done, bind, bits, skips, nonZero, loop, many, _>>=_, _>>_, if_then_else_}
 use Rattle.picture_state.specs.declared.types.Context.{Context}
 use Rattle.picture_state.specs.declared.types.Matrices.{Matrices}
 use Rattle.picture_state.specs.declared.types.Slice.{Slice}
-use Rattle.picture_state.specs.State.{World, inSlice, zeroed}
-use Rattle.picture_state.specs.Ways.{Way, on, out}
+use Rattle.picture_state.specs.State.{SliceState, withSlice, zeroed}
+use Rattle.picture_state.specs.Result.{Result, ok, error}
 use Rattle.macroblock.specs.Macroblocks.{macroblock}
 
 -- RULES 7.5: while one bit read is 1, 8 bits are passed over
-unfoldable pub extraTurn : Unit {0} → Prog (Turn (Unit {0}) (Unit {0}))
-extraTurn x = do
+unfoldable pub extraStep : Unit {0} → Prog (Step (Unit {0}) (Unit {0}))
+extraStep x = do
   b ← bits 1
-  if eqb b 0 then done (stop tt) else do
+  if eqb b 0 then done (finish tt) else do
     skips 8
-    done (again tt)
+    done (continue tt)
 
 -- RULES 7.5 (11172-2, 2.4.2.6, extra_information_slice): until the bit is 0
 unfoldable pub extra : Prog (Unit {0})
-extra = loop many extraTurn tt tt
+extra = loop many extraStep tt tt
 
 -- RULES 7.4, 7.6: the address has reached the last macroblock
-abbrev pub isLast : Context → World → Bool
+abbrev pub isLast : Context → SliceState → Bool
 isLast g w = leZ (pos (g .sizes .«mb_size»)) (w .slice .«macroblock_address» +ℤ pos 1)
 
 -- between two macroblocks: is the next one the first of its slice?
-pub record Slicing : Type 0 where
+pub record SliceLoopState : Type 0 where
   pub first : Bool
-  pub world : World
+  pub sliceState : SliceState
 
-abbrev pub slicing : Bool → World → Slicing
-slicing first w = record { first = first; world = w }
+abbrev pub sliceLoopState : Bool → SliceState → SliceLoopState
+sliceLoopState first w = record { first = first; sliceState = w }
 
 -- RULES 7.6: the slice ends at the last macroblock, or where the next 23 bits are all 0 or not there
-unfoldable pub pastMacroblock : Context → Way World → Prog (Turn Slicing (Way World))
-pastMacroblock g (out n l) = done (stop (out n l))
-pastMacroblock g (on w) =
-    if isLast g w then done (stop (on w))
+unfoldable pub afterMacroblock : Context → Result SliceState → Prog (Step SliceLoopState (Result SliceState))
+afterMacroblock g (error n l) = done (finish (error n l))
+afterMacroblock g (ok w) =
+    if isLast g w then done (finish (ok w))
     else do
       more ← nonZero 23
-      if more then done (again (slicing false w)) else done (stop (on w))
+      if more then done (continue (sliceLoopState false w)) else done (finish (ok w))
 
 -- RULES 7.6: one macroblock, and whether another follows
-unfoldable pub sliceTurn : Context → Matrices → Slicing → Prog (Turn Slicing (Way World))
-sliceTurn g m x = do
-  w ← macroblock g m (x .first) (x .world)
-  pastMacroblock g w
+unfoldable pub sliceStep : Context → Matrices → SliceLoopState → Prog (Step SliceLoopState (Result SliceState))
+sliceStep g m x = do
+  w ← macroblock g m (x .first) (x .sliceState)
+  afterMacroblock g w
 
 -- RULES 7.5: the state at the beginning of slice n, with this scale
 abbrev pub sliceStart : Context → ℕ → ℕ → Slice → Slice
@@ -64,8 +64,8 @@ sliceStart g number q s = record {
 }
 
 -- RULES 7.5, 7.6: slice n, from behind its start code on
-unfoldable pub slice : Context → Matrices → ℕ → World → Prog (Way World)
+unfoldable pub slice : Context → Matrices → ℕ → SliceState → Prog (Result SliceState)
 slice g m number w = do
   q ← bits 5
   extra
-  loop many (sliceTurn g m) (on w) (slicing true (inSlice (sliceStart g number q (w .slice)) w))
+  loop many (sliceStep g m) (ok w) (sliceLoopState true (withSlice (sliceStart g number q (w .slice)) w))

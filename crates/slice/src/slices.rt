@@ -12,11 +12,11 @@ ghost use mathlib.Core.Bool.{true};
 ghost use Prim.Native.Nat.{_≤_};
 ghost use Rattle.bits.specs.Runs.{Inside, Reading};
 ghost use Rattle.codes.specs.Lent.{Lent};
-ghost use Rattle.picture_state.specs.State.{world};
+ghost use Rattle.picture_state.specs.State.{sliceState};
 ghost use Rattle.slice.specs.Slices.{extra, sliceStart, slice};
-ghost use Rattle.picture_state.specs.Contracts.{matricesIn, Held, Reads, Passed};
-ghost use Rattle.slice.specs.Contracts.{macroblocks, GoesOn, Sliced};
-ghost use Rattle.macroblock.specs.Contracts.{Adds, Awaits};
+ghost use Rattle.picture_state.specs.Contracts.{matricesIn, StoreFits, ReadInvariant, RefinesInSlice};
+ghost use Rattle.slice.specs.Contracts.{macroblocks, RefinesAfterMacroblock, RefinesMacroblocks};
+ghost use Rattle.macroblock.specs.Contracts.{AddressAdds, IncrementInvariant};
 
 // RULES 7.5: while one bit read is 1, 8 bits are passed over.
 fn skip_extra(s: &[u8], reader: Reader) -> Reader
@@ -56,8 +56,8 @@ fn slice_start(g: Context, number: usize, scale: u32, state: Slice) -> Slice
 fn goes_on(s: &[u8], reader: Reader, g: Context, state: Slice, stop: u32) -> bool
     requires { ⌜ Inside (now s) reader ⌝ }
     requires { ⌜ g .sizes .«mb_size» ≤ 65536 ⌝ }
-    requires { ⌜ Adds (state .«macroblock_address») 1 ⌝ }
-    ensures { λ r. ⌜ GoesOn g (now (s .entry)) reader state stop r ⌝ }
+    requires { ⌜ AddressAdds (state .«macroblock_address») 1 ⌝ }
+    ensures { λ r. ⌜ RefinesAfterMacroblock g (now (s .entry)) reader state stop r ⌝ }
 {
     if stop != 0 {
         return false;
@@ -79,10 +79,10 @@ fn read_macroblocks(
     g: Context,
     before: Slice,
 ) -> Progress
-    requires { ⌜ Awaits g (now s) reader true before (now values) (now store) ⌝ }
+    requires { ⌜ IncrementInvariant g (now s) reader true before (now values) (now store) ⌝ }
     requires { ⌜ Lent (now tables) ⌝ }
     ensures { λ r. ⌜
-        Sliced (λ w₀. macroblocks g (matricesIn (now (tables .entry))) w₀ (world before (now (values .entry)) (now (store .entry))))
+        RefinesMacroblocks (λ w₀. macroblocks g (matricesIn (now (tables .entry))) w₀ (sliceState before (now (values .entry)) (now (store .entry))))
         g (now (s .entry)) reader r (now (values .exit)) (now (store .exit))
         ⌝ }
 {
@@ -116,12 +116,12 @@ pub fn read_slice(
     number: usize,
     state: Slice,
 ) -> Progress
-    requires { ⌜ Reads (now s) reader state (now values) ⌝ }
-    requires { ⌜ Held g (now store) ⌝ }
+    requires { ⌜ ReadInvariant (now s) reader state (now values) ⌝ }
+    requires { ⌜ StoreFits g (now store) ⌝ }
     requires { ⌜ Lent (now tables) ⌝ }
     requires { ⌜ (1 ≤ number) × (number ≤ 175) ⌝ }
     ensures { λ r. ⌜
-        Passed (slice g (matricesIn (now (tables .entry))) number (world state (now (values .entry)) (now (store .entry))))
+        RefinesInSlice (slice g (matricesIn (now (tables .entry))) number (sliceState state (now (values .entry)) (now (store .entry))))
         g (now (s .entry)) reader r (now (values .exit)) (now (store .exit))
         ⌝ }
 {

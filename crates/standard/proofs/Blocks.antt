@@ -12,7 +12,7 @@ use lib.Seq.{getD-set-other}
 use lib.Signed.{leZ}
 use Rattle.laws.proofs.Ints.{v, lit, neg, _⊕_, _⊗_, _⊛_, eq-by, le-yes, yes-le}
 use Rattle.laws.proofs.Tests.{both}
-use Rattle.bits.specs.Bits.{got}
+use Rattle.bits.specs.Bits.{readAt}
 use Rattle.bits.specs.Programs.{Prog, done, run, bind, bits}
 use Rattle.bits.proofs.Gives.{g-bits}
 use Rattle.codes.specs.Matrices.{zigZag, downFrom, diagonals, premultiplierMatrix}
@@ -21,7 +21,7 @@ use Rattle.coefficients.specs.declared.block.BlockEnd.{BlockEnd}
 use Rattle.coefficients.specs.declared.block.BlockEnd.the-variants.{Whole, Dropped, Outside}
 use Rattle.coefficients.specs.Dcs.{dcSize, dcDifference, dcInside, added}
 use Rattle.coefficients.specs.Dequantise.{quantiser, dequantised}
-use Rattle.coefficients.specs.Syntax.{Pair, Ended, ended, pairs, Coded, coded, intraCoded, otherCoded, codedBlock}
+use Rattle.coefficients.specs.Syntax.{Pair, PairsEnd, pairsEnd, pairs, CodedBlock, coded, intraCoded, otherCoded, codedBlock}
 use Rattle.coefficients.specs.Blocks as B
 use Rattle.coefficients.specs.Standard.{dctZZ0}
 use Rattle.coefficients.proofs.Standard.{dc-as-printed}
@@ -32,15 +32,15 @@ use Rattle.transform.specs.Idct.{idct, dcOnly}
 use Rattle.transform.proofs.LoneDc.{lone-dc}
 use Rattle.prediction.specs.Predict.{macroblockAt}
 use Rattle.prediction.specs.Planes.{planeOf, planeLength, planeStart}
-use Rattle.prediction.specs.Writers.{setConst, overwrite, addConst, addBlock, blockWidth, blockPlace}
+use Rattle.prediction.specs.Writers.{setConst, overwrite, addConst, addBlock, blockWidth, blockAddress}
 use Rattle.picture_state.specs.declared.types.Context.{Context}
 use Rattle.picture_state.specs.declared.types.Matrices.{Matrices}
-use Rattle.picture_state.specs.State.{World, world, predictorsAs, freshBlock}
-use Rattle.picture_state.specs.Ways.{Way, on, out, leave, onward, plain, step, give}
+use Rattle.picture_state.specs.State.{SliceState, sliceState, predictorsAs, freshBlock}
+use Rattle.picture_state.specs.Result.{Result, ok, error, ifOk, bindResult, lift, fromResult, pure}
 use Rattle.picture_state.specs.Flags.{flag}
 use Rattle.blocks.specs.Blocks as O
 use Rattle.standard.specs.Standard as S
-use Rattle.standard.proofs.Agreement.{WayIs, Agree, a-same, a-give, a-plain, a-onward, a-shall, a-for, plain-bind, plain-bind-on}
+use Rattle.standard.proofs.Agreement.{ResultIs, Agree, a-same, a-pure, a-lift, a-bind, a-shall, a-for, lift-bind, lift-bind-on}
 use Rattle.standard.proofs.Related.{Own, own, sliceOf, eights, Rule, coding}
 use Rattle.standard.specs.Rules.{times}
 
@@ -98,16 +98,17 @@ lone-next x r z l =
           ∙ l .zeros (omega arith) k p;
     }
 
-is-also : {A : Type 0} {P Q : A → Type 0} (w : Way A) → ((x : A) → P x → Q x) → WayIs P w → WayIs Q w
-is-also (on x) k p = k x p
-is-also (out n l) k p = tt
+is-also : {A : Type 0} {P Q : A → Type 0} (w : Result A) → ((x : A) → P x → Q x) → ResultIs P w → ResultIs Q w
+is-also (ok x) k p = k x p
+is-also (error n l) k p = tt
 
 -- such a step of the standard's alone
-a-way : {A C D : Type 0} {Q : C → D → Type 0} {s : List ℕ} {a : ℕ} {q : Prog (Way D)} (P : A → Type 0) (w : Way A) (F : A → Prog (Way C)) → WayIs P w
-    → ((x : A) → P x → Agree Q s a (F x) q) → Agree Q s a (onward (step w) F) q
-unfolding onward leave bind run
-a-way P (on x) F p k = k x p
-a-way P (out n l) F p k = record { is = tt }
+a-way : {A C D : Type 0} {Q : C → D → Type 0} {s : List ℕ} {a : ℕ} {q : Prog (Result D)} (P : A → Type 0) (w : Result A) (F : A → Prog (Result C))
+    → ResultIs P w
+    → ((x : A) → P x → Agree Q s a (F x) q) → Agree Q s a (bindResult (fromResult w) F) q
+unfolding bindResult ifOk bind run
+a-way P (ok x) F p k = k x p
+a-way P (error n l) F p k = record { is = tt }
 
 module _ (rule : Rule) (g : Context) (m : Matrices) (f b : S.Direction) (intra : Bool) (scale : ℕ) where
   abbrev their : S.Coding
@@ -121,7 +122,7 @@ module _ (rule : Rule) (g : Context) (m : Matrices) (f b : S.Direction) (intra :
     same : placedOf x ps ≡ filledOf y
     lone : Lone y
 
-  pairs-same : (x : S.Filled) (ps : List Pair) → Lone x → WayIs (Placed x ps) (S.reconstructed their intra scale x ps)
+  pairs-same : (x : S.Filled) (ps : List Pair) → Lone x → ResultIs (Placed x ps) (S.reconstructed their intra scale x ps)
   unfolding S.reconstructed B.allPlaced
   pairs-same x [] l = record { same = refl; lone = l }
   pairs-same x (p ∷ ps) l =
@@ -146,8 +147,8 @@ module _ (rule : Rule) (g : Context) (m : Matrices) (f b : S.Direction) (intra :
           ∙ ap (λ (l : List ℤ). B.filled l (x .n + p .run + 1)) (sym (times-set (x .recon) premultiplierMatrix place theirs))
 
       go : (t : Bool) → (t ≡ true → theirs ≡ dequantised (quantiser intra scale) (p .level) quant)
-          → WayIs (Placed next ps) (S.reconstructed their intra scale next ps)
-          → WayIs (Placed x (p ∷ ps)) (cond t (S.reconstructed their intra scale next ps) S.forbidden)
+          → ResultIs (Placed next ps) (S.reconstructed their intra scale next ps)
+          → ResultIs (Placed x (p ∷ ps)) (cond t (S.reconstructed their intra scale next ps) S.forbidden)
       go true k r =
           is-also (S.reconstructed their intra scale next ps) (λ y q.
           record {
@@ -157,13 +158,13 @@ module _ (rule : Rule) (g : Context) (m : Matrices) (f b : S.Direction) (intra :
           }) r
       go false k r = tt
 
-  coefficients-same : (x : S.Filled) (p : Ended) → Lone x → WayIs (λ y. (p .end ≡ Whole) × Placed x (p .pairs) y) (S.coefficients their intra scale x p)
+  coefficients-same : (x : S.Filled) (p : PairsEnd) → Lone x → ResultIs (λ y. (p .end ≡ Whole) × Placed x (p .pairs) y) (S.coefficients their intra scale x p)
   coefficients-same x p l = go (p .end)
     where
-      all : Way S.Filled
+      all : Result S.Filled
       all = S.reconstructed their intra scale x (p .pairs)
 
-      go : (e : BlockEnd) → WayIs (λ y. (e ≡ Whole) × Placed x (p .pairs) y) (elim e [ Whole ↦ all | Dropped ↦ S.forbidden | Outside ↦ S.forbidden ])
+      go : (e : BlockEnd) → ResultIs (λ y. (e ≡ Whole) × Placed x (p .pairs) y) (elim e [ Whole ↦ all | Dropped ↦ S.forbidden | Outside ↦ S.forbidden ])
       go Whole = is-also all (λ y q. (refl, q)) (pairs-same x (p .pairs) l)
       go Dropped = tt
       go Outside = tt
@@ -176,20 +177,20 @@ size-small true s a = let h = size-luminance-most {s = s} .value a in omega arit
 size-small false s a = let h = size-chrominance-most {s = s} .value a in omega arith
 
 module _ (s : List ℕ) where
-  dc-agrees : (i a : ℕ) → Agree _≡_ s a (S.dctDc i) (plain (dcDifference (ltb i 4)))
-  unfolding S.dctDc dcDifference plain bind onward leave run
+  dc-agrees : (i a : ℕ) → Agree _≡_ s a (S.dctDc i) (lift (dcDifference (ltb i 4)))
+  unfolding S.dctDc dcDifference lift bind bindResult ifOk run
   dc-agrees i a =
       let o = run (dcSize (ltb i 4)) s a in
-      a-same (sym (plain-bind (dcSize (ltb i 4)) _ s a)) (
-      a-plain (dcSize (ltb i 4)) (dcSize (ltb i 4)) _ _ refl (go (o .value) (o .at) (size-small (ltb i 4) s a) (eqb (o .value) 0) refl))
+      a-same (sym (lift-bind (dcSize (ltb i 4)) _ s a)) (
+      a-lift (dcSize (ltb i 4)) (dcSize (ltb i 4)) _ _ refl (go (o .value) (o .at) (size-small (ltb i 4) s a) (eqb (o .value) 0) refl))
     where
       go : (n e : ℕ) → n ≤ 8 → (t : Bool) → eqb n 0 ≡ t
-          → Agree _≡_ s e (cond t (give (pos 0)) (onward (plain (bits n)) (λ d. give (dctZZ0 n d))))
-          (plain (cond t (done (pos 0)) (bind (bits n) (λ d. done (added n d)))))
-      go n e h true q = a-give refl
+          → Agree _≡_ s e (cond t (pure (pos 0)) (bindResult (lift (bits n)) (λ d. pure (dctZZ0 n d))))
+          (lift (cond t (done (pos 0)) (bind (bits n) (λ d. done (added n d)))))
+      go n e h true q = a-pure refl
       go n e h false q =
           let l = eqb-false n 0 q in
-          record { is = (refl, dc-as-printed n (got s e n) (omega arith) h (g-bits {s = s} n .value e)) }
+          record { is = (refl, dc-as-printed n (readAt s e n) (omega arith) h (g-bits {s = s} n .value e)) }
 
 -- ---- the three predictors
 
@@ -304,30 +305,30 @@ written-same rule g m f b intra scale i address x l lone =
     let start = planeStart (g .stores .cur) (planeOf i) (g .sizes .«mb_size») in
     let size = planeLength (planeOf i) (g .sizes .«mb_size») in
     let before = midOf start size l in
-    let put : List ℤ → List ℕ = λ y. cond intra (overwrite before (blockPlace mb i) (blockWidth mb i) y)
-    (addBlock before (blockPlace mb i) (blockWidth mb i) y) in
+    let put : List ℤ → List ℕ = λ y. cond intra (overwrite before (blockAddress mb i) (blockWidth mb i) y)
+    (addBlock before (blockAddress mb i) (blockWidth mb i) y) in
     ap (putMid start size l) (
-    sym (results-same intra scale (filledOf x) (blockPlace mb i) (blockWidth mb i) before
+    sym (results-same intra scale (filledOf x) (blockAddress mb i) (blockWidth mb i) before
     (λ h k p. times-at (x .recon) premultiplierMatrix k (lone .zeros h k p)))
     ∙ ap put (sym (rule .transform (x .recon))))
 
 -- ---- a block
 
 -- before block i of an intra macroblock: the pasts are our predictors
-pub record Intra (isFar : Bool) (i : ℕ) (g : S.Coding) (A : ℤ) (q : ℕ) (for back : S.Vector) (fs bs : Bool) (x : S.Blocks) (w : World) : Type 0 where
+pub record Intra (isFar : Bool) (i : ℕ) (g : S.Coding) (A : ℤ) (q : ℕ) (for back : S.Vector) (fs bs : Bool) (x : S.Blocks) (w : SliceState) : Type 0 where
   pub y : ℤ
   pub cb : ℤ
   pub cr : ℤ
-  pub is : w ≡ world (sliceOf g A q for back (own fs bs y cb cr)) freshBlock (x .pels)
+  pub is : w ≡ sliceState (sliceOf g A q for back (own fs bs y cb cr)) freshBlock (x .pels)
   pub past : leftOf isFar i (x .past) ≡ eights (own fs bs y cb cr)
 
 -- of any other macroblock: pasts and predictors stay
-pub record Inter (g : S.Coding) (A : ℤ) (q : ℕ) (for back : S.Vector) (o : Own) (p : S.Pasts) (x : S.Blocks) (w : World) : Type 0 where
-  pub is : w ≡ world (sliceOf g A q for back o) freshBlock (x .pels)
+pub record Inter (g : S.Coding) (A : ℤ) (q : ℕ) (for back : S.Vector) (o : Own) (p : S.Pasts) (x : S.Blocks) (w : SliceState) : Type 0 where
+  pub is : w ≡ sliceState (sliceOf g A q for back o) freshBlock (x .pels)
   pub past : x .past ≡ p
 
 -- ours of a whole block, while the standard's is y
-abbrev wholeOf : ℤ → S.Filled → B.Read
+abbrev wholeOf : ℤ → S.Filled → B.BlockRead
 wholeOf predictor y = record { filled = filledOf y; predictor = predictor; end = Whole }
 
 module _ (rule : Rule) (g : Context) (m : Matrices) (f b : S.Direction) (A : ℤ) (q : ℕ) (for back : S.Vector) (s : List ℕ) where
@@ -335,25 +336,25 @@ module _ (rule : Rule) (g : Context) (m : Matrices) (f b : S.Direction) (A : ℤ
   G = coding rule g m f b
 
   -- our state with the predictors o
-  abbrev ours : Own → List ℕ → World
-  ours o l = world (sliceOf G A q for back o) freshBlock l
+  abbrev ours : Own → List ℕ → SliceState
+  ours o l = sliceState (sliceOf G A q for back o) freshBlock l
 
   -- behind block i the predictors are dcs, nothing is left over, and the pels are the standard's
-  block-ends : (intra : Bool) (i : ℕ) (o : Own) (predictor : ℤ) (dcs : List ℤ) (y : S.Filled) (l : List ℕ) (r : B.Read) → r ≡ wholeOf predictor y → Lone y
+  block-ends : (intra : Bool) (i : ℕ) (o : Own) (predictor : ℤ) (dcs : List ℤ) (y : S.Filled) (l : List ℕ) (r : B.BlockRead) → r ≡ wholeOf predictor y → Lone y
       → set (dcsOf o) (O.predictorOf i) predictor ≡ dcs
       → O.blockEnd g (quantiser intra q) i (ours o l) r
-      ≡ on (world (predictorsAs dcs (sliceOf G A q for back o)) freshBlock (S.written G intra i (natAbs A) y l))
-  unfolding O.blockEnd B.leftOver
+      ≡ ok (sliceState (predictorsAs dcs (sliceOf G A q for back o)) freshBlock (S.written G intra i (natAbs A) y l))
+  unfolding O.blockEnd B.blockDataAfter
   block-ends intra i o predictor dcs y l r e lone d =
       let pels = written-same rule g m f b intra q i (natAbs A) y l lone in
-      ap (O.blockEnd g (quantiser intra q) i (ours o l)) e ∙ (λ j. on (world (predictorsAs (d j) (sliceOf G A q for back o)) freshBlock (pels j)))
+      ap (O.blockEnd g (quantiser intra q) i (ours o l)) e ∙ (λ j. ok (sliceState (predictorsAs (d j) (sliceOf G A q for back o)) freshBlock (pels j)))
 
   -- intra block i; o has our predictors
   module _ (isFar : Bool) (i : ℕ) (h : i < 6) (x : S.Blocks) (o : Own) (before : leftOf isFar i (x .past) ≡ eights o) where
     abbrev pred : ℤ
     pred = getD (dcsOf o) (O.predictorOf i) (pos 0)
 
-    abbrev After : S.Blocks → World → Type 0
+    abbrev After : S.Blocks → SliceState → Type 0
     After = Intra isFar (suc i) G A q for back (o .forSet) (o .backSet)
 
     -- dct_recon with the DC value alone
@@ -361,24 +362,24 @@ module _ (rule : Rule) (g : Context) (m : Matrices) (f b : S.Direction) (A : ℤ
     dcFilled recon = record { recon = set (replicate 64 (pos 0)) 0 recon; n = 1 }
 
     -- the standard's steps behind the DC value
-    abbrev theirEnd : ℤ → S.Filled → Prog (Way S.Blocks)
-    theirEnd recon y = give (record { past = S.pastAs i recon (x .past); pels = S.written G true i (natAbs A) y (x .pels) })
+    abbrev theirEnd : ℤ → S.Filled → Prog (Result S.Blocks)
+    theirEnd recon y = pure (record { past = S.pastAs i recon (x .past); pels = S.written G true i (natAbs A) y (x .pels) })
 
-    abbrev theirPairs : ℤ → Prog (Way S.Blocks)
-    theirPairs recon = onward (plain (pairs 1)) (λ p. onward (step (S.coefficients G true q (dcFilled recon) p)) (theirEnd recon))
+    abbrev theirPairs : ℤ → Prog (Result S.Blocks)
+    theirPairs recon = bindResult (lift (pairs 1)) (λ p. bindResult (fromResult (S.coefficients G true q (dcFilled recon) p)) (theirEnd recon))
 
     -- ours
-    abbrev made : Coded → B.Read
+    abbrev made : CodedBlock → B.BlockRead
     made c = B.reconstructed (quantiser true q) (m .«intra_quant_matrix») pred freshBlock c
 
-    abbrev readEnd : B.Read → Prog (Way World)
-    readEnd r = step (O.blockEnd g (quantiser true q) i (ours o (x .pels)) r)
+    abbrev readEnd : B.BlockRead → Prog (Result SliceState)
+    readEnd r = fromResult (O.blockEnd g (quantiser true q) i (ours o (x .pels)) r)
 
-    abbrev ourEnd : Coded → Prog (Way World)
+    abbrev ourEnd : CodedBlock → Prog (Result SliceState)
     ourEnd c = readEnd (made c)
 
-    abbrev ourPairs : Bool → ℤ → Prog Coded
-    ourPairs inside d = cond inside (bind (pairs 1) (λ p. done (coded d p))) (done (coded d (ended [] Outside)))
+    abbrev ourPairs : Bool → ℤ → Prog CodedBlock
+    ourPairs inside d = cond inside (bind (pairs 1) (λ p. done (coded d p))) (done (coded d (pairsEnd [] Outside)))
 
     -- the DC value is pred + d, and in its range
     module _ (d : ℤ) (inside : dcInside (pred +ℤ d) ≡ true) where
@@ -386,34 +387,34 @@ module _ (rule : Rule) (g : Context) (m : Matrices) (f b : S.Direction) (A : ℤ
       dc = pred +ℤ d
 
       -- what the standard makes of the pairs p
-      abbrev Fills : Ended → S.Filled → Type 0
+      abbrev Fills : PairsEnd → S.Filled → Type 0
       Fills p y = (p .end ≡ Whole) × Placed rule g m f b true q (dcFilled (pos 8 *ℤ dc)) (p .pairs) y
 
-      made-is : (p : Ended) (y : S.Filled) → Fills p y → made (coded d p) ≡ wholeOf dc y
+      made-is : (p : PairsEnd) (y : S.Filled) → Fills p y → made (coded d p) ≡ wholeOf dc y
       unfolding B.reconstructed
       made-is p y c =
           let placed : B.Filled → B.Filled = λ z. B.allPlaced (quantiser true q) (m .«intra_quant_matrix») z (p .pairs) in
-          let read : Bool → B.Read = λ t. cond (not t) (record { filled = B.filled freshBlock 0; predictor = pred; end = p .end })
+          let read : Bool → B.BlockRead = λ t. cond (not t) (record { filled = B.filled freshBlock 0; predictor = pred; end = p .end })
           (record { filled = placed (B.withDc dc freshBlock); predictor = dc; end = p .end }) in
           let filled = ap placed (begins dc) ∙ c .1 .same in
           ap read inside ∙ (λ j. record { filled = filled j; predictor = dc; end = c .0 j })
 
-      end-agrees : (p : Ended) (y : S.Filled) (e : ℕ) → Fills p y → Agree After s e (theirEnd (pos 8 *ℤ dc) y) (ourEnd (coded d p))
+      end-agrees : (p : PairsEnd) (y : S.Filled) (e : ℕ) → Fills p y → Agree After s e (theirEnd (pos 8 *ℤ dc) y) (ourEnd (coded d p))
       end-agrees p y e c =
           let n = ownAs i dc o in
           let t = component isFar (x .past) o dc i h before in
-          a-same (ap (λ (w : Way World). run (step w) s e)
+          a-same (ap (λ (w : Result SliceState). run (fromResult w) s e)
           (sym (block-ends true i o dc (dcsOf n) y (x .pels) (made (coded d p)) (made-is p y c) (c .1 .lone) (t .dcs))))
-          (a-give (record { y = n .y; cb = n .cb; cr = n .cr; is = refl; past = t .past }))
+          (a-pure (record { y = n .y; cb = n .cb; cr = n .cr; is = refl; past = t .past }))
 
-      pairs-agree : (e : ℕ) → Agree After s e (theirPairs (pos 8 *ℤ dc)) (onward (plain (ourPairs (dcInside dc) d)) ourEnd)
-      unfolding onward leave plain bind
+      pairs-agree : (e : ℕ) → Agree After s e (theirPairs (pos 8 *ℤ dc)) (bindResult (lift (ourPairs (dcInside dc) d)) ourEnd)
+      unfolding bindResult ifOk lift bind
       pairs-agree e =
           let from = dcFilled (pos 8 *ℤ dc) in
           let p = run (pairs 1) s e .value in
-          a-same (ap (λ (t : Bool). run (onward (plain (ourPairs t d)) ourEnd) s e) (sym inside)) (
-          a-same (sym (plain-bind-on (pairs 1) (λ p. done (coded d p)) ourEnd s e)) (
-          a-plain (pairs 1) (pairs 1) _ _ refl (
+          a-same (ap (λ (t : Bool). run (bindResult (lift (ourPairs t d)) ourEnd) s e) (sym inside)) (
+          a-same (sym (lift-bind-on (pairs 1) (λ p. done (coded d p)) ourEnd s e)) (
+          a-lift (pairs 1) (pairs 1) _ _ refl (
           a-way _ (S.coefficients G true q from p) _ (coefficients-same rule g m f b true q from p (lone-dc-begins (pos 8 *ℤ dc)))
           (λ y c. end-agrees p y (run (pairs 1) s e .at) c))))
 
@@ -424,63 +425,63 @@ module _ (rule : Rule) (g : Context) (m : Matrices) (f b : S.Direction) (A : ℤ
         ∙ ap (λ (z : ℤ). pos 8 *ℤ (pred +ℤ z)) e
 
     intra-agrees : (a : ℕ) → Agree After s a (S.intraBlock G isFar q (natAbs A) i x) (O.oneBlock g m true i (ours o (x .pels)))
-    unfolding S.intraBlock O.oneBlock B.block codedBlock intraCoded onward leave plain bind
+    unfolding S.intraBlock O.oneBlock B.block codedBlock intraCoded bindResult ifOk lift bind
     intra-agrees a =
-        let theirs : ℤ → Prog (Way S.Blocks) = λ recon.
-        onward (S.shall (leZ (negℤ (pos 2048)) recon && leZ recon (pos 2047))) (λ z. theirPairs recon) in
-        a-same (sym (plain-bind-on (intraCoded (ltb i 4) pred) (λ c. done (made c)) readEnd s a)) (
-        a-same (sym (plain-bind-on (dcDifference (ltb i 4)) (λ d. ourPairs (dcInside (pred +ℤ d)) d) ourEnd s a)) (
-        a-onward _ _ (dc-agrees s i a) (λ zz d e c.
-        subst (λ (recon : ℤ). Agree After s e (theirs recon) (onward (plain (ourPairs (dcInside (pred +ℤ d)) d)) ourEnd)) (sym (recon-is zz d c))
+        let theirs : ℤ → Prog (Result S.Blocks) = λ recon.
+        bindResult (S.shall (leZ (negℤ (pos 2048)) recon && leZ recon (pos 2047))) (λ z. theirPairs recon) in
+        a-same (sym (lift-bind-on (intraCoded (ltb i 4) pred) (λ c. done (made c)) readEnd s a)) (
+        a-same (sym (lift-bind-on (dcDifference (ltb i 4)) (λ d. ourPairs (dcInside (pred +ℤ d)) d) ourEnd s a)) (
+        a-bind _ _ (dc-agrees s i a) (λ zz d e c.
+        subst (λ (recon : ℤ). Agree After s e (theirs recon) (bindResult (lift (ourPairs (dcInside (pred +ℤ d)) d)) ourEnd)) (sym (recon-is zz d c))
         (a-shall _ _ (λ z. pairs-agree d (eight-inside (pred +ℤ d) z) e)))))
 
-  intra-block : (isFar fs bs : Bool) (i : ℕ) → i < 6 → (x : S.Blocks) (w : World) (a : ℕ) → Intra isFar i G A q for back fs bs x w
+  intra-block : (isFar fs bs : Bool) (i : ℕ) → i < 6 → (x : S.Blocks) (w : SliceState) (a : ℕ) → Intra isFar i G A q for back fs bs x w
       → Agree (Intra isFar (suc i) G A q for back fs bs) s a (S.intraBlock G isFar q (natAbs A) i x) (O.oneBlock g m true i w)
   intra-block isFar fs bs i h x w a r =
-      subst (λ (w : World). Agree (Intra isFar (suc i) G A q for back fs bs) s a (S.intraBlock G isFar q (natAbs A) i x) (O.oneBlock g m true i w))
+      subst (λ (w : SliceState). Agree (Intra isFar (suc i) G A q for back fs bs) s a (S.intraBlock G isFar q (natAbs A) i x) (O.oneBlock g m true i w))
       (sym (r .is)) (intra-agrees isFar i h x (own fs bs (r .y) (r .cb) (r .cr)) (r .past) a)
 
-  inter-block : (o : Own) (p : S.Pasts) (i : ℕ) → i < 6 → (x : S.Blocks) (w : World) (a : ℕ) → Inter G A q for back o p x w
+  inter-block : (o : Own) (p : S.Pasts) (i : ℕ) → i < 6 → (x : S.Blocks) (w : SliceState) (a : ℕ) → Inter G A q for back o p x w
       → Agree (Inter G A q for back o p) s a (S.nonIntraBlock G q (natAbs A) i x) (O.oneBlock g m false i w)
-  unfolding S.nonIntraBlock O.oneBlock B.block codedBlock otherCoded B.reconstructed onward leave plain bind
+  unfolding S.nonIntraBlock O.oneBlock B.block codedBlock otherCoded B.reconstructed bindResult ifOk lift bind
   inter-block o past i h x w a r =
       let pred = getD (dcsOf o) (O.predictorOf i) (pos 0) in
       let Q = quantiser false q in
       let matrix = m .«non_intra_quant_matrix» in
-      let E : B.Read → Prog (Way World) = λ r. step (O.blockEnd g Q i (ours o (x .pels)) r) in
-      let E′ : Coded → Prog (Way World) = λ c. E (B.reconstructed Q matrix pred freshBlock c) in
-      subst (λ (w : World). Agree (Inter G A q for back o past) s a (S.nonIntraBlock G q (natAbs A) i x) (O.oneBlock g m false i w)) (sym (r .is)) (
-      a-same (sym (plain-bind-on otherCoded (λ c. done (B.reconstructed Q matrix pred freshBlock c)) E s a)) (
-      a-same (sym (plain-bind-on (pairs 0) (λ p. done (coded (pos 0) p)) E′ s a)) (
-      a-plain (pairs 0) (pairs 0) _ _ refl (
+      let E : B.BlockRead → Prog (Result SliceState) = λ r. fromResult (O.blockEnd g Q i (ours o (x .pels)) r) in
+      let E′ : CodedBlock → Prog (Result SliceState) = λ c. E (B.reconstructed Q matrix pred freshBlock c) in
+      subst (λ (w : SliceState). Agree (Inter G A q for back o past) s a (S.nonIntraBlock G q (natAbs A) i x) (O.oneBlock g m false i w)) (sym (r .is)) (
+      a-same (sym (lift-bind-on otherCoded (λ c. done (B.reconstructed Q matrix pred freshBlock c)) E s a)) (
+      a-same (sym (lift-bind-on (pairs 0) (λ p. done (coded (pos 0) p)) E′ s a)) (
+      a-lift (pairs 0) (pairs 0) _ _ refl (
       let p = run (pairs 0) s a .value in
       let from : S.Filled = record { recon = replicate 64 (pos 0); n = 0 } in
       a-way _ (S.coefficients G false q from p) _ (coefficients-same rule g m f b false q from p lone-begins) (λ y c.
-      let made : B.Read = record { filled = B.allPlaced Q matrix (B.filled freshBlock 0) (p .pairs); predictor = pred; end = p .end } in
+      let made : B.BlockRead = record { filled = B.allPlaced Q matrix (B.filled freshBlock 0) (p .pairs); predictor = pred; end = p .end } in
       let filled = ap (λ (l : List ℤ). B.allPlaced Q matrix (B.filled l 0) (p .pairs)) (sym times-zero) ∙ c .1 .same in
       let read : made ≡ wholeOf pred y = λ j. record { filled = filled j; predictor = pred; end = c .0 j } in
-      a-same (ap (λ (w : Way World). run (step w) s (run (pairs 0) s a .at))
+      a-same (ap (λ (w : Result SliceState). run (fromResult w) s (run (pairs 0) s a .at))
       (sym (block-ends false i o pred (dcsOf o) y (x .pels) made read (c .1 .lone) (kept-dcs o i h))))
-      (a-give (record { is = refl; past = r .past })))))))
+      (a-pure (record { is = refl; past = r .past })))))))
 
   -- ---- all six
 
-  pub intra-blocks : (isFar fs bs : Bool) (cbp : ℕ) (x : S.Blocks) (w : World) (a : ℕ) → Intra isFar 0 G A q for back fs bs x w
+  pub intra-blocks : (isFar fs bs : Bool) (cbp : ℕ) (x : S.Blocks) (w : SliceState) (a : ℕ) → Intra isFar 0 G A q for back fs bs x w
       → Agree (Intra isFar 6 G A q for back fs bs) s a (S.blocks G true isFar cbp q (natAbs A) x) (O.blocks g m true 63 w)
   unfolding S.blocks O.blocks
   intra-blocks isFar fs bs cbp x w a r =
       a-for (λ i. Intra isFar i G A q for back fs bs) 6 (S.block G true isFar cbp q (natAbs A)) (O.patternBlock g m true 63) (λ i h x w a r.
       rw (or-true (flag cbp (2 ^ (5 - i))), bits-63 i h) (intra-block isFar fs bs i h x w a r)) r
 
-  pub inter-blocks : (isFar : Bool) (o : Own) (p : S.Pasts) (cbp : ℕ) (x : S.Blocks) (w : World) (a : ℕ) → Inter G A q for back o p x w
+  pub inter-blocks : (isFar : Bool) (o : Own) (p : S.Pasts) (cbp : ℕ) (x : S.Blocks) (w : SliceState) (a : ℕ) → Inter G A q for back o p x w
       → Agree (Inter G A q for back o p) s a (S.blocks G false isFar cbp q (natAbs A) x) (O.blocks g m false cbp w)
   unfolding S.blocks O.blocks
   inter-blocks isFar o p cbp x w a r =
       a-for (λ i. Inter G A q for back o p) 6 (S.block G false isFar cbp q (natAbs A)) (O.patternBlock g m false cbp) (λ i h x w a r.
       some i h x w a r (flag cbp (2 ^ (5 - i)))) r
     where
-      some : (i : ℕ) → i < 6 → (x : S.Blocks) (w : World) (a : ℕ) → Inter G A q for back o p x w → (t : Bool)
-          → Agree (Inter G A q for back o p) s a (cond (t || false) (S.nonIntraBlock G q (natAbs A) i x) (give x))
-          (cond t (O.oneBlock g m false i w) (give w))
+      some : (i : ℕ) → i < 6 → (x : S.Blocks) (w : SliceState) (a : ℕ) → Inter G A q for back o p x w → (t : Bool)
+          → Agree (Inter G A q for back o p) s a (cond (t || false) (S.nonIntraBlock G q (natAbs A) i x) (pure x))
+          (cond t (O.oneBlock g m false i w) (pure w))
       some i h x w a r true = inter-block o p i h x w a r
-      some i h x w a r false = a-give r
+      some i h x w a r false = a-pure r

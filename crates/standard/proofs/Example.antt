@@ -8,11 +8,11 @@ use lib.IntN.{ℤ, pos}
 use lib.ListN.{getD, replicate}
 use Rattle.laws.specs.Signed.{clamp255, odd}
 use Rattle.laws.specs.Stores.{storeRow, storeRows}
-use Rattle.bits.specs.Bits.{bitAt, bitsAt, got, next}
+use Rattle.bits.specs.Bits.{bitAt, bitsAt, readAt, afterRead}
 use Rattle.bits.specs.Programs.{run, bind, forBelow, loop}
 use Rattle.codes.specs.Tables as Tables
 use Rattle.codes.specs.Standard.{macroblockTypeIntraCodes, macroblockTypePredictiveCodes, macroblockTypeBCodes}
-use Rattle.codes.specs.Walk.{walkTurn, walk, vlc}
+use Rattle.codes.specs.Walk.{walkStep, walk, vlc}
 use Rattle.codes.specs.Codes as Codes
 use Rattle.codes.specs.Matrices.{downFrom, diagonals, zigZag, intraQuantMatrix, premultiplierMatrix}
 use Rattle.motion.specs.Standard.{complement, right, recon, reconstructed, residual, standardVector}
@@ -24,12 +24,12 @@ use Rattle.coefficients.specs.Standard.{dctZZ0, dctRecon}
 use Rattle.transform.specs.Butterfly.{butterfly}
 use Rattle.transform.specs.Idct.{columns, rows, idct}
 use Rattle.prediction.specs.Standard.{formed}
-use Rattle.prediction.specs.Writers.{overwrite, addBlock, blockPlace}
+use Rattle.prediction.specs.Writers.{overwrite, addBlock, blockAddress}
 use Rattle.picture_state.specs.declared.types.Context.{Context}
 use Rattle.picture_state.specs.declared.types.Matrices.{Matrices}
-use Rattle.picture_state.specs.Ways.{Way, on, out, also, leave, onward, plain}
+use Rattle.picture_state.specs.Result.{Result, ok, error, andThen, ifOk, bindResult, lift}
 use Rattle.macroblock_head.specs.Heads.{macroblockType}
-use Rattle.slice.specs.Slices.{extraTurn, extra}
+use Rattle.slice.specs.Slices.{extraStep, extra}
 use Rattle.standard.specs.Standard as S
 use Rattle.standard.specs.Rules.{rust, printed}
 
@@ -50,20 +50,20 @@ direction = record { «full_pel_vector» = false; «r_size» = 0 }
 abbrev pels : List ℕ
 pels = replicate 1152 7 ++ replicate 1152 50 ++ replicate 1152 90
 
-abbrev slice : S.Rules → ℕ → List ℕ → Way S.Variables
+abbrev slice : S.Rules → ℕ → List ℕ → Result S.Variables
 slice rules type stream =
     let g : S.Coding = record { context = context type; matrices = matrices; forward = direction; backward = direction; rules = rules } in
     run (S.slice g 1 pels) stream 0 .value
 
 -- where the slice conforms: its last macroblock_address, macroblock_type, dct_dc_y_past, recon_right_for_prev
-abbrev variables : Way S.Variables → List ℤ
-variables (on v) = v .«previous_macroblock_address» ∷ pos (v .«macroblock_type») ∷ v .past .y ∷ v .forPrev .right ∷ []
-variables (out n l) = []
+abbrev variables : Result S.Variables → List ℤ
+variables (ok v) = v .«previous_macroblock_address» ∷ pos (v .«macroblock_type») ∷ v .past .y ∷ v .forPrev .right ∷ []
+variables (error n l) = []
 
 -- and a pel of each macroblock, in the first row of Y
-abbrev row : Way S.Variables → List ℕ
-row (on v) = getD (v .pels) 0 0 ∷ getD (v .pels) 16 0 ∷ getD (v .pels) 32 0 ∷ []
-row (out n l) = []
+abbrev row : Result S.Variables → List ℕ
+row (ok v) = getD (v .pels) 0 0 ∷ getD (v .pels) 16 0 ∷ getD (v .pels) 32 0 ∷ []
+row (error n l) = []
 
 abbrev intraBytes : List ℕ
 intraBytes = 0x08 ∷ 0x07 ∷ 0xf6 ∷ 0xd2 ∷ 0x94 ∷ 0x88 ∷ 0xb9 ∷ 0x4a ∷ 0x52 ∷ 0x22 ∷ 0xa2 ∷ 0x94 ∷ 0xa5 ∷ 0x22 ∷ 0x20 ∷ 0x00 ∷ 0x00 ∷ 0x01 ∷ 0x00 ∷ 0x00 ∷ []
@@ -88,17 +88,17 @@ pub record Slices : Type 0 where
   pub b-row : row (slice rust 3 bothWaysBytes) ≡ 50 ∷ 50 ∷ 90 ∷ []
 
 pub slices : Slices
-unfolding clamp255 odd storeRow storeRows bitAt bitsAt got next run bind forBelow loop
+unfolding clamp255 odd storeRow storeRows bitAt bitsAt readAt afterRead run bind forBelow loop
     Tables.macroblockAddressIncrementIndex Tables.macroblockAddressIncrementValue Tables.macroblockTypeIntraIndex Tables.macroblockTypeIntraValue
     Tables.macroblockTypePredictiveIndex Tables.macroblockTypePredictiveValue Tables.macroblockTypeBIndex Tables.macroblockTypeBValue
     Tables.motionIndex Tables.motionValue Tables.dctSizeLuminanceIndex Tables.dctSizeLuminanceValue Tables.dctSizeChrominanceIndex
     Tables.dctSizeChrominanceValue Tables.dctCoeffIndex Tables.dctCoeffValue
-    walkTurn walk vlc Codes.macroblockAddressIncrement Codes.macroblockTypeIntra Codes.macroblockTypePredictive Codes.macroblockTypeB Codes.motion
+    walkStep walk vlc Codes.macroblockAddressIncrement Codes.macroblockTypeIntra Codes.macroblockTypePredictive Codes.macroblockTypeB Codes.motion
     Codes.dctSizeLuminance Codes.dctSizeChrominance Codes.dctCoeff
     downFrom diagonals zigZag intraQuantMatrix premultiplierMatrix macroblockTypeIntraCodes macroblockTypePredictiveCodes macroblockTypeBCodes
     complement right recon reconstructed residual standardVector dctZZ0 dctRecon Dcs.dcSize Coefficients.runLevel Coefficients.coefficient dequantised
-    Syntax.pairTurn Syntax.pairs butterfly columns rows idct formed overwrite addBlock blockPlace
-    also leave onward plain macroblockType extraTurn extra
-    S.whileTurn S.while S.increment S.inTable S.vector S.forVector S.backVector S.predictedPlane S.predictedFrom S.predicted S.skippedFrom S.skipped
-    S.reconstructed S.dctDc S.written S.intraBlock S.nonIntraBlock S.blocks S.coded S.macroblock S.pastMacroblock S.sliceTurn S.slice
+    Syntax.pairStep Syntax.pairs butterfly columns rows idct formed overwrite addBlock blockAddress
+    andThen ifOk bindResult lift macroblockType extraStep extra
+    S.whileStep S.while S.increment S.inTable S.vector S.forVector S.backVector S.predictedPlane S.predictedFrom S.predicted S.skippedFrom S.skipped
+    S.reconstructed S.dctDc S.written S.intraBlock S.nonIntraBlock S.blocks S.codedMacroblock S.macroblock S.afterMacroblock S.sliceStep S.slice
 slices = record { i-slice = refl; i-row = refl; i-printed = refl; p-slice = refl; p-row = refl; b-slice = refl; b-row = refl }

@@ -5,38 +5,38 @@ use mathlib.Core.List.{List}
 use Prim.Native.Nat.{ℕ, _-_}
 use lib.Dec.{eqb}
 use borrow.Author.Tests.{eqb-true}
-use Rattle.bits.specs.Bits.{has, got, next, found}
+use Rattle.bits.specs.Bits.{has, readAt, afterRead, found}
 use Rattle.bits.specs.Programs.{Prog, done, skip, run, bind, bits}
 use Rattle.picture_state.specs.declared.types.Motion.{Motion}
 use Rattle.picture_state.specs.declared.types.Picture.{Picture}
-use Rattle.picture_state.specs.Ways.{Way, on, leave, onward, plain, give}
+use Rattle.picture_state.specs.Result.{Result, ok, ifOk, bindResult, lift, pure}
 use Rattle.picture.specs.Pictures as P
 use Rattle.standard.specs.Standard as S
-use Rattle.standard.proofs.Agreement.{Meets, Agree, a-same, a-give, a-onward, a-shall, plain-bind}
+use Rattle.standard.proofs.Agreement.{Meets, Agree, a-same, a-pure, a-bind, a-shall, lift-bind}
 use Rattle.standard.proofs.Related.{motionOf}
 use Rattle.standard.proofs.Slice.{Begun}
 
 module _ (s : List ℕ) where
-  field-bits : (n a : ℕ) → Agree _≡_ s a (S.field n) (plain (bits n))
-  unfolding S.field plain bind run
+  field-bits : (n a : ℕ) → Agree _≡_ s a (S.field n) (lift (bits n))
+  unfolding S.field lift bind run
   field-bits n a = record { is = go (has s a n) }
     where
-      go : (h : Bool) → Meets _≡_ (run (cond h (skip n (give (got s a n))) (done S.forbidden)) s a .value)
-          (run (cond h (skip n (give (got s a n))) (done S.forbidden)) s a .at) (on (got s a n)) (next s a n)
+      go : (h : Bool) → Meets _≡_ (run (cond h (skip n (pure (readAt s a n))) (done S.forbidden)) s a .value)
+          (run (cond h (skip n (pure (readAt s a n))) (done S.forbidden)) s a .at) (ok (readAt s a n)) (afterRead s a n)
       go true = (refl, refl)
       go false = tt
 
   -- a look ahead of the standard's
-  nextbits-their : {C D : Type 0} {Q : C → D → Type 0} (n a : ℕ) (f : ℕ → Prog (Way C)) {q : Prog (Way D)} → ((x : ℕ) → Agree Q s a (f x) q)
-      → Agree Q s a (onward (S.nextbits n) f) q
-  unfolding onward leave bind run
+  nextbits-their : {C D : Type 0} {Q : C → D → Type 0} (n a : ℕ) (f : ℕ → Prog (Result C)) {q : Prog (Result D)} → ((x : ℕ) → Agree Q s a (f x) q)
+      → Agree Q s a (bindResult (S.nextbits n) f) q
+  unfolding bindResult ifOk bind run
   nextbits-their {C} {D} {Q} n a f {q} k = record { is = go (has s a n) }
     where
-      p : Bool → Prog (Way C)
-      p h = bind (cond h (give (got s a n)) (done S.forbidden)) (leave f)
+      p : Bool → Prog (Result C)
+      p h = bind (cond h (pure (readAt s a n)) (done S.forbidden)) (ifOk f)
 
       go : (h : Bool) → Meets Q (run (p h) s a .value) (run (p h) s a .at) (run q s a .value) (run q s a .at)
-      go true = k (got s a n) .is
+      go true = k (readAt s a n) .is
       go false = tt
 
   -- one direction: its f code is not 0, and our motion has its flag and vector
@@ -44,29 +44,29 @@ module _ (s : List ℕ) where
     code : P.isZero x ≡ false
     motion : (m : Motion) → P.motionBy x m ≡ motionOf d (m .«is_set») (record { right = m .h; down = m .v })
 
-  direction-agrees : (a : ℕ) → Agree Directed s a S.direction (plain (P.direction true))
-  unfolding S.direction P.direction plain bind
+  direction-agrees : (a : ℕ) → Agree Directed s a S.direction (lift (P.direction true))
+  unfolding S.direction P.direction lift bind
   direction-agrees a =
-      a-same (sym (plain-bind (bits 1) (λ x. bind (bits 3) (last x)) s a)) (a-onward _ _ (field-bits 1 a) (λ x x′ e i.
+      a-same (sym (lift-bind (bits 1) (λ x. bind (bits 3) (last x)) s a)) (a-bind _ _ (field-bits 1 a) (λ x x′ e i.
       subst (λ (x′ : ℕ). Agree Directed s e (theirs x) (ours x′)) i (
-      a-same (sym (plain-bind (bits 3) (last x) s e)) (a-onward _ _ (field-bits 3 e) (λ f f′ e j.
-      subst (λ (f′ : ℕ). Agree Directed s e (theirs′ x f) (plain (last x f′))) j (
-      a-shall (not (eqb f 0)) (λ z. give (told x f)) (λ h. a-give (directed x f (sym (Bool·not-not (eqb f 0)) ∙ ap not h)))))))))
+      a-same (sym (lift-bind (bits 3) (last x) s e)) (a-bind _ _ (field-bits 3 e) (λ f f′ e j.
+      subst (λ (f′ : ℕ). Agree Directed s e (theirs′ x f) (lift (last x f′))) j (
+      a-shall (not (eqb f 0)) (λ z. pure (told x f)) (λ h. a-pure (directed x f (sym (Bool·not-not (eqb f 0)) ∙ ap not h)))))))))
     where
       told : ℕ → ℕ → S.Direction
       told x f = record { «full_pel_vector» = not (eqb x 0); «r_size» = f - 1 }
 
-      theirs′ : ℕ → ℕ → Prog (Way S.Direction)
-      theirs′ x f = onward (S.shall (not (eqb f 0))) (λ z. give (told x f))
+      theirs′ : ℕ → ℕ → Prog (Result S.Direction)
+      theirs′ x f = bindResult (S.shall (not (eqb f 0))) (λ z. pure (told x f))
 
-      theirs : ℕ → Prog (Way S.Direction)
-      theirs x = onward (S.field 3) (theirs′ x)
+      theirs : ℕ → Prog (Result S.Direction)
+      theirs x = bindResult (S.field 3) (theirs′ x)
 
       last : ℕ → ℕ → Prog P.Direction
       last x f = done (P.present (not (eqb x 0)) f)
 
-      ours : ℕ → Prog (Way P.Direction)
-      ours x = plain (bind (bits 3) (last x))
+      ours : ℕ → Prog (Result P.Direction)
+      ours x = lift (bind (bits 3) (last x))
 
       directed : (x f : ℕ) → eqb f 0 ≡ false → Directed (told x f) (P.present (not (eqb x 0)) f)
       directed x f h = record { code = h; motion = λ m. rw h refl }
@@ -75,23 +75,23 @@ module _ (s : List ℕ) where
   pub record Headed (p : Picture) (h : S.Header) (x : P.PictureHeader) : Type 0 where
     pub decoded : P.isDecoded x ≡ true
     pub type : x .«picture_coding_type» ≡ h .«picture_coding_type»
-    pub begun : Begun (h .forward) (h .backward) (P.headed x p .slice)
+    pub begun : Begun (h .forward) (h .backward) (P.withPictureHeader x p .slice)
 
   module _ (p : Picture) (df db : S.Direction) (b : Begun df db (p .slice)) where
     abbrev found-header : ℕ → S.Direction → S.Direction → S.Header
     found-header type f b = record { «picture_coding_type» = type; forward = f; backward = b }
 
     -- extra_bit_picture
-    abbrev ends : ℕ → S.Direction → S.Direction → Prog (Way S.Header)
-    ends type f b = onward (S.nextbits 1) (λ x. onward (S.shall (eqb x 0)) (λ z. give (found-header type f b)))
+    abbrev ends : ℕ → S.Direction → S.Direction → Prog (Result S.Header)
+    ends type f b = bindResult (S.nextbits 1) (λ x. bindResult (S.shall (eqb x 0)) (λ z. pure (found-header type f b)))
 
     ends-agree : {type : ℕ} {f b : S.Direction} {x : P.PictureHeader} {e : ℕ} → Headed p (found-header type f b) x
-        → Agree (Headed p) s e (ends type f b) (give x)
-    ends-agree {type} {f} {b} {x} {e} r = nextbits-their 1 e (λ y. onward (S.shall (eqb y 0)) (λ z. give (found-header type f b)))
-        (λ y. a-shall (eqb y 0) (λ z. give (found-header type f b)) (λ z. a-give r))
+        → Agree (Headed p) s e (ends type f b) (pure x)
+    ends-agree {type} {f} {b} {x} {e} r = nextbits-their 1 e (λ y. bindResult (S.shall (eqb y 0)) (λ z. pure (found-header type f b)))
+        (λ y. a-shall (eqb y 0) (λ z. pure (found-header type f b)) (λ z. a-pure r))
 
-    abbrev directions : ℕ → Prog (Way S.Header)
-    directions type = onward (cond (eqb type 1) (give df) S.direction) (λ f. onward (cond (eqb type 3) S.direction (give db)) (ends type f))
+    abbrev directions : ℕ → Prog (Result S.Header)
+    directions type = bindResult (cond (eqb type 1) (pure df) S.direction) (λ f. bindResult (cond (eqb type 3) S.direction (pure db)) (ends type f))
 
     abbrev m : Motion
     m = p .slice .«motion_forward»
@@ -114,8 +114,8 @@ module _ (s : List ℕ) where
       abbrev ours : ℕ → Prog P.PictureHeader
       ours type = bind (P.direction (eqb type 2 || eqb type 3)) (behind type)
 
-      i-header : (e : ℕ) → Agree (Headed p) s e (directions 1) (plain (ours 1))
-      unfolding onward leave bind plain P.direction
+      i-header : (e : ℕ) → Agree (Headed p) s e (directions 1) (lift (ours 1))
+      unfolding bindResult ifOk bind lift P.direction
       i-header e =
           ends-agree (record {
             decoded = refl;
@@ -123,8 +123,8 @@ module _ (s : List ℕ) where
             begun = record { forSet = b .forSet; backSet = b .backSet; for = b .for; back = b .back; forward = b .forward; backward = b .backward };
           })
 
-      p-ends : (f : S.Direction) (y : P.Direction) (e : ℕ) → Directed f y → Agree (Headed p) s e (onward (give db) (ends 2 f)) (plain (behind 2 y))
-      unfolding onward leave bind plain P.direction
+      p-ends : (f : S.Direction) (y : P.Direction) (e : ℕ) → Directed f y → Agree (Headed p) s e (bindResult (pure db) (ends 2 f)) (lift (behind 2 y))
+      unfolding bindResult ifOk bind lift P.direction
       p-ends f y e k =
           ends-agree (record {
             decoded = rw (k .code) refl;
@@ -139,11 +139,11 @@ module _ (s : List ℕ) where
             };
           })
 
-      p-header : (e : ℕ) → Agree (Headed p) s e (directions 2) (plain (ours 2))
-      p-header e = a-same (sym (plain-bind (P.direction true) (behind 2) s e)) (a-onward _ _ (direction-agrees e) (λ f y e k. p-ends f y e k))
+      p-header : (e : ℕ) → Agree (Headed p) s e (directions 2) (lift (ours 2))
+      p-header e = a-same (sym (lift-bind (P.direction true) (behind 2) s e)) (a-bind _ _ (direction-agrees e) (λ f y e k. p-ends f y e k))
 
-      b-ends : (f g : S.Direction) (y z : P.Direction) (e : ℕ) → Directed f y → Directed g z → Agree (Headed p) s e (ends 3 f g) (plain (done (made 3 y z)))
-      unfolding bind plain
+      b-ends : (f g : S.Direction) (y z : P.Direction) (e : ℕ) → Directed f y → Directed g z → Agree (Headed p) s e (ends 3 f g) (lift (done (made 3 y z)))
+      unfolding bind lift
       b-ends f g y z e k l =
           ends-agree (record {
             decoded = rw (k .code, l .code) refl;
@@ -158,31 +158,31 @@ module _ (s : List ℕ) where
             };
           })
 
-      b-header : (e : ℕ) → Agree (Headed p) s e (directions 3) (plain (ours 3))
+      b-header : (e : ℕ) → Agree (Headed p) s e (directions 3) (lift (ours 3))
       b-header e =
-          a-same (sym (plain-bind (P.direction true) (behind 3) s e)) (a-onward _ _ (direction-agrees e) (λ f y e k.
+          a-same (sym (lift-bind (P.direction true) (behind 3) s e)) (a-bind _ _ (direction-agrees e) (λ f y e k.
           let K : Bool → Prog P.PictureHeader = λ t. bind (P.direction (not t)) (λ b. done (made 3 y b)) in
-          a-same (ap (λ (t : Bool). run (plain (K t)) s e) (sym (k .code))) (
-          a-same (sym (plain-bind (P.direction true) (λ b. done (made 3 y b)) s e)) (
-          a-onward _ _ (direction-agrees e) (λ g z e l. b-ends f g y z e k l)))))
+          a-same (ap (λ (t : Bool). run (lift (K t)) s e) (sym (k .code))) (
+          a-same (sym (lift-bind (P.direction true) (λ b. done (made 3 y b)) s e)) (
+          a-bind _ _ (direction-agrees e) (λ g z e l. b-ends f g y z e k l)))))
 
-    pub header-agrees : (a : ℕ) → Agree (Headed p) s a (S.header df db) (plain P.pictureHeader)
+    pub header-agrees : (a : ℕ) → Agree (Headed p) s a (S.header df db) (lift P.pictureHeader)
     unfolding S.header P.pictureHeader
     header-agrees a =
-        a-same (sym (plain-bind (bits 10) (λ t. bind (bits 3) (typed t)) s a)) (a-onward _ _ (field-bits 10 a) (λ x t e i.
-        a-same (sym (plain-bind (bits 3) (typed t) s e)) (a-onward _ _ (field-bits 3 e) (λ type type′ e i.
-        subst (λ (u : ℕ). Agree (Headed p) s e (delayed type) (plain (typed t u))) i (
-        a-same (sym (plain-bind (bits 16) (λ d. ours t d type) s e)) (a-onward _ _ (field-bits 16 e) (λ x d e i.
+        a-same (sym (lift-bind (bits 10) (λ t. bind (bits 3) (typed t)) s a)) (a-bind _ _ (field-bits 10 a) (λ x t e i.
+        a-same (sym (lift-bind (bits 3) (typed t) s e)) (a-bind _ _ (field-bits 3 e) (λ type type′ e i.
+        subst (λ (u : ℕ). Agree (Headed p) s e (delayed type) (lift (typed t u))) i (
+        a-same (sym (lift-bind (bits 16) (λ d. ours t d type) s e)) (a-bind _ _ (field-bits 16 e) (λ x d e i.
         a-shall _ _ (λ h. by-type t d type e (eqb type 1) refl (eqb type 2) refl (eqb type 3) refl h))))))))
       where
-        delayed : ℕ → Prog (Way S.Header)
-        delayed type = onward (S.field 16) (λ delay. onward (S.shall (eqb type 1 || eqb type 2 || eqb type 3)) (λ z. directions type))
+        delayed : ℕ → Prog (Result S.Header)
+        delayed type = bindResult (S.field 16) (λ delay. bindResult (S.shall (eqb type 1 || eqb type 2 || eqb type 3)) (λ z. directions type))
 
         typed : ℕ → ℕ → Prog P.PictureHeader
         typed t type = bind (bits 16) (λ d. ours t d type)
 
         Fits : ℕ → ℕ → ℕ → ℕ → Type 0
-        Fits t d e type = Agree (Headed p) s e (directions type) (plain (ours t d type))
+        Fits t d e type = Agree (Headed p) s e (directions type) (lift (ours t d type))
 
         by-type : (t d type e : ℕ) (x : Bool) → eqb type 1 ≡ x → (y : Bool) → eqb type 2 ≡ y → (z : Bool) → eqb type 3 ≡ z → (x || y || z) ≡ true
             → Fits t d e type

@@ -19,11 +19,11 @@ use Rattle.motion.proofs.Standard.{standard-step}
 use Rattle.picture_state.specs.declared.types.Motion.{Motion}
 use Rattle.picture_state.specs.declared.types.Slice.{Slice}
 use Rattle.picture_state.specs.State.{scaleAs, motionsAs, dcReset}
-use Rattle.picture_state.specs.Ways.{Way, leave, onward, plain, give}
+use Rattle.picture_state.specs.Result.{Result, ifOk, bindResult, lift, pure}
 use Rattle.macroblock_head.specs.Heads as O
 use Rattle.picture_state.specs.Flags.{flag}
 use Rattle.standard.specs.Standard as S
-use Rattle.standard.proofs.Agreement.{Agree, a-same, a-give, a-plain, a-onward, a-as, plain-bind, plain-bind-on}
+use Rattle.standard.proofs.Agreement.{Agree, a-same, a-pure, a-lift, a-bind, a-as, lift-bind, lift-bind-on}
 use Rattle.standard.proofs.Related.{In, motionOf, Own, own, sliceOf}
 
 zero-range : (f : ℕ) → InRange (2 ^ f) (pos 0)
@@ -41,55 +41,55 @@ step-in s r z a i = rw (standard-step r z i s a, step-is r z s a)
 module _ {s : List ℕ} where
   -- a vector that is read
   vector-agrees : (d : S.Direction) (b : Bool) (x : S.Vector) (a : ℕ) → In d x
-      → Agree (λ y m. In d y × (m ≡ motionOf d b y)) s a (S.vector d x) (plain (O.vector (motionOf d b x)))
-  unfolding S.vector O.vector plain bind
+      → Agree (λ y m. In d y × (m ≡ motionOf d b y)) s a (S.vector d x) (lift (O.vector (motionOf d b x)))
+  unfolding S.vector O.vector lift bind
   vector-agrees d b x a i =
       let r = d .«r_size» in
-      a-same (sym (plain-bind (motionVector r (x .right)) _ s a)) (
-      a-plain (standardVector r (x .right)) (motionVector r (x .right)) _ _ (standard-step r (x .right) (i .right) s a) (
-      a-same (sym (plain-bind (motionVector r (x .down)) _ s _)) (
-      a-plain (standardVector r (x .down)) (motionVector r (x .down)) _ _ (standard-step r (x .down) (i .down) s _) (
-      a-give (record { right = step-in s r (x .right) _ (i .right); down = step-in s r (x .down) _ (i .down) }, refl)))))
+      a-same (sym (lift-bind (motionVector r (x .right)) _ s a)) (
+      a-lift (standardVector r (x .right)) (motionVector r (x .right)) _ _ (standard-step r (x .right) (i .right) s a) (
+      a-same (sym (lift-bind (motionVector r (x .down)) _ s _)) (
+      a-lift (standardVector r (x .down)) (motionVector r (x .down)) _ _ (standard-step r (x .down) (i .down) s _) (
+      a-pure (record { right = step-in s r (x .right) _ (i .right); down = step-in s r (x .down) _ (i .down) }, refl)))))
 
   -- the forward vector behind the type t
   forward-agrees : (g : S.Coding) (t : ℕ) (x : S.Vector) (a : ℕ) → In (g .forward) x
       → Agree (λ y m. In (g .forward) y × (m ≡ motionOf (g .forward) (flag t 8) y) × (flag t 8 ≡ false → eqb (g .context .«picture_type») 2 ≡ true → y
-      ≡ S.zero-vector)) s a (S.forVector g t x) (plain (O.forward (g .context .«picture_type») (motionOf (g .forward) (flag t 8) x)))
-  unfolding S.forVector O.forward plain bind
+      ≡ S.zero-vector)) s a (S.forVector g t x) (lift (O.forward (g .context .«picture_type») (motionOf (g .forward) (flag t 8) x)))
+  unfolding S.forVector O.forward lift bind
   forward-agrees g t x a i = go (flag t 8) (eqb (g .context .«picture_type») 2)
     where
       go : (b p : Bool) → Agree (λ y m. In (g .forward) y × (m ≡ motionOf (g .forward) b y) × (b ≡ false → p ≡ true → y ≡ S.zero-vector)) s a
-          (cond b (S.vector (g .forward) x) (cond p (give S.zero-vector) (give x)))
-          (plain (cond b (O.vector (motionOf (g .forward) b x)) (cond p (done (motionOf (g .forward) b S.zero-vector)) (done (motionOf (g .forward) b x)))))
+          (cond b (S.vector (g .forward) x) (cond p (pure S.zero-vector) (pure x)))
+          (lift (cond b (O.vector (motionOf (g .forward) b x)) (cond p (done (motionOf (g .forward) b S.zero-vector)) (done (motionOf (g .forward) b x)))))
       go true p = a-as (λ y m h. (h .0, h .1, λ z. absurd (false≢true (sym z)))) (vector-agrees (g .forward) true x a i)
-      go false true = a-give (zero-in (g .forward), refl, λ z y. refl)
-      go false false = a-give (i, refl, λ z y. absurd (false≢true y))
+      go false true = a-pure (zero-in (g .forward), refl, λ z y. refl)
+      go false false = a-pure (i, refl, λ z y. absurd (false≢true y))
 
   backward-agrees : (g : S.Coding) (t : ℕ) (x : S.Vector) (a : ℕ) → In (g .backward) x
       → Agree (λ y m. In (g .backward) y × (m ≡ motionOf (g .backward) (flag t 4) y) × (flag t 4 ≡ false → y ≡ x)) s a (S.backVector g t x)
-      (plain (O.backward (motionOf (g .backward) (flag t 4) x)))
-  unfolding S.backVector O.backward plain bind
+      (lift (O.backward (motionOf (g .backward) (flag t 4) x)))
+  unfolding S.backVector O.backward lift bind
   backward-agrees g t x a i = go (flag t 4)
     where
       go : (b : Bool) → Agree (λ y m. In (g .backward) y × (m ≡ motionOf (g .backward) b y) × (b ≡ false → y ≡ x)) s a
-          (cond b (S.vector (g .backward) x) (give x))
-          (plain (cond b (O.vector (motionOf (g .backward) b x)) (done (motionOf (g .backward) b x))))
+          (cond b (S.vector (g .backward) x) (pure x))
+          (lift (cond b (O.vector (motionOf (g .backward) b x)) (done (motionOf (g .backward) b x))))
       go true = a-as (λ y m h. (h .0, h .1, λ z. absurd (false≢true (sym z)))) (vector-agrees (g .backward) true x a i)
-      go false = a-give (i, refl, λ z. refl)
+      go false = a-pure (i, refl, λ z. refl)
 
   scale-agrees : (t : ℕ) (y : Slice) (a : ℕ)
-      → Agree (λ q z. z ≡ scaleAs q y) s a (cond (flag t 16) (plain (bits 5)) (give (y .«quantizer_scale»))) (plain (O.scale t y))
-  unfolding O.scale plain bind run
+      → Agree (λ q z. z ≡ scaleAs q y) s a (cond (flag t 16) (lift (bits 5)) (pure (y .«quantizer_scale»))) (lift (O.scale t y))
+  unfolding O.scale lift bind run
   scale-agrees t y a = go (flag t 16)
     where
-      go : (b : Bool) → Agree (λ q z. z ≡ scaleAs q y) s a (cond b (plain (bits 5)) (give (y .«quantizer_scale»)))
-          (plain (cond b (bind (bits 5) (λ q. done (scaleAs q y))) (done y)))
+      go : (b : Bool) → Agree (λ q z. z ≡ scaleAs q y) s a (cond b (lift (bits 5)) (pure (y .«quantizer_scale»)))
+          (lift (cond b (bind (bits 5) (λ q. done (scaleAs q y))) (done y)))
       go true = record { is = (refl, refl) }
-      go false = a-give refl
+      go false = a-pure refl
 
 -- the steps of the standard behind the type t, up to its vectors
-abbrev pub their : {C : Type 0} → S.Coding → ℕ → ℕ → S.Vector → S.Vector → (ℕ → S.Vector → S.Vector → Prog (Way C)) → Prog (Way C)
-their g t q f b F = onward (cond (flag t 16) (plain (bits 5)) (give q)) (λ q. onward (S.forVector g t f) (λ f. onward (S.backVector g t b) (F q f)))
+abbrev pub their : {C : Type 0} → S.Coding → ℕ → ℕ → S.Vector → S.Vector → (ℕ → S.Vector → S.Vector → Prog (Result C)) → Prog (Result C)
+their g t q f b F = bindResult (cond (flag t 16) (lift (bits 5)) (pure q)) (λ q. bindResult (S.forVector g t f) (λ f. bindResult (S.backVector g t b) (F q f)))
 
 -- our predictors behind a macroblock that is not intra
 abbrev pub reset : ℕ → Own
@@ -97,29 +97,30 @@ reset t = own (flag t 8) (flag t 4) (pos 128) (pos 128) (pos 128)
 
 module _ {C D : Type 0} {Q : C → D → Type 0} {s : List ℕ} (g : S.Coding) (A : ℤ) (q : ℕ) (f b₀ : S.Vector) (o : Own) (t : ℕ) (i : In (g .forward) f)
     (j : In (g .backward) b₀)
-    (F : ℕ → S.Vector → S.Vector → Prog (Way C)) (G : Slice → Prog (Way D)) where
+    (F : ℕ → S.Vector → S.Vector → Prog (Result C)) (G : Slice → Prog (Result D)) where
   -- not intra
   pub inter-head : flag t 1 ≡ false
       → ((q : ℕ) (f b : S.Vector) (e : ℕ) → In (g .forward) f → In (g .backward) b
       → (flag t 8 ≡ false → eqb (g .context .«picture_type») 2 ≡ true → f ≡ S.zero-vector) → (flag t 4 ≡ false → b ≡ b₀)
       → Agree Q s e (F q f b) (G (sliceOf g A q f b (reset t))))
-      → (a : ℕ) → Agree Q s a (their g t q f b₀ F) (onward (plain (O.head (g .context .«picture_type») t (sliceOf g A q f b₀ o))) G)
-  unfolding O.head O.vectors plain bind onward leave
+      → (a : ℕ) → Agree Q s a (their g t q f b₀ F) (bindResult (lift (O.head (g .context .«picture_type») t (sliceOf g A q f b₀ o))) G)
+  unfolding O.head O.vectors lift bind bindResult ifOk
   inter-head h k a =
       let x = O.flagged t (sliceOf g A q f b₀ o) in
-      let rest : Bool → Slice → Prog Slice = λ b z. cond b (done (O.still z)) (O.vectors (g .context .«picture_type») (dcReset z)) in
-      a-same (sym (plain-bind-on (O.scale t x) (rest (flag t 1)) G s a)) (
-      a-onward _ _ (scale-agrees t x a) (λ q z e w.
+      let rest : Bool → Slice → Prog Slice = λ b z. cond b (done (O.vectorsReset z)) (O.vectors (g .context .«picture_type») (dcReset z)) in
+      a-same (sym (lift-bind-on (O.scale t x) (rest (flag t 1)) G s a)) (
+      a-bind _ _ (scale-agrees t x a) (λ q z e w.
       let u = scaleAs q x in
       let F′ = O.forward (g .context .«picture_type») (u .«motion_forward») in
       let B′ = O.backward (u .«motion_backward») in
-      subst (λ (z : Slice). Agree Q s e (onward (S.forVector g t f) (λ f. onward (S.backVector g t b₀) (F q f))) (onward (plain (rest (flag t 1) z)) G))
+      subst (λ (z : Slice). Agree Q s e (bindResult (S.forVector g t f) (λ f. bindResult (S.backVector g t b₀) (F q f)))
+          (bindResult (lift (rest (flag t 1) z)) G))
       (sym w) (
-      a-same (ap (λ (b : Bool). run (onward (plain (rest b u)) G) s e) (sym h)) (
-      a-same (sym (plain-bind-on F′ (λ f. bind B′ (λ b. done (motionsAs f b (dcReset u)))) G s e)) (
-      a-onward _ _ (forward-agrees g t f e i) (λ f m e c.
-      a-same (sym (plain-bind-on B′ (λ b. done (motionsAs m b (dcReset u))) G s e)) (
-      a-onward _ _ (backward-agrees g t b₀ e j) (λ b n e d.
+      a-same (ap (λ (b : Bool). run (bindResult (lift (rest b u)) G) s e) (sym h)) (
+      a-same (sym (lift-bind-on F′ (λ f. bind B′ (λ b. done (motionsAs f b (dcReset u)))) G s e)) (
+      a-bind _ _ (forward-agrees g t f e i) (λ f m e c.
+      a-same (sym (lift-bind-on B′ (λ b. done (motionsAs m b (dcReset u))) G s e)) (
+      a-bind _ _ (backward-agrees g t b₀ e j) (λ b n e d.
       subst (λ (m : Motion). Agree Q s e (F q f b) (G (motionsAs m n (dcReset u)))) (sym (c .1)) (
       subst (λ (n : Motion). Agree Q s e (F q f b) (G (motionsAs (motionOf (g .forward) (flag t 8) f) n (dcReset u)))) (sym (d .1)) (
       k q f b e (c .0) (d .0) (c .2) (d .2)))))))))))
@@ -128,20 +129,21 @@ module _ {C D : Type 0} {Q : C → D → Type 0} {s : List ℕ} (g : S.Coding) (
   pub intra-head : flag t 1 ≡ true → flag t 8 ≡ false → flag t 4 ≡ false
       → ((q : ℕ) (f : S.Vector) (e : ℕ)
       → Agree Q s e (F q f b₀) (G (sliceOf g A q S.zero-vector S.zero-vector (own (flag t 8) (flag t 4) (o .y) (o .cb) (o .cr)))))
-      → (a : ℕ) → Agree Q s a (their g t q f b₀ F) (onward (plain (O.head (g .context .«picture_type») t (sliceOf g A q f b₀ o))) G)
-  unfolding O.head S.forVector S.backVector plain bind onward leave
+      → (a : ℕ) → Agree Q s a (their g t q f b₀ F) (bindResult (lift (O.head (g .context .«picture_type») t (sliceOf g A q f b₀ o))) G)
+  unfolding O.head S.forVector S.backVector lift bind bindResult ifOk
   intra-head h h8 h4 k a =
       let x = O.flagged t (sliceOf g A q f b₀ o) in
-      let rest : Bool → Slice → Prog Slice = λ b z. cond b (done (O.still z)) (O.vectors (g .context .«picture_type») (dcReset z)) in
-      a-same (sym (plain-bind-on (O.scale t x) (rest (flag t 1)) G s a)) (
-      a-onward _ _ (scale-agrees t x a) (λ q z e w.
-      subst (λ (z : Slice). Agree Q s e (onward (S.forVector g t f) (λ f. onward (S.backVector g t b₀) (F q f))) (onward (plain (rest (flag t 1) z)) G))
+      let rest : Bool → Slice → Prog Slice = λ b z. cond b (done (O.vectorsReset z)) (O.vectors (g .context .«picture_type») (dcReset z)) in
+      a-same (sym (lift-bind-on (O.scale t x) (rest (flag t 1)) G s a)) (
+      a-bind _ _ (scale-agrees t x a) (λ q z e w.
+      subst (λ (z : Slice). Agree Q s e (bindResult (S.forVector g t f) (λ f. bindResult (S.backVector g t b₀) (F q f)))
+          (bindResult (lift (rest (flag t 1) z)) G))
       (sym w) (
-      a-same (ap (λ (b : Bool). run (onward (plain (rest b (scaleAs q x))) G) s e) (sym h)) (go q e (eqb (g .context .«picture_type») 2)))))
+      a-same (ap (λ (b : Bool). run (bindResult (lift (rest b (scaleAs q x))) G) s e) (sym h)) (go q e (eqb (g .context .«picture_type») 2)))))
     where
       go : (q e : ℕ) (p : Bool) → Agree Q s e
-          (onward (cond (flag t 8) (S.vector (g .forward) f) (cond p (give S.zero-vector) (give f)))
-          (λ f. onward (cond (flag t 4) (S.vector (g .backward) b₀) (give b₀)) (F q f)))
+          (bindResult (cond (flag t 8) (S.vector (g .forward) f) (cond p (pure S.zero-vector) (pure f)))
+          (λ f. bindResult (cond (flag t 4) (S.vector (g .backward) b₀) (pure b₀)) (F q f)))
           (G (sliceOf g A q S.zero-vector S.zero-vector (own (flag t 8) (flag t 4) (o .y) (o .cb) (o .cr))))
       go q e true = rw (h8, h4) (rw (h8, h4) at (k q S.zero-vector e))
       go q e false = rw (h8, h4) (rw (h8, h4) at (k q f e))

@@ -7,21 +7,21 @@ use native.Mathlib.Omega.{arith}
 use borrow.Author.Tests.{leb-true, eqb-true, ne-eqb}
 use lib.Dec.{eqb, leb}
 use lib.ListN.{length, getD}
-use Rattle.laws.specs.Turns.{Turn, again, stop}
+use Rattle.laws.specs.Loops.{Step, continue, finish}
 use Rattle.laws.proofs.Tests.{both}
 use Rattle.bits.specs.Bounds.{longestStream}
-use Rattle.bits.specs.Bits.{has, got}
-use Rattle.bits.specs.Programs.{Prog, Out, done, skip, run, bind, loop, turn, many}
+use Rattle.bits.specs.Bits.{has, readAt}
+use Rattle.bits.specs.Programs.{Prog, Out, done, skip, run, bind, loop, continueWith, many}
 use Rattle.bits.proofs.Programs.{run-bind, next-has}
 use Rattle.bits.proofs.Rules.{loop-suc}
 use Rattle.codes.specs.Codes.{macroblockAddressIncrement}
 use Rattle.codes.specs.Standard.{code, macroblockAddressIncrementCodes}
 use Rattle.codes.proofs.Standard.{agrees-macroblock-address-increment}
-use Rattle.picture_state.specs.Ways.{Way, on, leave, onward, plain, give}
+use Rattle.picture_state.specs.Result.{Result, ok, ifOk, bindResult, lift, pure}
 use Rattle.macroblock_head.specs.Increments as O
 use Rattle.standard.specs.Standard as S
 use Rattle.macroblock_head.proofs.Fuel.{increment-fuel}
-use Rattle.standard.proofs.Agreement.{Meets, Agree, run-plain, a-by, a-same}
+use Rattle.standard.proofs.Agreement.{Meets, Agree, run-lift, a-by, a-same}
 
 mem-at : {A : Type 0} (d : A) (xs : List A) (k : ℕ) → k < length xs → List·Memᴰ (getD xs k d) xs
 mem-at d [] k h = let z : ⊥ = omega arith in absurd z
@@ -31,100 +31,100 @@ mem-at d (x ∷ xs) (suc k) h = List·Memᴰ·tail (mem-at d xs k (omega arith))
 -- ---- the two codes of 11 bits
 
 module _ (s : List ℕ) (a : ℕ) (h : has s a 11 ≡ true) where
-  eleven : (word value k : ℕ) → List·Memᴰ (code 11 word value) macroblockAddressIncrementCodes → got s a 11 ≡ word → run macroblockAddressIncrement s a
+  eleven : (word value k : ℕ) → List·Memᴰ (code 11 word value) macroblockAddressIncrementCodes → readAt s a 11 ≡ word → run macroblockAddressIncrement s a
       ≡ record { value = value; at = a + 11 }
-  unfolding macroblockAddressIncrement got
+  unfolding macroblockAddressIncrement readAt
   eleven word value k m e =
       let r = agrees-macroblock-address-increment .reads (code 11 word value) m s a (rw h at e) in
       r .is ∙ ap (λ (i : ℕ). record { value = value; at = i }) (omega (arith, leb-true 11 (length s * 8 - a) h))
 
-  stuffing : got s a 11 ≡ 15 → run macroblockAddressIncrement s a ≡ record { value = 34; at = a + 11 }
+  stuffing : readAt s a 11 ≡ 15 → run macroblockAddressIncrement s a ≡ record { value = 34; at = a + 11 }
   unfolding macroblockAddressIncrementCodes
   stuffing e = eleven 15 34 33 (mem-at (code 0 0 0) macroblockAddressIncrementCodes 33 (omega arith)) e
 
-  escape : got s a 11 ≡ 8 → run macroblockAddressIncrement s a ≡ record { value = 35; at = a + 11 }
+  escape : readAt s a 11 ≡ 8 → run macroblockAddressIncrement s a ≡ record { value = 35; at = a + 11 }
   unfolding macroblockAddressIncrementCodes
   escape e = eleven 8 35 34 (mem-at (code 0 0 0) macroblockAddressIncrementCodes 34 (omega arith)) e
 
   -- our turn there
-  drops : (x : ℕ) → x ≡ 0 → got s a 11 ≡ 15 → run (O.incrementTurn x) s a ≡ record { value = again x; at = a + 11 }
-  unfolding O.incrementTurn run
+  drops : (x : ℕ) → x ≡ 0 → readAt s a 11 ≡ 15 → run (O.incrementStep x) s a ≡ record { value = continue x; at = a + 11 }
+  unfolding O.incrementStep run
   drops x z e = run-bind macroblockAddressIncrement _ s a ∙ rw (stuffing e, z)
 
-  adds : (x : ℕ) → got s a 11 ≡ 8 → run (O.incrementTurn x) s a ≡ record { value = again (x + 33); at = a + 11 }
-  unfolding O.incrementTurn run
+  adds : (x : ℕ) → readAt s a 11 ≡ 8 → run (O.incrementStep x) s a ≡ record { value = continue (x + 33); at = a + 11 }
+  unfolding O.incrementStep run
   adds x e = run-bind macroblockAddressIncrement _ s a ∙ rw (escape e)
 
 -- ---- the two loops
 
 module _ (s : List ℕ) where
-  onward-bind : {A B C : Type 0} (p : Prog A) (k : A → Prog (Way B)) (f : B → Prog (Way C)) (a : ℕ)
-      → run (onward (bind p k) f) s a ≡ run (onward (k (run p s a .value)) f) s (run p s a .at)
-  unfolding onward
-  onward-bind p k f a =
-      run-bind (bind p k) (leave f) s a ∙ ap (λ (o : Out (Way _)). run (leave f (o .value)) s (o .at)) (run-bind p k s a)
-      ∙ sym (run-bind (k (run p s a .value)) (leave f) s (run p s a .at))
+  bind-bind : {A B C : Type 0} (p : Prog A) (k : A → Prog (Result B)) (f : B → Prog (Result C)) (a : ℕ)
+      → run (bindResult (bind p k) f) s a ≡ run (bindResult (k (run p s a .value)) f) s (run p s a .at)
+  unfolding bindResult
+  bind-bind p k f a =
+      run-bind (bind p k) (ifOk f) s a ∙ ap (λ (o : Out (Result _)). run (ifOk f (o .value)) s (o .at)) (run-bind p k s a)
+      ∙ sym (run-bind (k (run p s a .value)) (ifOk f) s (run p s a .at))
 
-  abbrev ours : ℕ → ℕ → Prog (Way ℕ)
-  ours n x = plain (loop n O.incrementTurn 0 x)
+  abbrev ours : ℕ → ℕ → Prog (Result ℕ)
+  ours n x = lift (loop n O.incrementStep 0 x)
 
-  on-by : (n m x y a e : ℕ) → n ≡ suc m → run (O.incrementTurn x) s a ≡ record { value = again y; at = e } → run (ours n x) s a ≡ run (ours m y) s e
-  unfolding plain
+  on-by : (n m x y a e : ℕ) → n ≡ suc m → run (O.incrementStep x) s a ≡ record { value = continue y; at = e } → run (ours n x) s a ≡ run (ours m y) s e
+  unfolding lift
   on-by n m x y a e h r =
-      run-bind (loop n O.incrementTurn 0 x) _ s a
-      ∙ ap (λ (o : Out ℕ). run (done (on (o .value))) s (o .at)) (loop-suc n m O.incrementTurn 0 x s a h
-      ∙ ap (λ (o : Out (Turn ℕ ℕ)). run (turn (loop m O.incrementTurn 0) (o .value)) s (o .at)) r)
-      ∙ sym (run-bind (loop m O.incrementTurn 0 y) _ s e)
+      run-bind (loop n O.incrementStep 0 x) _ s a
+      ∙ ap (λ (o : Out ℕ). run (done (ok (o .value))) s (o .at)) (loop-suc n m O.incrementStep 0 x s a h
+      ∙ ap (λ (o : Out (Step ℕ ℕ)). run (continueWith (loop m O.incrementStep 0) (o .value)) s (o .at)) r)
+      ∙ sym (run-bind (loop m O.incrementStep 0 y) _ s e)
 
-  end-by : (n m x v a e : ℕ) → n ≡ suc m → run (O.incrementTurn x) s a ≡ record { value = stop v; at = e } → run (ours n x) s a
-      ≡ record { value = on v; at = e }
-  unfolding plain run
+  end-by : (n m x v a e : ℕ) → n ≡ suc m → run (O.incrementStep x) s a ≡ record { value = finish v; at = e } → run (ours n x) s a
+      ≡ record { value = ok v; at = e }
+  unfolding lift run
   end-by n m x v a e h r =
-      run-bind (loop n O.incrementTurn 0 x) _ s a
-      ∙ ap (λ (o : Out ℕ). run (done (on (o .value))) s (o .at)) (loop-suc n m O.incrementTurn 0 x s a h
-      ∙ ap (λ (o : Out (Turn ℕ ℕ)). run (turn (loop m O.incrementTurn 0) (o .value)) s (o .at)) r)
+      run-bind (loop n O.incrementStep 0 x) _ s a
+      ∙ ap (λ (o : Out ℕ). run (done (ok (o .value))) s (o .at)) (loop-suc n m O.incrementStep 0 x s a h
+      ∙ ap (λ (o : Out (Step ℕ ℕ)). run (continueWith (loop m O.incrementStep 0) (o .value)) s (o .at)) r)
 
   module _ (word : ℕ) (f : ℕ → ℕ) where
     -- the standard's turn by what it looks at
-    abbrev their : ℕ → Prog (Turn ℕ (Way ℕ))
-    their = S.whileTurn 11 word f
+    abbrev their : ℕ → Prog (Step ℕ (Result ℕ))
+    their = S.whileStep 11 word f
 
-    abbrev looked : Bool → Bool → ℕ → Prog (Turn ℕ (Way ℕ))
-    looked h t x = cond h (cond t (skip 11 (done (again (f x)))) (done (stop (on x)))) (done (stop S.forbidden))
+    abbrev looked : Bool → Bool → ℕ → Prog (Step ℕ (Result ℕ))
+    looked h t x = cond h (cond t (skip 11 (done (continue (f x)))) (done (finish (ok x)))) (done (finish S.forbidden))
 
-    their-on : (x a : ℕ) → has s a 11 ≡ true → eqb (got s a 11) word ≡ true → run (their x) s a ≡ record { value = again (f x); at = a + 11 }
-    unfolding S.whileTurn run
+    their-on : (x a : ℕ) → has s a 11 ≡ true → eqb (readAt s a 11) word ≡ true → run (their x) s a ≡ record { value = continue (f x); at = a + 11 }
+    unfolding S.whileStep run
     their-on x a h e =
-        ap (λ (h : Bool). run (looked h (eqb (got s a 11) word) x) s a) h ∙ ap (λ (t : Bool). run (looked true t x) s a) e
-        ∙ ap (λ (i : ℕ). record { value = again (f x); at = i }) (next-has s a 11 h)
+        ap (λ (h : Bool). run (looked h (eqb (readAt s a 11) word) x) s a) h ∙ ap (λ (t : Bool). run (looked true t x) s a) e
+        ∙ ap (λ (i : ℕ). record { value = continue (f x); at = i }) (next-has s a 11 h)
 
-    their-off : (x a : ℕ) → has s a 11 ≡ true → eqb (got s a 11) word ≡ false → run (their x) s a ≡ record { value = stop (on x); at = a }
-    unfolding S.whileTurn run
-    their-off x a h e = ap (λ (h : Bool). run (looked h (eqb (got s a 11) word) x) s a) h ∙ ap (λ (t : Bool). run (looked true t x) s a) e
+    their-off : (x a : ℕ) → has s a 11 ≡ true → eqb (readAt s a 11) word ≡ false → run (their x) s a ≡ record { value = finish (ok x); at = a }
+    unfolding S.whileStep run
+    their-off x a h e = ap (λ (h : Bool). run (looked h (eqb (readAt s a 11) word) x) s a) h ∙ ap (λ (t : Bool). run (looked true t x) s a) e
 
-    their-none : (x a : ℕ) → has s a 11 ≡ false → run (their x) s a ≡ record { value = stop S.forbidden; at = a }
-    unfolding S.whileTurn run
-    their-none x a h = ap (λ (h : Bool). run (looked h (eqb (got s a 11) word) x) s a) h
+    their-none : (x a : ℕ) → has s a 11 ≡ false → run (their x) s a ≡ record { value = finish S.forbidden; at = a }
+    unfolding S.whileStep run
+    their-none x a h = ap (λ (h : Bool). run (looked h (eqb (readAt s a 11) word) x) s a) h
 
-    rest : {C : Type 0} → (ℕ → Prog (Way C)) → (n : ℕ) → Out (Turn ℕ (Way ℕ)) → Out (Way C)
-    rest F n o = run (onward (turn (loop n their S.forbidden) (o .value)) F) s (o .at)
+    rest : {C : Type 0} → (ℕ → Prog (Result C)) → (n : ℕ) → Out (Step ℕ (Result ℕ)) → Out (Result C)
+    rest F n o = run (bindResult (continueWith (loop n their S.forbidden) (o .value)) F) s (o .at)
 
   module _ {C : Type 0} {R : C → ℕ → Type 0} (word : ℕ) (f : ℕ → ℕ) (P : ℕ → Type 0) (kept : (x : ℕ) → P x → P (f x))
-      (turns : (x a : ℕ) → P x → has s a 11 ≡ true → got s a 11 ≡ word → run (O.incrementTurn x) s a ≡ record { value = again (f x); at = a + 11 })
-      (F : ℕ → Prog (Way C)) where
+      (turns : (x a : ℕ) → P x → has s a 11 ≡ true → readAt s a 11 ≡ word → run (O.incrementStep x) s a ≡ record { value = continue (f x); at = a + 11 })
+      (F : ℕ → Prog (Result C)) where
     whiles : (n m x a : ℕ) → n ≤ m → P x → ((y e i : ℕ) → P y → m ≤ i + n → Agree R s e (F y) (ours i y))
-        → Agree R s a (onward (loop n (their word f) S.forbidden x) F) (ours m x)
-    unfolding loop onward leave bind run rest
+        → Agree R s a (bindResult (loop n (their word f) S.forbidden x) F) (ours m x)
+    unfolding loop bindResult ifOk bind run rest
     whiles zero m x a l p k = record { is = tt }
-    whiles (suc n) m x a l p k = go (has s a 11) refl (eqb (got s a 11) word) refl (λ m y e l q k. whiles n m y e l q k)
+    whiles (suc n) m x a l p k = go (has s a 11) refl (eqb (readAt s a 11) word) refl (λ m y e l q k. whiles n m y e l q k)
       where
-        first : run (onward (loop (suc n) (their word f) S.forbidden x) F) s a ≡ rest word f F n (run (their word f x) s a)
-        first = onward-bind (their word f x) (turn (loop n (their word f) S.forbidden)) F a
+        first : run (bindResult (loop (suc n) (their word f) S.forbidden x) F) s a ≡ rest word f F n (run (their word f x) s a)
+        first = bind-bind (their word f x) (continueWith (loop n (their word f) S.forbidden)) F a
 
-        go : (h : Bool) → has s a 11 ≡ h → (t : Bool) → eqb (got s a 11) word ≡ t
+        go : (h : Bool) → has s a 11 ≡ h → (t : Bool) → eqb (readAt s a 11) word ≡ t
             → ((m y e : ℕ) → n ≤ m → P y → ((y e i : ℕ) → P y → m ≤ i + n → Agree R s e (F y) (ours i y))
-            → Agree R s e (onward (loop n (their word f) S.forbidden y) F) (ours m y))
-            → Agree R s a (onward (loop (suc n) (their word f) S.forbidden x) F) (ours m x)
+            → Agree R s e (bindResult (loop n (their word f) S.forbidden y) F) (ours m y))
+            → Agree R s a (bindResult (loop (suc n) (their word f) S.forbidden x) F) (ours m x)
         go true h true t more =
             a-by _ _ (first ∙ ap (rest word f F n) (their-on word f x a h t))
             (on-by m (m - 1) x (f x) a (a + 11) (omega arith) (turns x a p h (eqb-true _ _ t)))
@@ -149,21 +149,21 @@ pub record Increment (n m : ℕ) : Type 0 where
 
 module _ (s : List ℕ) where
   stops : (x a : ℕ) → (leb 1 (run macroblockAddressIncrement s a .value) && leb (run macroblockAddressIncrement s a .value) 33) ≡ true
-      → run (O.incrementTurn x) s a ≡ record { value = stop (x + (run macroblockAddressIncrement s a .value)); at = run macroblockAddressIncrement s a .at }
-  unfolding O.incrementTurn run
+      → run (O.incrementStep x) s a ≡ record { value = finish (x + (run macroblockAddressIncrement s a .value)); at = run macroblockAddressIncrement s a .at }
+  unfolding O.incrementStep run
   stops x a h = let n = small (run macroblockAddressIncrement s a .value) h in run-bind macroblockAddressIncrement _ s a ∙ rw (n .0, n .1)
 
-  abbrev final : ℕ → Prog (Way ℕ)
-  final x = onward (plain macroblockAddressIncrement) (λ c. onward (S.shall (leb 1 c && leb c 33)) (λ u. give (x + c)))
+  abbrev final : ℕ → Prog (Result ℕ)
+  final x = bindResult (lift macroblockAddressIncrement) (λ c. bindResult (S.shall (leb 1 c && leb c 33)) (λ u. pure (x + c)))
 
-  ended : (x c e : ℕ) (b : Bool) → Out (Way ℕ)
-  ended x c e b = run (onward (S.shall b) (λ u. give (x + c))) s e
+  ended : (x c e : ℕ) (b : Bool) → Out (Result ℕ)
+  ended x c e b = run (bindResult (S.shall b) (λ u. pure (x + c))) s e
 
   last-code : (m x a : ℕ) → 1 ≤ m → Agree Increment s a (final x) (ours s m x)
-  unfolding onward leave bind run ended
+  unfolding bindResult ifOk bind run ended
   last-code m x a l =
       let c = run macroblockAddressIncrement s a .value in
-      a-by _ _ (run-plain macroblockAddressIncrement _ s a) refl (go (leb 1 c && leb c 33) refl)
+      a-by _ _ (run-lift macroblockAddressIncrement _ s a) refl (go (leb 1 c && leb c 33) refl)
     where
       go : (b : Bool) → (leb 1 (run macroblockAddressIncrement s a .value) && leb (run macroblockAddressIncrement s a .value) 33) ≡ b
           → Meets Increment (ended x (run macroblockAddressIncrement s a .value) (run macroblockAddressIncrement s a .at) b .value)
@@ -182,9 +182,9 @@ module _ (s : List ℕ) where
       rw z (whiles s 8 (λ x. x + 33) (λ x. Unit {0}) (λ x u. tt) (λ x a u h e. adds s a h x e) final many i 0 e (omega arith) tt
       (λ y e k u h. last-code k y e (omega arith))))
 
-  plains : (p q : Prog ℕ) (a : ℕ) → run p s a ≡ run q s a → run (plain p) s a ≡ run (plain q) s a
-  unfolding plain
-  plains p q a e = run-bind p _ s a ∙ ap (λ (o : Out ℕ). run (done (on (o .value))) s (o .at)) e ∙ sym (run-bind q _ s a)
+  plains : (p q : Prog ℕ) (a : ℕ) → run p s a ≡ run q s a → run (lift p) s a ≡ run (lift q) s a
+  unfolding lift
+  plains p q a e = run-bind p _ s a ∙ ap (λ (o : Out ℕ). run (done (ok (o .value))) s (o .at)) e ∙ sym (run-bind q _ s a)
 
-  pub increment-agrees : length s ≤ longestStream → (a : ℕ) → Agree Increment s a S.increment (plain O.increment)
+  pub increment-agrees : length s ≤ longestStream → (a : ℕ) → Agree Increment s a S.increment (lift O.increment)
   increment-agrees l a = a-same (plains _ _ a (increment-fuel s l (3 * many) (omega arith) 0 a)) (both-loops (3 * many) a (omega arith))

@@ -16,8 +16,8 @@ use Rattle.codes.specs.Codes.{codeBlockPattern}
 use Rattle.picture_state.specs.declared.types.Context.{Context}
 use Rattle.picture_state.specs.declared.types.Matrices.{Matrices}
 use Rattle.picture_state.specs.declared.types.Slice.{Slice}
-use Rattle.picture_state.specs.State.{World, world, freshBlock}
-use Rattle.picture_state.specs.Ways.{Way, on, out, leave, onward, plain, step, give}
+use Rattle.picture_state.specs.State.{SliceState, sliceState, freshBlock}
+use Rattle.picture_state.specs.Result.{Result, ok, error, ifOk, bindResult, lift, fromResult, pure}
 use Rattle.macroblock_head.specs.Heads as H
 use Rattle.picture_state.specs.Flags.{flag}
 use Rattle.macroblock_head.specs.Heads.{macroblockType}
@@ -25,7 +25,7 @@ use Rattle.macroblock_head.specs.Predictions as P
 use Rattle.blocks.specs.Blocks as O
 use Rattle.macroblock.specs.Macroblocks as M
 use Rattle.standard.specs.Standard as S
-use Rattle.standard.proofs.Agreement.{Meets, Agree, a-give, a-step, a-plain, a-onward, a-shall, a-after}
+use Rattle.standard.proofs.Agreement.{Meets, Agree, a-pure, a-step, a-lift, a-bind, a-shall, a-after}
 use Rattle.standard.proofs.Related.{In, Own, own, sliceOf, eights, pastStart, forNext, backNext, Related, Rule, coding}
 use Rattle.standard.proofs.Increment.{increment-agrees}
 use Rattle.standard.proofs.Heads.{zero-in, their, reset, inter-head, intra-head}
@@ -34,20 +34,20 @@ use Rattle.standard.proofs.Blocks.{left-six, intra-blocks, inter-blocks
 use Rattle.standard.proofs.Types.{intra-alone, no-backward}
 
 -- one program for both
-a-same-both : {s : List ℕ} (p : Prog (Way ℕ)) (a : ℕ) → Agree _≡_ s a p p
+a-same-both : {s : List ℕ} (p : Prog (Result ℕ)) (a : ℕ) → Agree _≡_ s a p p
 a-same-both {s} p a = record { is = go (run p s a .value) }
   where
-    go : (w : Way ℕ) → Meets _≡_ w (run p s a .at) w (run p s a .at)
-    go (on x) = (refl, refl)
-    go (out n l) = tt
+    go : (w : Result ℕ) → Meets _≡_ w (run p s a .at) w (run p s a .at)
+    go (ok x) = (refl, refl)
+    go (error n l) = tt
 
 either : {X : Type 0} (b : Bool) → (b ≡ true → X) → (b ≡ false → X) → X
 either true p q = p refl
 either false p q = q refl
 
 -- the relation from its parts
-related : (g : S.Coding) (x : S.Variables) (w : World) (o : Own) (f b : S.Vector) → forNext g false x ≡ f → backNext g false x ≡ b
-    → In (g .forward) f → In (g .backward) b → w ≡ world (sliceOf g (x .«previous_macroblock_address») (x .«quantizer_scale») f b o) freshBlock (x .pels)
+related : (g : S.Coding) (x : S.Variables) (w : SliceState) (o : Own) (f b : S.Vector) → forNext g false x ≡ f → backNext g false x ≡ b
+    → In (g .forward) f → In (g .backward) b → w ≡ sliceState (sliceOf g (x .«previous_macroblock_address») (x .«quantizer_scale») f b o) freshBlock (x .pels)
     → o .forSet ≡ flag (x .«macroblock_type») 8 → o .backSet ≡ flag (x .«macroblock_type») 4
     → pastStart (x .«previous_macroblock_address» +ℤ pos 1) x ≡ eights o → leZ (x .«past_intra_address») (x .«previous_macroblock_address») ≡ true
     → Related g false x w
@@ -84,22 +84,22 @@ module _ (rule : Rule) (g : Context) (m : Matrices) (df db : S.Direction) (s : L
   }
 
   -- the steps behind the vectors
-  abbrev theirRest : Bool → Bool → ℕ → S.Vector → S.Vector → Prog (Way S.Variables)
+  abbrev theirRest : Bool → Bool → ℕ → S.Vector → S.Vector → Prog (Result S.Variables)
   theirRest intra pattern q for back =
-      onward (step (cond intra (on l) (S.predicted G t (natAbs A) for back l))) (λ p.
-      onward (cond pattern (plain codeBlockPattern) (give 0)) (λ cbp.
-      onward (S.blocks G intra (S.far A x) cbp q (natAbs A) (record { past = x .past; pels = p })) (λ b. give (after intra q for back b))))
+      bindResult (fromResult (cond intra (ok l) (S.predicted G t (natAbs A) for back l))) (λ p.
+      bindResult (cond pattern (lift codeBlockPattern) (pure 0)) (λ cbp.
+      bindResult (S.blocks G intra (S.far A x) cbp q (natAbs A) (record { past = x .past; pels = p })) (λ b. pure (after intra q for back b))))
 
-  abbrev oursRest : Bool → Bool → Slice → Prog (Way World)
+  abbrev oursRest : Bool → Bool → Slice → Prog (Result SliceState)
   oursRest intra pattern y =
-      onward (step (cond intra (on l) (P.predict g (natAbs (y .«macroblock_address»)) y l))) (λ l.
-      onward (plain (cond pattern (codeBlockPattern) (cond intra (done 63) (done 0)))) (λ c. O.blocks g m intra c (world y freshBlock l)))
+      bindResult (fromResult (cond intra (ok l) (P.predict g (natAbs (y .«macroblock_address»)) y l))) (λ l.
+      bindResult (lift (cond pattern (codeBlockPattern) (cond intra (done 63) (done 0)))) (λ c. O.blocks g m intra c (sliceState y freshBlock l)))
 
   -- 2.4.4.1: behind an intra macroblock the pasts are kept for the next address
   intra-rest : (q : ℕ) (f b : S.Vector) (a : ℕ) (y cb cr : ℤ) → flag t 1 ≡ true → flag t 8 ≡ false → pastStart A x ≡ eights (own (flag t 8) (flag t 4) y cb cr)
       → Agree (Related G false) s a (theirRest true false q f b)
       (oursRest true false (sliceOf G A q S.zero-vector S.zero-vector (own (flag t 8) (flag t 4) y cb cr)))
-  unfolding onward leave bind plain
+  unfolding bindResult ifOk bind lift
   intra-rest q f b a y cb cr h1 h8 p =
       a-after (after true q f b)
       (intra-blocks rule g m df db A q S.zero-vector S.zero-vector s (S.far A x) (flag t 8) (flag t 4) 0 _ _ a
@@ -121,11 +121,11 @@ module _ (rule : Rule) (g : Context) (m : Matrices) (df db : S.Direction) (s : L
       → (flag t 8 ≡ false → eqb (g .«picture_type») 2 ≡ true → f ≡ S.zero-vector)
       → (eqb (g .«picture_type») 3 ≡ false → b ≡ S.zero-vector) → leZ (x .«past_intra_address») (x .«previous_macroblock_address») ≡ true → 1 ≤ n
       → Agree (Related G false) s a (theirRest false (flag t 2) q f b) (oursRest false (flag t 2) (sliceOf G A q f b (reset t)))
-  unfolding plain bind
+  unfolding lift bind
   inter-rest q f b a h1 i j kf kb order some =
-      a-onward _ _ (a-step _ _ (predicted-meets G A q f b (reset t) t (natAbs A) l (λ e. (refl, refl)))) (λ p p′ e same.
+      a-bind _ _ (a-step _ _ (predicted-meets G A q f b (reset t) t (natAbs A) l (λ e. (refl, refl)))) (λ p p′ e same.
       subst (λ (p′ : List ℕ). Agree (Related G false) s e (afterPrediction p) (ourPattern p′)) same (
-      a-onward _ _ (patterns (flag t 2) e) (λ cbp c e z.
+      a-bind _ _ (patterns (flag t 2) e) (λ cbp c e z.
       subst (λ (c : ℕ). Agree (Related G false) s e (theirBlocks p cbp) (ourBlocks p c)) z (
       a-after (after false q f b)
       (inter-blocks rule g m df db A q f b s (S.far A x) (reset t) (x .past) cbp _ _ e (record { is = refl; past = refl })) (λ z w r.
@@ -136,21 +136,21 @@ module _ (rule : Rule) (g : Context) (m : Matrices) (df db : S.Direction) (s : L
       (yes-le (v (x .«past_intra_address»)) (v (x .«previous_macroblock_address») ⊕ lit n)
       (omega (arith, le-yes (v (x .«past_intra_address»)) (v (x .«previous_macroblock_address»)) order))))))))
     where
-      theirBlocks : List ℕ → ℕ → Prog (Way S.Variables)
-      theirBlocks p cbp = onward (S.blocks G false (S.far A x) cbp q (natAbs A) (record { past = x .past; pels = p })) (λ b′. give (after false q f b b′))
+      theirBlocks : List ℕ → ℕ → Prog (Result S.Variables)
+      theirBlocks p cbp = bindResult (S.blocks G false (S.far A x) cbp q (natAbs A) (record { past = x .past; pels = p })) (λ b′. pure (after false q f b b′))
 
-      afterPrediction : List ℕ → Prog (Way S.Variables)
-      afterPrediction p = onward (cond (flag t 2) (plain codeBlockPattern) (give 0)) (theirBlocks p)
+      afterPrediction : List ℕ → Prog (Result S.Variables)
+      afterPrediction p = bindResult (cond (flag t 2) (lift codeBlockPattern) (pure 0)) (theirBlocks p)
 
-      ourBlocks : List ℕ → ℕ → Prog (Way World)
-      ourBlocks p c = O.blocks g m false c (world (sliceOf G A q f b (reset t)) freshBlock p)
+      ourBlocks : List ℕ → ℕ → Prog (Result SliceState)
+      ourBlocks p c = O.blocks g m false c (sliceState (sliceOf G A q f b (reset t)) freshBlock p)
 
-      ourPattern : List ℕ → Prog (Way World)
-      ourPattern p = onward (plain (cond (flag t 2) (codeBlockPattern) (done 0))) (ourBlocks p)
+      ourPattern : List ℕ → Prog (Result SliceState)
+      ourPattern p = bindResult (lift (cond (flag t 2) (codeBlockPattern) (done 0))) (ourBlocks p)
 
-      patterns : (b : Bool) (e : ℕ) → Agree _≡_ s e (cond b (plain codeBlockPattern) (give 0)) (plain (cond b (codeBlockPattern) (done 0)))
+      patterns : (b : Bool) (e : ℕ) → Agree _≡_ s e (cond b (lift codeBlockPattern) (pure 0)) (lift (cond b (codeBlockPattern) (done 0)))
       patterns true e = a-same-both _ e
-      patterns false e = a-give refl
+      patterns false e = a-pure refl
 
       for-is : (p2 : Bool) → (flag t 8 ≡ false → p2 ≡ true → f ≡ S.zero-vector) → (h8 : Bool) → flag t 8 ≡ h8
           → cond (cond p2 (not (flag t 8)) (flag t 1)) S.zero-vector f ≡ f
@@ -172,9 +172,9 @@ module _ (rule : Rule) (g : Context) (m : Matrices) (df db : S.Direction) (s : L
   start-0 true u x e = refl
   start-0 false u x e = rw e
 
-  coded-agrees : (first : Bool) (n u : ℕ) (x : S.Variables) (l : List ℕ) (w : World) (a : ℕ) → Ready C first n u x l w
-      → Agree (Related C false) s a (S.coded C first n u x l) (M.body g m w)
-  unfolding S.coded M.body M.predictUnlessIntra H.pattern
+  coded-agrees : (first : Bool) (n u : ℕ) (x : S.Variables) (l : List ℕ) (w : SliceState) (a : ℕ) → Ready C first n u x l w
+      → Agree (Related C false) s a (S.codedMacroblock C first n u x l) (M.body g m w)
+  unfolding S.codedMacroblock M.body M.predictUnlessIntra H.pattern
   coded-agrees first n u x l w a r =
       let p = macroblockType (g .«picture_type») in
       let t = run p s a .value in
@@ -183,11 +183,11 @@ module _ (rule : Rule) (g : Context) (m : Matrices) (df db : S.Direction) (s : L
       let f = S.forStart C first u x in
       let b = S.backStart C first u x in
       let o = r .o in
-      let F : ℕ → S.Vector → S.Vector → Prog (Way S.Variables) = theirRest rule g m df db s first n x l t (flag t 1) (flag t 2) in
-      let K : Slice → Prog (Way World) = oursRest rule g m df db s first n x l t (flag t 1) (flag t 2) in
+      let F : ℕ → S.Vector → S.Vector → Prog (Result S.Variables) = theirRest rule g m df db s first n x l t (flag t 1) (flag t 2) in
+      let K : Slice → Prog (Result SliceState) = oursRest rule g m df db s first n x l t (flag t 1) (flag t 2) in
       let intra : S.inTable (g .«picture_type») t ≡ true → flag t 1 ≡ true
       → Agree (Related C false) s e (their C t (x .«quantizer_scale») f b F)
-      (onward (plain (H.head (g .«picture_type») t (sliceOf C A (x .«quantizer_scale») f b o))) K) = λ tab h.
+      (bindResult (lift (H.head (g .«picture_type») t (sliceOf C A (x .«quantizer_scale») f b o))) K) = λ tab h.
       let q = intra-alone (g .«picture_type») t tab h in
       intra-head C A (x .«quantizer_scale») f b o t (r .for) (r .back) F K h (q .0) (q .1) (λ q′ f′ e.
       let y = sliceOf C A q′ S.zero-vector S.zero-vector (own (flag t 8) (flag t 4) (o .y) (o .cb) (o .cr)) in
@@ -198,15 +198,15 @@ module _ (rule : Rule) (g : Context) (m : Matrices) (df db : S.Direction) (s : L
       intra-rest rule g m df db s first n x l t q′ f′ b e (o .y) (o .cb) (o .cr) h (q .0) (r .past)))) e in
       let inter : S.inTable (g .«picture_type») t ≡ true → flag t 1 ≡ false
       → Agree (Related C false) s e (their C t (x .«quantizer_scale») f b F)
-      (onward (plain (H.head (g .«picture_type») t (sliceOf C A (x .«quantizer_scale») f b o))) K) = λ tab h.
+      (bindResult (lift (H.head (g .«picture_type») t (sliceOf C A (x .«quantizer_scale») f b o))) K) = λ tab h.
       inter-head C A (x .«quantizer_scale») f b o t (r .for) (r .back) F K h (λ q′ f′ b′ e i j kf kb.
       let y = sliceOf C A q′ f′ b′ (reset t) in
       subst (λ (z : Bool). Agree (Related C false) s e (theirRest rule g m df db s first n x l t z (flag t 2) q′ f′ b′)
       (oursRest rule g m df db s first n x l t z (flag t 2) y)) (sym h) (
       inter-rest rule g m df db s first n x l t q′ f′ b′ e h i j kf (λ z. kb (no-backward (g .«picture_type») t tab z) ∙ start-0 first u x z) (r .order)
       (r .some))) e in
-      subst (λ (w : World). Agree (Related C false) s a (S.coded C first n u x l) (M.body g m w)) (sym (r .is)) (
-      a-plain p p _ _ refl (a-shall _ _ (λ tab. either (flag t 1) (intra tab) (inter tab))))
+      subst (λ (w : SliceState). Agree (Related C false) s a (S.codedMacroblock C first n u x l) (M.body g m w)) (sym (r .is)) (
+      a-lift p p _ _ refl (a-shall _ _ (λ tab. either (flag t 1) (intra tab) (inter tab))))
 
   -- ---- the whole
 
@@ -220,12 +220,13 @@ module _ (rule : Rule) (g : Context) (m : Matrices) (df db : S.Direction) (s : L
   not-above : (A : ℤ) → inside A ≡ true → leZ (pos (g .sizes .«mb_size»)) A ≡ false
   not-above A h = no-le (lit (g .sizes .«mb_size»)) (v A) (omega (arith, lt-yes (v A) (lit (g .sizes .«mb_size»)) (both (leZ (pos 0) A) _ h .1)))
 
-  address-is : (first : Bool) (x : S.Variables) (w : World) → Related C first x w → w .slice .«macroblock_address» ≡ x .«previous_macroblock_address»
-  address-is first x w r = ap (λ (w : World). w .slice .«macroblock_address») (r .is)
+  address-is : (first : Bool) (x : S.Variables) (w : SliceState) → Related C first x w → w .slice .«macroblock_address» ≡ x .«previous_macroblock_address»
+  address-is first x w r = ap (λ (w : SliceState). w .slice .«macroblock_address») (r .is)
 
-  begins : (x : S.Variables) (w : World) → Related C true x w → (n : ℕ) → 1 ≤ n → (e : ℕ) → inside (x .«previous_macroblock_address» +ℤ pos n) ≡ true
-      → Agree (Related C false) s e (onward (step (S.skipped C true n x)) (S.coded C true n (S.lastType C true n x) x)) (M.firstOf g m n w)
-  unfolding S.skipped onward leave bind M.firstOf
+  begins : (x : S.Variables) (w : SliceState) → Related C true x w → (n : ℕ) → 1 ≤ n → (e : ℕ) → inside (x .«previous_macroblock_address» +ℤ pos n) ≡ true
+      → Agree (Related C false) s e (bindResult (fromResult (S.skipped C true n x)) (S.codedMacroblock C true n (S.lastType C true n x) x))
+      (M.firstMacroblock g m n w)
+  unfolding S.skipped bindResult ifOk bind M.firstMacroblock
   begins x w r n some e h =
       let low : ltZ (w .slice .«macroblock_address» +ℤ pos n) (pos 0) ≡ false = ap (λ (z : ℤ). ltZ (z +ℤ pos n) (pos 0)) (address-is true x w r)
       ∙ not-below (x .«previous_macroblock_address» +ℤ pos n) h in
@@ -233,36 +234,37 @@ module _ (rule : Rule) (g : Context) (m : Matrices) (df db : S.Direction) (s : L
       ≡ false = ap (λ (z : ℤ). leZ (pos (g .sizes .«mb_size»)) (z +ℤ pos n)) (address-is true x w r)
       ∙ not-above (x .«previous_macroblock_address» +ℤ pos n) h in
       rw (low, high)
-      (coded-agrees true n (S.lastType C true n x) x (x .pels) (M.further n w) e (first-ready C x w n some r))
+      (coded-agrees true n (S.lastType C true n x) x (x .pels) (M.addressPlus n w) e (first-ready C x w n some r))
 
-  goes-on : (x : S.Variables) (w : World) → Related C false x w → (n : ℕ) → 1 ≤ n → (e : ℕ) → inside (x .«previous_macroblock_address» +ℤ pos n) ≡ true
-      → Agree (Related C false) s e (onward (step (S.skipped C false n x)) (S.coded C false n (S.lastType C false n x) x)) (M.laterOf g m n w)
-  unfolding M.laterOf
+  goes-on : (x : S.Variables) (w : SliceState) → Related C false x w → (n : ℕ) → 1 ≤ n → (e : ℕ) → inside (x .«previous_macroblock_address» +ℤ pos n) ≡ true
+      → Agree (Related C false) s e (bindResult (fromResult (S.skipped C false n x)) (S.codedMacroblock C false n (S.lastType C false n x) x))
+      (M.laterMacroblock g m n w)
+  unfolding M.laterMacroblock
   goes-on x w r n some e h =
       let high : leZ (pos (g .sizes .«mb_size»)) (w .slice .«macroblock_address» +ℤ pos n)
       ≡ false = ap (λ (z : ℤ). leZ (pos (g .sizes .«mb_size»)) (z +ℤ pos n)) (address-is false x w r)
       ∙ not-above (x .«previous_macroblock_address» +ℤ pos n) h in
       rw high
-      (a-onward _ _ (a-step _ _ (later-ready C x w n some r)) (λ l y e k. coded-agrees false n (S.lastType C false n x) x l y e k))
+      (a-bind _ _ (a-step _ _ (later-ready C x w n some r)) (λ l y e k. coded-agrees false n (S.lastType C false n x) x l y e k))
 
   -- 2.4.2.7, 2.4.4: the standard's macroblock() and ours
-  pub macroblock-agrees : length s ≤ longestStream → (first : Bool) (x : S.Variables) (w : World) (a : ℕ) → Related C first x w
+  pub macroblock-agrees : length s ≤ longestStream → (first : Bool) (x : S.Variables) (w : SliceState) (a : ℕ) → Related C first x w
       → Agree (Related C false) s a (S.macroblock C first x) (M.macroblock g m first w)
   unfolding S.macroblock M.macroblock
   macroblock-agrees l first x w a r =
-      a-onward _ _ (increment-agrees s l a) (λ n k e i.
-      subst (λ (k : ℕ). Agree (Related C false) s e (counted first x n) (cond first (M.firstOf g m k w) (M.laterOf g m k w))) (i .same) (
+      a-bind _ _ (increment-agrees s l a) (λ n k e i.
+      subst (λ (k : ℕ). Agree (Related C false) s e (counted first x n) (cond first (M.firstMacroblock g m k w) (M.laterMacroblock g m k w))) (i .same) (
       a-shall _ _ (λ h. go first x w r n (i .some) e h)))
     where
-      counted : Bool → S.Variables → ℕ → Prog (Way S.Variables)
+      counted : Bool → S.Variables → ℕ → Prog (Result S.Variables)
       counted first x n =
-          onward (S.shall (leZ (pos 0) (x .«previous_macroblock_address» +ℤ pos n) && ltZ (x .«previous_macroblock_address» +ℤ pos n)
+          bindResult (S.shall (leZ (pos 0) (x .«previous_macroblock_address» +ℤ pos n) && ltZ (x .«previous_macroblock_address» +ℤ pos n)
           (pos (g .sizes .«mb_size»)))) (λ z.
-          onward (step (S.skipped C first n x)) (S.coded C first n (S.lastType C first n x) x))
+          bindResult (fromResult (S.skipped C first n x)) (S.codedMacroblock C first n (S.lastType C first n x) x))
 
-      go : (first : Bool) (x : S.Variables) (w : World) → Related C first x w → (n : ℕ) → 1 ≤ n → (e : ℕ)
+      go : (first : Bool) (x : S.Variables) (w : SliceState) → Related C first x w → (n : ℕ) → 1 ≤ n → (e : ℕ)
           → (leZ (pos 0) (x .«previous_macroblock_address» +ℤ pos n) && ltZ (x .«previous_macroblock_address» +ℤ pos n) (pos (g .sizes .«mb_size»))) ≡ true
-          → Agree (Related C false) s e (onward (step (S.skipped C first n x)) (S.coded C first n (S.lastType C first n x) x))
-          (cond first (M.firstOf g m n w) (M.laterOf g m n w))
+          → Agree (Related C false) s e (bindResult (fromResult (S.skipped C first n x)) (S.codedMacroblock C first n (S.lastType C first n x) x))
+          (cond first (M.firstMacroblock g m n w) (M.laterMacroblock g m n w))
       go true x w r n some e h = begins x w r n some e h
       go false x w r n some e h = goes-on x w r n some e h

@@ -8,7 +8,7 @@ use lib.IntN.{pos}
 use lib.ListN.{length}
 use Rattle.laws.proofs.Ints.{v}
 use Rattle.bits.specs.Bounds.{longestStream}
-use Rattle.bits.specs.Bits.{next}
+use Rattle.bits.specs.Bits.{afterRead}
 use Rattle.bits.specs.Programs.{Prog, run, bind, eqZ}
 use Rattle.bits.proofs.Programs.{run-bind}
 use Rattle.picture_state.specs.declared.types.Sizes.{Sizes}
@@ -16,17 +16,17 @@ use Rattle.picture_state.specs.declared.types.Matrices.{Matrices}
 use Rattle.picture_state.specs.declared.types.Stores.{Stores}
 use Rattle.picture_state.specs.declared.types.Picture.{Picture}
 use Rattle.picture_state.specs.State.{storesAs, freshBlock}
-use Rattle.picture_state.specs.Ways.{Way, on, out, leave, onward, plain, give}
+use Rattle.picture_state.specs.Result.{Result, ok, error, ifOk, bindResult, lift, pure}
 use Rattle.picture.specs.Pictures as P
 use Rattle.standard.specs.Standard as S
-use Rattle.standard.proofs.Agreement.{Agree, run-plain, a-same, a-give, a-onward, a-after, left-forbidden}
+use Rattle.standard.proofs.Agreement.{Agree, run-lift, a-same, a-pure, a-bind, a-after, left-forbidden}
 use Rattle.standard.proofs.Related.{Rule, coding}
 use Rattle.standard.proofs.Slice.{Begun}
 use Rattle.standard.proofs.Slices.{slices-agree}
 use Rattle.standard.proofs.Header.{header-agrees}
 
 -- the picture's header, its pels, the stores with their roles for the next picture, nothing left over, and a start code that is no picture's
-pub record Result (d : S.Decoded) (f : P.Frame) : Type 0 where
+pub record RefinesDecoded (d : S.Decoded) (f : P.PictureState) : Type 0 where
   pub pels : f .store ≡ d .pels
   pub stores : f .picture .stores ≡ d .stores
   pub type : f .picture .«picture_type» ≡ d .header .«picture_coding_type»
@@ -36,15 +36,15 @@ pub record Result (d : S.Decoded) (f : P.Frame) : Type 0 where
 
 module _ (rule : Rule) (s : List ℕ) (long : length s ≤ longestStream) (z : Sizes) (m : Matrices) where
   -- behind the header
-  abbrev theirs : S.Direction → S.Direction → ℕ → Stores → Stores → List ℕ → Prog (Way S.Decoded)
+  abbrev theirs : S.Direction → S.Direction → ℕ → Stores → Stores → List ℕ → Prog (Result S.Decoded)
   theirs f b type before after l =
-      onward (S.slices (coding rule (record { «picture_type» = type; sizes = z; stores = before }) m f b) l) (λ x.
-      give (record { header = record { «picture_coding_type» = type; forward = f; backward = b }; stores = after; pels = x }))
+      bindResult (S.slices (coding rule (record { «picture_type» = type; sizes = z; stores = before }) m f b) l) (λ x.
+      pure (record { header = record { «picture_coding_type» = type; forward = f; backward = b }; stores = after; pels = x }))
 
-  coded-agrees : (f b : S.Direction) (y : P.Frame) (e : ℕ) → Begun f b (y .picture .slice) → y .«block_data» ≡ freshBlock
-      → Agree Result s e (theirs f b (y .picture .«picture_type») (S.references (y .picture .«picture_type») (y .picture .stores))
-      (S.turned (y .picture .«picture_type») (y .picture .stores)) (y .store)) (P.coded z m y)
-  unfolding P.coded
+  coded-agrees : (f b : S.Direction) (y : P.PictureState) (e : ℕ) → Begun f b (y .picture .slice) → y .«block_data» ≡ freshBlock
+      → Agree RefinesDecoded s e (theirs f b (y .picture .«picture_type») (S.references (y .picture .«picture_type») (y .picture .stores))
+      (S.rolesAfter (y .picture .«picture_type») (y .picture .stores)) (y .store)) (P.slicesInRoles z m y)
+  unfolding P.slicesInRoles
   coded-agrees f b y e begun none = go (eqb (q .«picture_type») 3)
     where
       q : Picture
@@ -56,9 +56,9 @@ module _ (rule : Rule) (s : List ℕ) (long : length s ≤ longestStream) (z : S
       q′ : Picture
       q′ = storesAs (P.before t) q
 
-      go : (x : Bool) → Agree Result s e (theirs f b (q .«picture_type») (cond x t (P.before t)) (cond x t (P.after t)) (y .store))
+      go : (x : Bool) → Agree RefinesDecoded s e (theirs f b (q .«picture_type») (cond x t (P.before t)) (cond x t (P.after t)) (y .store))
           (cond x (P.slices (P.contextOf z q) m y)
-          (onward (P.slices (P.contextOf z q′) m (P.inPicture q′ y)) (λ f. give (P.inPicture (storesAs (P.after t) (f .picture)) f))))
+          (bindResult (P.slices (P.contextOf z q′) m (P.withPicture q′ y)) (λ f. pure (P.withPicture (storesAs (P.after t) (f .picture)) f))))
       go true =
           a-after _ (slices-agree rule (P.contextOf z q) m f b s long (q .«picture_type») t y e begun none refl refl)
           (λ l k r. record {
@@ -70,8 +70,8 @@ module _ (rule : Rule) (s : List ℕ) (long : length s ≤ longestStream) (z : S
             code = r .code;
           })
       go false =
-          a-onward _ _ (slices-agree rule (P.contextOf z q′) m f b s long (q .«picture_type») (P.before t) (P.inPicture q′ y) e begun none refl refl)
-          (λ l k e r. a-give (record {
+          a-bind _ _ (slices-agree rule (P.contextOf z q′) m f b s long (q .«picture_type») (P.before t) (P.withPicture q′ y) e begun none refl refl)
+          (λ l k e r. a-pure (record {
             pels = r .shown .pels;
             stores = refl;
             type = r .shown .type;
@@ -81,24 +81,24 @@ module _ (rule : Rule) (s : List ℕ) (long : length s ≤ longestStream) (z : S
           }))
 
   -- 2.4.2.5, 2.4.4: the standard's picture() and ours
-  pub picture-agrees : (y : P.Frame) (df db : S.Direction) (a : ℕ) → Begun df db (y .picture .slice) → y .«block_data» ≡ freshBlock
-      → Agree Result s a (S.picture (rule .rules) z m (y .picture .stores) df db (y .store)) (P.picture z m y)
+  pub picture-agrees : (y : P.PictureState) (df db : S.Direction) (a : ℕ) → Begun df db (y .picture .slice) → y .«block_data» ≡ freshBlock
+      → Agree RefinesDecoded s a (S.picture (rule .rules) z m (y .picture .stores) df db (y .store)) (P.picture z m y)
   unfolding S.picture P.picture
   picture-agrees y df db a b none =
       let p = y .picture in
-      let x : P.PictureHeader → P.Frame = λ h. P.inPicture (P.headed h p) y in
-      let K : Bool → P.PictureHeader → Prog (Way P.Frame) = λ t h. cond t (P.coded z m (x h)) (give (x h)) in
-      let K′ : P.PictureHeader → Prog (Way P.Frame) = λ h. K (P.isDecoded h) h in
-      a-same (run-plain P.pictureHeader K′ s a ∙ sym (run-bind P.pictureHeader K′ s a)) (
-      a-onward _ _ (header-agrees s p df db b a) (λ h k e r.
-      let their : ℕ → Prog (Way S.Decoded) = λ type.
-      theirs (h .forward) (h .backward) type (S.references type (p .stores)) (S.turned type (p .stores)) (y .store) in
+      let x : P.PictureHeader → P.PictureState = λ h. P.withPicture (P.withPictureHeader h p) y in
+      let K : Bool → P.PictureHeader → Prog (Result P.PictureState) = λ t h. cond t (P.slicesInRoles z m (x h)) (pure (x h)) in
+      let K′ : P.PictureHeader → Prog (Result P.PictureState) = λ h. K (P.isDecoded h) h in
+      a-same (run-lift P.pictureHeader K′ s a ∙ sym (run-bind P.pictureHeader K′ s a)) (
+      a-bind _ _ (header-agrees s p df db b a) (λ h k e r.
+      let their : ℕ → Prog (Result S.Decoded) = λ type.
+      theirs (h .forward) (h .backward) type (S.references type (p .stores)) (S.rolesAfter type (p .stores)) (y .store) in
       a-same (ap (λ (t : Bool). run (K t k) s e) (sym (r .decoded))) (
-      subst (λ (type : ℕ). Agree Result s e (their type) (P.coded z m (x k))) (r .type) (
+      subst (λ (type : ℕ). Agree RefinesDecoded s e (their type) (P.slicesInRoles z m (x k))) (r .type) (
       coded-agrees (h .forward) (h .backward) (x k) e (r .begun) none))))
 
   -- so a picture that conforms never ends with 8 or 9 (RULES Q8, Q9)
-  pub never-leaves : (y : P.Frame) (df db : S.Direction) (a : ℕ) → Begun df db (y .picture .slice) → y .«block_data» ≡ freshBlock
+  pub never-leaves : (y : P.PictureState) (df db : S.Direction) (a : ℕ) → Begun df db (y .picture .slice) → y .«block_data» ≡ freshBlock
       → S.conforms (run (S.picture (rule .rules) z m (y .picture .stores) df db (y .store)) s a .value) ≡ true
-      → (n : ℕ) (k : List ℕ) → run (P.picture z m y) s a .value ≡ out n k → ⊥
+      → (n : ℕ) (k : List ℕ) → run (P.picture z m y) s a .value ≡ error n k → ⊥
   never-leaves y df db a b none c n k e = absurd (true≢false (sym c ∙ left-forbidden (picture-agrees y df db a b none) n k e))

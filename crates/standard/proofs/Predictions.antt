@@ -13,37 +13,38 @@ use lib.Signed.{leZ, _≤ℤ_}
 use Rattle.laws.proofs.Tests.{both, each}
 use Rattle.laws.proofs.Ints.{v, le-yes, le-by}
 use Rattle.laws.proofs.Lists.{rows-alike}
-use Rattle.prediction.specs.declared.place.Macroblock.{Macroblock}
-use Rattle.prediction.specs.declared.place.Place.{Place}
+use Rattle.prediction.specs.declared.position.Macroblock.{Macroblock}
+use Rattle.prediction.specs.declared.position.BlockPosition.{BlockPosition}
 use Rattle.prediction.specs.declared.planes.Plane.{Plane}
 use Rattle.prediction.specs.declared.planes.Plane.the-variants.{Y, Cr, Cb}
 use Rattle.prediction.specs.declared.predict.Predicted.{Predicted}
 use Rattle.prediction.specs.declared.predict.Predicted.the-variants.{Done, Refused}
-use Rattle.prediction.specs.Predict.{Placed, blockOf, macroblockAt, width, height, bytes, address, fetch, predicted, chroma, inHalves}
-use Rattle.prediction.specs.Planes.{After, blockSize, macroblocks, planeStart, follow, next, ofStores, predictedPlanes}
-use Rattle.prediction.specs.Samples.{sample, laid}
-use Rattle.prediction.specs.Standard.{whole, chrominance, pel, bothWays, InPicture}
+use Rattle.prediction.specs.Predict.{BlockInPlane, blockOf, macroblockAt, width, height, bytes, address, fetch, predicted, chroma, inHalves}
+use Rattle.prediction.specs.Planes.{After, blockSize, macroblocks, planeStart, follow, thenPlane, ofStores, predictedPlanes}
+use Rattle.prediction.specs.Samples.{sample, storedSample}
+use Rattle.prediction.specs.Standard.{whole, chrominance, pel, interpolated, InPicture}
 use Rattle.prediction.proofs.Standard as L
-use Rattle.picture_state.specs.Ways.{Way, on, out, also}
+use Rattle.picture_state.specs.Result.{Result, ok, error, andThen}
 use Rattle.macroblock_head.specs.Predictions as P
 use Rattle.standard.specs.Standard as S
-use Rattle.standard.proofs.Agreement.{WayMeets}
+use Rattle.standard.proofs.Agreement.{ResultMeets}
 use Rattle.standard.proofs.Related.{motionOf}
 
-pub also-meets : {A B C D : Type 0} {R : A → B → Type 0} (Q : C → D → Type 0) (w : Way A) (u : Way B) (f : A → Way C) (k : B → Way D) → WayMeets R w u
-    → ((x : A) (y : B) → R x y → WayMeets Q (f x) (k y)) → WayMeets Q (also w f) (also u k)
-unfolding also
-also-meets Q (on x) (on y) f k h m = m x y h
-also-meets Q (on x) (out n l) f k h m = absurd h
-also-meets Q (out n l) u f k h m = tt
+pub also-meets : {A B C D : Type 0} {R : A → B → Type 0} (Q : C → D → Type 0) (w : Result A) (u : Result B) (f : A → Result C) (k : B → Result D)
+    → ResultMeets R w u
+    → ((x : A) (y : B) → R x y → ResultMeets Q (f x) (k y)) → ResultMeets Q (andThen w f) (andThen u k)
+unfolding andThen
+also-meets Q (ok x) (ok y) f k h m = m x y h
+also-meets Q (ok x) (error n l) f k h m = absurd h
+also-meets Q (error n l) u f k h m = tt
 
 -- a refusal ends the prediction and leaves with 9
-refused-next : (o : After) (f : List ℕ → After) → P.unlessRefused (next o f) ≡ also (P.unlessRefused o) (λ l. P.unlessRefused (f l))
-unfolding P.unlessRefused next also
+refused-next : (o : After) (f : List ℕ → After) → P.unlessRefused (thenPlane o f) ≡ andThen (P.unlessRefused o) (λ l. P.unlessRefused (f l))
+unfolding P.unlessRefused thenPlane andThen
 refused-next o f = go (o .answer) (o .store)
   where
-    go : (a : Predicted) (l : List ℕ) → P.unlessRefused (next (record { store = l; answer = a }) f)
-        ≡ also (P.unlessRefused (record { store = l; answer = a })) (λ l. P.unlessRefused (f l))
+    go : (a : Predicted) (l : List ℕ) → P.unlessRefused (thenPlane (record { store = l; answer = a }) f)
+        ≡ andThen (P.unlessRefused (record { store = l; answer = a })) (λ l. P.unlessRefused (f l))
     go Done l = refl
     go Refused l = refl
 
@@ -55,17 +56,18 @@ size-of Cb = inl refl
 le-is : (a b : ℤ) → leZ a b ≡ true → a ≤ℤ b
 le-is a b e = le-by (v a) (v b) (le-yes (v a) (v b) e)
 
-averaged : (t : Bool) (a b : ℕ) → laid t a b ≡ cond t (bothWays a b) b
+averaged : (t : Bool) (a b : ℕ) → storedSample t a b ≡ cond t (interpolated a b) b
 averaged true a b = L.two-rounded a b
 averaged false a b = refl
 
 -- the planes of Cr and Cb behind that of Y
-abbrev rest : S.Coding → Macroblock → ℕ → Bool → ℤ → ℤ → List ℕ → Way (List ℕ)
+abbrev rest : S.Coding → Macroblock → ℕ → Bool → ℤ → ℤ → List ℕ → Result (List ℕ)
 rest g m k average right down l =
-    also (S.predictedPlane g m k average Cr (chrominance right) (chrominance down) l) (S.predictedPlane g m k average Cb (chrominance right) (chrominance down))
+    andThen (S.predictedPlane g m k average Cr (chrominance right) (chrominance down) l)
+        (S.predictedPlane g m k average Cb (chrominance right) (chrominance down))
 
 -- the block at p, referring to samples inside
-module _ (p : Place) (size : (p .size ≡ 8) ⊎ (p .size ≡ 16)) (right down : ℤ) (e : S.inPicture p right down ≡ true) where
+module _ (p : BlockPosition) (size : (p .size ≡ 8) ⊎ (p .size ≡ 16)) (right down : ℤ) (e : S.inPicture p right down ≡ true) where
   abbrev isPlace : Bool
   isPlace = ltb (p .row) (p .down) && ltb (p .column) (p .across) && leb (p .across) 256 && leb (p .down) 256
 
@@ -79,7 +81,7 @@ module _ (p : Place) (size : (p .size ≡ 8) ⊎ (p .size ≡ 16)) (right down :
   place : (k : ℕ) → getD (ltb (p .row) (p .down) ∷ ltb (p .column) (p .across) ∷ leb (p .across) 256 ∷ leb (p .down) 256 ∷ []) k true ≡ true
   place = each (ltb (p .row) (p .down)) (ltb (p .column) (p .across) ∷ leb (p .across) 256 ∷ leb (p .down) 256 ∷ []) (parts .0)
 
-  placed : Placed p
+  placed : BlockInPlane p
   placed = record {
     size = size;
     inside = record {
@@ -101,16 +103,16 @@ module _ (p : Place) (size : (p .size ≡ 8) ⊎ (p .size ≡ 16)) (right down :
   unfolding predicted
   pels-same s d average =
       rows-alike d (address p) (width p) (p .size) _ _ (p .size) (λ y x a b.
-      ap (laid average (getD d (address p + y * width p + x) 0)) (L.sample-is placed right down inside s y x)
+      ap (storedSample average (getD d (address p + y * width p + x) 0)) (L.sample-is placed right down inside s y x)
       ∙ averaged average (getD d (address p + y * width p + x) 0) (pel s (width p) right down (p .row * p .size + y) (p .column * p .size + x)))
 
 -- one plane
 plane-meets : (g : S.Coding) (m : Macroblock) (k : ℕ) (average : Bool) (q : Plane) (right down : ℤ) (l : List ℕ)
-    → WayMeets _≡_ (S.predictedPlane g m k average q right down l) (P.unlessRefused (ofStores m k (g .context .stores .cur) average q right down l))
+    → ResultMeets _≡_ (S.predictedPlane g m k average q right down l) (P.unlessRefused (ofStores m k (g .context .stores .cur) average q right down l))
 unfolding S.predictedPlane P.unlessRefused follow
 plane-meets g m k average q right down l = go (S.inPicture p right down) refl
   where
-    p : Place
+    p : BlockPosition
     p = blockOf m (blockSize q)
 
     from : ℕ
@@ -120,7 +122,7 @@ plane-meets g m k average q right down l = go (S.inPicture p right down) refl
     to = planeStart (g .context .stores .cur) q (macroblocks m)
 
     go : (t : Bool) → S.inPicture p right down ≡ t
-        → WayMeets _≡_ (cond t (on (putMid to (bytes p) l (S.pels p (midOf from (bytes p) l) (midOf to (bytes p) l) right down average))) S.forbidden)
+        → ResultMeets _≡_ (cond t (ok (putMid to (bytes p) l (S.pels p (midOf from (bytes p) l) (midOf to (bytes p) l) right down average))) S.forbidden)
         (P.unlessRefused (follow (fetch p right down) p from to right down average l))
     go true e =
         rw (L.is-copied (placed p (size-of q) right down e) right down (inside p (size-of q) right down e))
@@ -129,7 +131,7 @@ plane-meets g m k average q right down l = go (S.inPicture p right down) refl
 
 -- the three planes
 pub from-meets : (g : S.Coding) (address k : ℕ) (d : S.Direction) (set : Bool) (x : S.Vector) (average : Bool) (l : List ℕ)
-    → WayMeets _≡_ (S.predictedFrom g address k d x average l) (P.predictFrom (g .context) address k (motionOf d set x) average l)
+    → ResultMeets _≡_ (S.predictedFrom g address k d x average l) (P.predictFrom (g .context) address k (motionOf d set x) average l)
 unfolding S.predictedFrom P.predictFrom predictedPlanes
 from-meets g address k d set x average l =
     let m = macroblockAt (g .context .sizes .«mb_width») (g .context .sizes .«mb_height») address in
@@ -137,17 +139,17 @@ from-meets g address k d set x average l =
     let down = inHalves (d .«full_pel_vector») (x .down) in
     let plane = plane-meets g m k average in
     let ours = ofStores m k (g .context .stores .cur) average in
-    subst (WayMeets _≡_ (S.predictedFrom g address k d x average l))
-    (sym (refused-next (ours Y right down l) (λ s. next (ours Cr (chroma right) (chroma down) s) (ours Cb (chroma right) (chroma down))))) (
+    subst (ResultMeets _≡_ (S.predictedFrom g address k d x average l))
+    (sym (refused-next (ours Y right down l) (λ s. thenPlane (ours Cr (chroma right) (chroma down) s) (ours Cb (chroma right) (chroma down))))) (
     also-meets _≡_ (S.predictedPlane g m k average Y right down l) (P.unlessRefused (ours Y right down l)) _ _ (plane Y right down l) (λ a b e.
-    subst (λ (b : List ℕ). WayMeets _≡_ (rest g m k average right down a)
-    (P.unlessRefused (next (ours Cr (chroma right) (chroma down) b) (ours Cb (chroma right) (chroma down))))) e (
-    subst (WayMeets _≡_ (rest g m k average right down a))
+    subst (λ (b : List ℕ). ResultMeets _≡_ (rest g m k average right down a)
+    (P.unlessRefused (thenPlane (ours Cr (chroma right) (chroma down) b) (ours Cb (chroma right) (chroma down))))) e (
+    subst (ResultMeets _≡_ (rest g m k average right down a))
     (sym (refused-next (ours Cr (chroma right) (chroma down) a) (ours Cb (chroma right) (chroma down)))) (
     rw (L.chrominance-is right, L.chrominance-is down)
     (also-meets _≡_ (S.predictedPlane g m k average Cr (chrominance right) (chrominance down) a)
     (P.unlessRefused (ours Cr (chrominance right) (chrominance down) a)) _ _
     (plane Cr (chrominance right) (chrominance down) a) (λ a b e.
-    subst (λ (b : List ℕ). WayMeets _≡_ (S.predictedPlane g m k average Cb (chrominance right) (chrominance down) a)
+    subst (λ (b : List ℕ). ResultMeets _≡_ (S.predictedPlane g m k average Cb (chrominance right) (chrominance down) a)
     (P.unlessRefused (ours Cb (chrominance right) (chrominance down) b))) e
     (plane Cb (chrominance right) (chrominance down) a)))))))

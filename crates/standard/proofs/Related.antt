@@ -15,7 +15,7 @@ use Rattle.picture_state.specs.declared.types.Context.{Context}
 use Rattle.picture_state.specs.declared.types.Matrices.{Matrices}
 use Rattle.picture_state.specs.declared.types.Motion.{Motion}
 use Rattle.picture_state.specs.declared.types.Slice.{Slice}
-use Rattle.picture_state.specs.State.{World, world, freshBlock}
+use Rattle.picture_state.specs.State.{SliceState, sliceState, freshBlock}
 use Rattle.picture_state.specs.Flags.{flag}
 use Rattle.standard.specs.Standard as S
 use Rattle.standard.specs.Standard.{Direction, Vector, Coding, Pasts, pasts, Variables, far}
@@ -68,9 +68,9 @@ backNext g first v = S.backStart g first (v .«macroblock_type») v
 
 -- before a macroblock: vectors and predictors as they are used if it is the next in the picture, and nothing left over; the flags are those of the last
 -- type, as a skip in a B picture needs them
-pub record Related (g : Coding) (first : Bool) (v : Variables) (w : World) : Type 0 where
+pub record Related (g : Coding) (first : Bool) (v : Variables) (w : SliceState) : Type 0 where
   pub o : Own
-  pub is : w ≡ world (sliceOf g (v .«previous_macroblock_address») (v .«quantizer_scale») (forNext g first v) (backNext g first v) o) freshBlock (v .pels)
+  pub is : w ≡ sliceState (sliceOf g (v .«previous_macroblock_address») (v .«quantizer_scale») (forNext g first v) (backNext g first v) o) freshBlock (v .pels)
   pub for : In (g .forward) (forNext g first v)
   pub back : In (g .backward) (backNext g first v)
   pub flags : eqb (g .context .«picture_type») 3 ≡ true → first ≡ false

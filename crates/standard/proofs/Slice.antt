@@ -8,21 +8,21 @@ use lib.Dec.{eqb}
 use lib.IntN.{ℤ, pos, negsuc, _+ℤ_}
 use lib.ListN.{length}
 use lib.Signed.{ltZ, leZ}
-use Rattle.laws.specs.Turns.{Turn, again, stop}
+use Rattle.laws.specs.Loops.{Step, continue, finish}
 use Rattle.laws.proofs.Ints.{v, lit, _⊕_, _⊖_, yes-lt, yes-le, le-yes, lt-yes}
 use Rattle.bits.specs.Bounds.{longestStream}
-use Rattle.bits.specs.Bits.{has, got}
+use Rattle.bits.specs.Bits.{has, readAt}
 use Rattle.bits.specs.Programs.{Prog, Out, done, run, bind, bits, nonZero, many}
 use Rattle.bits.proofs.Programs.{run-bind}
 use Rattle.picture_state.specs.declared.types.Context.{Context}
 use Rattle.picture_state.specs.declared.types.Matrices.{Matrices}
 use Rattle.picture_state.specs.declared.types.Slice.{Slice}
-use Rattle.picture_state.specs.State.{World, inSlice, freshBlock}
-use Rattle.picture_state.specs.Ways.{Way, on, out}
+use Rattle.picture_state.specs.State.{SliceState, withSlice, freshBlock}
+use Rattle.picture_state.specs.Result.{Result, ok, error}
 use Rattle.macroblock.specs.Macroblocks as M
 use Rattle.slice.specs.Slices as O
 use Rattle.standard.specs.Standard as S
-use Rattle.standard.proofs.Agreement.{Meets, TurnMeets, Agree, run-plain, a-by, a-loop}
+use Rattle.standard.proofs.Agreement.{Meets, StepMeets, Agree, run-lift, a-by, a-loop}
 use Rattle.standard.proofs.Related.{motionOf, own, Related, Rule, coding}
 use Rattle.standard.proofs.Heads.{zero-in}
 use Rattle.standard.proofs.Macroblock.{macroblock-agrees}
@@ -37,22 +37,22 @@ pub record Begun (f b : S.Direction) (x : Slice) : Type 0 where
   pub backward : x .«motion_backward» ≡ motionOf b backSet back
 
 -- between two macroblocks
-record Between (g : S.Coding) (x : S.Slicing) (y : O.Slicing) : Type 0 where
+record Between (g : S.Coding) (x : S.SliceLoopState) (y : O.SliceLoopState) : Type 0 where
   first : y .first ≡ x .first
-  same : Related g (x .first) (x .variables) (y .world)
+  same : Related g (x .first) (x .variables) (y .sliceState)
 
 module _ (rule : Rule) (g : Context) (m : Matrices) (df db : S.Direction) (s : List ℕ) (long : length s ≤ longestStream) where
   abbrev C : S.Coding
   C = coding rule g m df db
 
-  abbrev Turns : Out (Turn S.Slicing (Way S.Variables)) → Out (Turn O.Slicing (Way World)) → Type 0
-  Turns o u = TurnMeets (Between C) (Related C false) (o .value) (o .at) (u .value) (u .at)
+  abbrev Turns : Out (Step S.SliceLoopState (Result S.Variables)) → Out (Step O.SliceLoopState (Result SliceState)) → Type 0
+  Turns o u = StepMeets (Between C) (Related C false) (o .value) (o .at) (u .value) (u .at)
 
   -- the end of a slice
-  module _ (x : S.Variables) (w : World) (e : ℕ) (r : Related C false x w) where
-    abbrev theirs : Bool → Bool → Bool → Prog (Turn S.Slicing (Way S.Variables))
-    theirs h z more = cond (not h) (done (stop S.forbidden))
-        (cond z (done (stop (on x))) (cond more (done (again (record { first = false; variables = x }))) (done (stop S.forbidden))))
+  module _ (x : S.Variables) (w : SliceState) (e : ℕ) (r : Related C false x w) where
+    abbrev theirs : Bool → Bool → Bool → Prog (Step S.SliceLoopState (Result S.Variables))
+    theirs h z more = cond (not h) (done (finish S.forbidden))
+        (cond z (done (finish (ok x))) (cond more (done (continue (record { first = false; variables = x }))) (done (finish S.forbidden))))
 
     abbrev isMore : Bool
     isMore = ltZ (x .«previous_macroblock_address» +ℤ pos 1) (pos (g .sizes .«mb_size»))
@@ -62,65 +62,67 @@ module _ (rule : Rule) (g : Context) (m : Matrices) (df db : S.Direction) (s : L
         let n = g .sizes .«mb_size» in
         let prev = x .«previous_macroblock_address» in
         let a : leZ (pos n) (prev +ℤ pos 1)
-        ≡ true = ap (λ (z : ℤ). leZ (pos n) (z +ℤ pos 1)) (sym (ap (λ (w : World). w .slice .«macroblock_address») (r .is))) ∙ p in
+        ≡ true = ap (λ (z : ℤ). leZ (pos n) (z +ℤ pos 1)) (sym (ap (λ (w : SliceState). w .slice .«macroblock_address») (r .is))) ∙ p in
         let h = le-yes (lit n) (v prev ⊕ lit 1) a in
         let k = lt-yes (v prev ⊕ lit 1) (lit n) q in
         omega arith
 
-    at-last : O.isLast g w ≡ true → (h z more : Bool) → isMore ≡ more → Turns (run (theirs h z more) s e) (record { value = stop (on w); at = e })
+    at-last : O.isLast g w ≡ true → (h z more : Bool) → isMore ≡ more → Turns (run (theirs h z more) s e) (record { value = finish (ok w); at = e })
     unfolding run
     at-last p false z more q = tt
     at-last p true true more q = (refl, r)
     at-last p true false true q = absurd (not-last p q)
     at-last p true false false q = tt
 
-    before-last : (h z more : Bool) → Turns (run (theirs h z more) s e) (run (cond (h && not z) (done (again (O.slicing false w))) (done (stop (on w)))) s e)
+    before-last : (h z more : Bool)
+        → Turns (run (theirs h z more) s e) (run (cond (h && not z) (done (continue (O.sliceLoopState false w))) (done (finish (ok w)))) s e)
     unfolding run
     before-last false z more = tt
     before-last true true more = (refl, r)
     before-last true false true = (refl, record { first = refl; same = r })
     before-last true false false = tt
 
-    past-meets : Turns (run (S.pastMacroblock C (on x)) s e) (run (O.pastMacroblock g (on w)) s e)
-    unfolding S.pastMacroblock O.pastMacroblock run bind
+    past-meets : Turns (run (S.afterMacroblock C (ok x)) s e) (run (O.afterMacroblock g (ok w)) s e)
+    unfolding S.afterMacroblock O.afterMacroblock run bind
     past-meets = go (O.isLast g w) refl
       where
         go : (last : Bool) → O.isLast g w ≡ last
-            → Turns (run (S.pastMacroblock C (on x)) s e)
-            (run (cond last (done (stop (on w))) (bind (nonZero 23) (λ more. cond more (done (again (O.slicing false w))) (done (stop (on w)))))) s e)
-        go true p = at-last p (has s e 23) (eqb (got s e 23) 0) isMore refl
-        go false p = before-last (has s e 23) (eqb (got s e 23) 0) isMore
+            → Turns (run (S.afterMacroblock C (ok x)) s e)
+            (run (cond last (done (finish (ok w))) (bind (nonZero 23) (λ more. cond more (done (continue (O.sliceLoopState false w))) (done (finish (ok w))))))
+            s e)
+        go true p = at-last p (has s e 23) (eqb (readAt s e 23) 0) isMore refl
+        go false p = before-last (has s e 23) (eqb (readAt s e 23) 0) isMore
 
-  left : (n : ℕ) (l : List ℕ) (e : ℕ) (u : Out (Turn O.Slicing (Way World))) → Turns (run (S.pastMacroblock C (out n l)) s e) u
-  unfolding S.pastMacroblock run
+  left : (n : ℕ) (l : List ℕ) (e : ℕ) (u : Out (Step O.SliceLoopState (Result SliceState))) → Turns (run (S.afterMacroblock C (error n l)) s e) u
+  unfolding S.afterMacroblock run
   left n l e u = tt
 
-  turn-meets : (x : S.Slicing) (y : O.Slicing) (a : ℕ) → Between C x y → Turns (run (S.sliceTurn C x) s a) (run (O.sliceTurn g m y) s a)
-  unfolding S.sliceTurn O.sliceTurn
-  turn-meets x y a i =
+  step-meets : (x : S.SliceLoopState) (y : O.SliceLoopState) (a : ℕ) → Between C x y → Turns (run (S.sliceStep C x) s a) (run (O.sliceStep g m y) s a)
+  unfolding S.sliceStep O.sliceStep
+  step-meets x y a i =
       let o = run (S.macroblock C (x .first) (x .variables)) s a in
-      let u = run (M.macroblock g m (y .first) (y .world)) s a in
-      let r : Agree (Related C false) s a (S.macroblock C (x .first) (x .variables)) (M.macroblock g m (y .first) (y .world)) =
-      rw (i .first) (macroblock-agrees rule g m df db s long (x .first) (x .variables) (y .world) a (i .same)) in
+      let u = run (M.macroblock g m (y .first) (y .sliceState)) s a in
+      let r : Agree (Related C false) s a (S.macroblock C (x .first) (x .variables)) (M.macroblock g m (y .first) (y .sliceState)) =
+      rw (i .first) (macroblock-agrees rule g m df db s long (x .first) (x .variables) (y .sliceState) a (i .same)) in
       rw (
-        run-bind (S.macroblock C (x .first) (x .variables)) (S.pastMacroblock C) s a,
-        run-bind (M.macroblock g m (y .first) (y .world))
-            (O.pastMacroblock g) s a,
+        run-bind (S.macroblock C (x .first) (x .variables)) (S.afterMacroblock C) s a,
+        run-bind (M.macroblock g m (y .first) (y .sliceState))
+            (O.afterMacroblock g) s a,
       )
       (go (o .value) (o .at) (u .value) (u .at) (r .is))
     where
-      go : (x : Way S.Variables) (e : ℕ) (y : Way World) (j : ℕ) → Meets (Related C false) x e y j
-          → Turns (run (S.pastMacroblock C x) s e) (run (O.pastMacroblock g y) s j)
-      go (on x) e (on y) j m = subst (λ (j : ℕ). Turns (run (S.pastMacroblock C (on x)) s e) (run (O.pastMacroblock g (on y)) s j)) (m .0)
+      go : (x : Result S.Variables) (e : ℕ) (y : Result SliceState) (j : ℕ) → Meets (Related C false) x e y j
+          → Turns (run (S.afterMacroblock C x) s e) (run (O.afterMacroblock g y) s j)
+      go (ok x) e (ok y) j m = subst (λ (j : ℕ). Turns (run (S.afterMacroblock C (ok x)) s e) (run (O.afterMacroblock g (ok y)) s j)) (m .0)
           (past-meets x y e (m .1))
-      go (on x) e (out n l) j m = absurd m
-      go (out n l) e y j m = left n l e _
+      go (ok x) e (error n l) j m = absurd m
+      go (error n l) e y j m = left n l e _
 
   -- ---- the whole
 
   -- the state at the beginning of a slice
-  start-related : (position q : ℕ) (w : World) → Begun df db (w .slice) → w .«block_data» ≡ freshBlock
-      → Related C true (S.sliceStart C position q (w .store)) (inSlice (O.sliceStart g position q (w .slice)) w)
+  start-related : (position q : ℕ) (w : SliceState) → Begun df db (w .slice) → w .«block_data» ≡ freshBlock
+      → Related C true (S.sliceStart C position q (w .store)) (withSlice (O.sliceStart g position q (w .slice)) w)
   start-related position q w b none =
       let before = (position - 1) * g .sizes .«mb_width» in
       record {
@@ -135,13 +137,13 @@ module _ (rule : Rule) (g : Context) (m : Matrices) (df db : S.Direction) (s : L
       }
 
   -- 2.4.2.6, 2.4.4: the standard's slice() and ours, from behind the start code on
-  pub slice-agrees : (position : ℕ) (w : World) (a : ℕ) → Begun df db (w .slice) → w .«block_data» ≡ freshBlock
+  pub slice-agrees : (position : ℕ) (w : SliceState) (a : ℕ) → Begun df db (w .slice) → w .«block_data» ≡ freshBlock
       → Agree (Related C false) s a (S.slice C position (w .store)) (O.slice g m position w)
   unfolding S.slice O.slice
   slice-agrees position w a b none =
       let o = run (bits 5) s a in
       let e = run O.extra s (o .at) in
       let q = o .value in
-      a-by _ _ (run-plain (bits 5) _ s a ∙ run-plain O.extra _ s (o .at)) (run-bind (bits 5) _ s a ∙ run-bind O.extra _ s (o .at))
-      (a-loop (Between C) (Related C false) s (S.sliceTurn C) (O.sliceTurn g m) (on w) turn-meets many _ _ (e .at)
+      a-by _ _ (run-lift (bits 5) _ s a ∙ run-lift O.extra _ s (o .at)) (run-bind (bits 5) _ s a ∙ run-bind O.extra _ s (o .at))
+      (a-loop (Between C) (Related C false) s (S.sliceStep C) (O.sliceStep g m) (ok w) step-meets many _ _ (e .at)
       (record { first = refl; same = start-related position q w b none }) .is)

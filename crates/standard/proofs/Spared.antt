@@ -10,64 +10,65 @@ use lib.Dec.{eqb, ltb}
 use lib.IntN.{ℤ, pos, natAbs}
 use lib.ListN.{length, getD}
 use lib.Signed.{leZ}
-use Rattle.laws.specs.Turns.{again, stop}
+use Rattle.laws.specs.Loops.{continue, finish}
 use Rattle.laws.proofs.Lists.{length-mid, length-rows, put-before, put-after}
 use Rattle.laws.proofs.Tests.{by-case}
-use Rattle.bits.specs.Bits.{has, got}
+use Rattle.bits.specs.Bits.{has, readAt}
 use Rattle.bits.specs.Programs.{Prog, done, run, nextStartCode, many, eqZ}
-use Rattle.bits.proofs.Gives.{Gives, Turned, g-done, g-bind, g-if, g-for, g-loop, g-any}
-use Rattle.prediction.specs.declared.place.Macroblock.{Macroblock}
-use Rattle.prediction.specs.declared.place.Place.{Place}
+use Rattle.bits.proofs.Gives.{Gives, OnStep, g-done, g-bind, g-if, g-for, g-loop, g-any}
+use Rattle.prediction.specs.declared.position.Macroblock.{Macroblock}
+use Rattle.prediction.specs.declared.position.BlockPosition.{BlockPosition}
 use Rattle.prediction.specs.declared.planes.Plane.{Plane}
 use Rattle.prediction.specs.declared.planes.Plane.the-variants.{Y, Cr, Cb}
 use Rattle.prediction.specs.Predict.{macroblockAt, blockOf, bytes, address, width}
 use Rattle.prediction.specs.Planes.{blockSize, macroblocks, planeOf, planeLength, planeStart}
-use Rattle.prediction.specs.Writers.{overwrite, addBlock, blockPlace, blockWidth}
+use Rattle.prediction.specs.Writers.{overwrite, addBlock, blockAddress, blockWidth}
 use Rattle.picture_state.specs.declared.types.Stores.{Stores}
 use Rattle.picture_state.specs.declared.types.Sizes.{Sizes}
 use Rattle.picture_state.specs.declared.types.Matrices.{Matrices}
-use Rattle.picture_state.specs.Ways.{Way, on, out, also, leave, onward, forBelow}
+use Rattle.picture_state.specs.Result.{Result, ok, error, andThen, ifOk, bindResult, forBelow}
 use Rattle.standard.specs.Standard as S
-use Rattle.standard.proofs.Agreement.{WayIs}
+use Rattle.standard.proofs.Agreement.{ResultIs}
 
 -- ---- rules
 
-is-also : {A B : Type 0} (P : A → Type 0) (Q : B → Type 0) (w : Way A) (f : A → Way B) → WayIs P w → ((x : A) → P x → WayIs Q (f x)) → WayIs Q (also w f)
-unfolding also
-is-also P Q (on x) f h k = k x h
-is-also P Q (out n l) f h k = tt
+is-also : {A B : Type 0} (P : A → Type 0) (Q : B → Type 0) (w : Result A) (f : A → Result B) → ResultIs P w → ((x : A) → P x → ResultIs Q (f x))
+    → ResultIs Q (andThen w f)
+unfolding andThen
+is-also P Q (ok x) f h k = k x h
+is-also P Q (error n l) f h k = tt
 
 module _ {s : List ℕ} where
-  g-onward : {A B : Type 0} {P : A → Type 0} {Q : B → Type 0} {p : Prog (Way A)} (f : A → Prog (Way B)) → Gives s (WayIs P) p
-      → ((x : A) → P x → Gives s (WayIs Q) (f x)) → Gives s (WayIs Q) (onward p f)
-  unfolding onward leave
-  g-onward {A} {B} {P} {Q} {p} f g k = g-bind (leave f) g go
+  g-onward : {A B : Type 0} {P : A → Type 0} {Q : B → Type 0} {p : Prog (Result A)} (f : A → Prog (Result B)) → Gives s (ResultIs P) p
+      → ((x : A) → P x → Gives s (ResultIs Q) (f x)) → Gives s (ResultIs Q) (bindResult p f)
+  unfolding bindResult ifOk
+  g-onward {A} {B} {P} {Q} {p} f g k = g-bind (ifOk f) g go
     where
-      go : (w : Way A) → WayIs P w → Gives s (WayIs Q) (leave f w)
-      go (on x) h = k x h
-      go (out n l) h = g-done tt
+      go : (w : Result A) → ResultIs P w → Gives s (ResultIs Q) (ifOk f w)
+      go (ok x) h = k x h
+      go (error n l) h = g-done tt
 
-  g-each : {A : Type 0} {P : A → Type 0} (n : ℕ) (f : ℕ → A → Prog (Way A)) → ((i : ℕ) (x : A) → P x → Gives s (WayIs P) (f i x)) → {x : A} → P x
-      → Gives s (WayIs P) (forBelow n f x)
-  unfolding leave
-  g-each {A} {P} n f keeps h = g-for n (λ i. leave (f i)) go h
+  g-each : {A : Type 0} {P : A → Type 0} (n : ℕ) (f : ℕ → A → Prog (Result A)) → ((i : ℕ) (x : A) → P x → Gives s (ResultIs P) (f i x)) → {x : A} → P x
+      → Gives s (ResultIs P) (forBelow n f x)
+  unfolding ifOk
+  g-each {A} {P} n f keeps h = g-for n (λ i. ifOk (f i)) go h
     where
-      go : (i : ℕ) → i < n → (w : Way A) → WayIs P w → Gives s (WayIs P) (leave (f i) w)
-      go i k (on x) h = keeps i x h
-      go i k (out n l) h = g-done tt
+      go : (i : ℕ) → i < n → (w : Result A) → ResultIs P w → Gives s (ResultIs P) (ifOk (f i) w)
+      go i k (ok x) h = keeps i x h
+      go i k (error n l) h = g-done tt
 
   -- whatever the first gives
-  g-then : {A B : Type 0} {Q : B → Type 0} (p : Prog (Way A)) (f : A → Prog (Way B)) → ((x : A) → Gives s (WayIs Q) (f x))
-      → Gives s (WayIs Q) (onward p f)
+  g-then : {A B : Type 0} {Q : B → Type 0} (p : Prog (Result A)) (f : A → Prog (Result B)) → ((x : A) → Gives s (ResultIs Q) (f x))
+      → Gives s (ResultIs Q) (bindResult p f)
   g-then {A} {B} {Q} p f k = g-onward {P = λ x. Unit {0}} f (record { value = λ a. go (run p s a .value) }) (λ x u. k x)
     where
-      go : (w : Way A) → WayIs (λ x. Unit {0}) w
-      go (on x) = tt
-      go (out n l) = tt
+      go : (w : Result A) → ResultIs (λ x. Unit {0}) w
+      go (ok x) = tt
+      go (error n l) = tt
 
 -- ---- lengths
 
-pels-length : (p : Place) (s d : List ℕ) (right down : ℤ) (average : Bool) → length (S.pels p s d right down average) ≡ length d
+pels-length : (p : BlockPosition) (s d : List ℕ) (right down : ℤ) (average : Bool) → length (S.pels p s d right down average) ≡ length d
 pels-length p s d right down average = length-rows d (address p) (width p) (p .size) _ (p .size)
 
 abbrev laid : Bool → List ℕ → ℕ → ℕ → List ℤ → List ℕ
@@ -124,7 +125,7 @@ module _ (g : S.Coding) (l : List ℕ) (three : g .context .stores .cur * (384 *
   bytes-are m Cb = omega arith
 
   plane-spared : (a k : ℕ) (average : Bool) (q : Plane) (right down : ℤ) (x : List ℕ) → Same x
-      → WayIs Same (S.predictedPlane g (macroblockAt (g .context .sizes .«mb_width») (g .context .sizes .«mb_height») a) k average q right down x)
+      → ResultIs Same (S.predictedPlane g (macroblockAt (g .context .sizes .«mb_width») (g .context .sizes .«mb_height») a) k average q right down x)
   unfolding S.predictedPlane
   plane-spared a k average q right down x h =
       let m = macroblockAt (g .context .sizes .«mb_width») (g .context .sizes .«mb_height») a in
@@ -132,39 +133,39 @@ module _ (g : S.Coding) (l : List ℕ) (three : g .context .stores .cur * (384 *
       let to = planeStart cur q (macroblocks m) in
       let stores : cur * (384 * n) ≡ cur * (384 * macroblocks m) = ap (λ (k : ℕ). cur * (384 * k)) area in
       let store : 384 * n ≡ 384 * macroblocks m = ap (λ (k : ℕ). 384 * k) area in
-      by-case (WayIs Same) (S.inPicture p right down)
+      by-case (ResultIs Same) (S.inPicture p right down)
       (λ e. put-spared to (bytes p) x (S.pels p (midOf (planeStart k q (macroblocks m)) (bytes p) x) (midOf to (bytes p) x) right down average)
       (omega (arith, plane-low q (macroblocks m))) (omega (arith, plane-high q (macroblocks m), bytes-are m q))
       (pels-length p (midOf (planeStart k q (macroblocks m)) (bytes p) x) (midOf to (bytes p) x) right down average) h) (λ e. tt)
 
-  from-spared : (a k : ℕ) (d : S.Direction) (v : S.Vector) (average : Bool) (x : List ℕ) → Same x → WayIs Same (S.predictedFrom g a k d v average x)
+  from-spared : (a k : ℕ) (d : S.Direction) (v : S.Vector) (average : Bool) (x : List ℕ) → Same x → ResultIs Same (S.predictedFrom g a k d v average x)
   unfolding S.predictedFrom
   from-spared a k d v average x h =
       is-also Same Same _ _ (plane-spared a k average Y _ _ x h) (λ x h.
       is-also Same Same _ _ (plane-spared a k average Cr _ _ x h) (λ x h. plane-spared a k average Cb _ _ x h))
 
-  predicted-spared : (t a : ℕ) (f b : S.Vector) (x : List ℕ) → Same x → WayIs Same (S.predicted g t a f b x)
+  predicted-spared : (t a : ℕ) (f b : S.Vector) (x : List ℕ) → Same x → ResultIs Same (S.predicted g t a f b x)
   unfolding S.predicted
   predicted-spared t a f b x h =
       let past = g .context .stores .fwd in
       let future = g .context .stores .bwd in
-      by-case (WayIs Same) (not (eqb (g .context .«picture_type») 3)) (λ e. from-spared a past (g .forward) f false x h) (λ e.
-      by-case (WayIs Same) (S.«macroblock_motion_forward» t && S.«macroblock_motion_backward» t)
+      by-case (ResultIs Same) (not (eqb (g .context .«picture_type») 3)) (λ e. from-spared a past (g .forward) f false x h) (λ e.
+      by-case (ResultIs Same) (S.«macroblock_motion_forward» t && S.«macroblock_motion_backward» t)
       (λ e. is-also Same Same _ _ (from-spared a past (g .forward) f false x h) (λ x h. from-spared a future (g .backward) b true x h)) (λ e.
-      by-case (WayIs Same) (S.«macroblock_motion_forward» t) (λ e. from-spared a past (g .forward) f false x h) (λ e.
-      by-case (WayIs Same) (S.«macroblock_motion_backward» t) (λ e. from-spared a future (g .backward) b false x h) (λ e. tt))))
+      by-case (ResultIs Same) (S.«macroblock_motion_forward» t) (λ e. from-spared a past (g .forward) f false x h) (λ e.
+      by-case (ResultIs Same) (S.«macroblock_motion_backward» t) (λ e. from-spared a future (g .backward) b false x h) (λ e. tt))))
 
-  skips-spared : (t : ℕ) (f b : S.Vector) (a k : ℕ) (x : List ℕ) → Same x → WayIs Same (S.skippedFrom g t f b a k x)
+  skips-spared : (t : ℕ) (f b : S.Vector) (a k : ℕ) (x : List ℕ) → Same x → ResultIs Same (S.skippedFrom g t f b a k x)
   unfolding S.skippedFrom
   skips-spared t f b a zero x h = h
   skips-spared t f b a (suc k) x h = is-also Same Same _ _ (predicted-spared t a f b x h) (λ x h. skips-spared t f b (a + 1) k x h)
 
-  skipped-spared : (first : Bool) (k : ℕ) (v : S.Variables) → Same (v .pels) → WayIs Same (S.skipped g first k v)
+  skipped-spared : (first : Bool) (k : ℕ) (v : S.Variables) → Same (v .pels) → ResultIs Same (S.skipped g first k v)
   unfolding S.skipped
   skipped-spared first k v h =
-      by-case (WayIs Same) (first || ltb k 2) (λ e. h) (λ e.
-      by-case (WayIs Same) (eqb (g .context .«picture_type») 2) (λ e. skips-spared 0 S.zero-vector S.zero-vector _ _ (v .pels) h) (λ e.
-      by-case (WayIs Same) (eqb (g .context .«picture_type») 3 && not (S.«macroblock_intra» (v .«macroblock_type»)))
+      by-case (ResultIs Same) (first || ltb k 2) (λ e. h) (λ e.
+      by-case (ResultIs Same) (eqb (g .context .«picture_type») 2) (λ e. skips-spared 0 S.zero-vector S.zero-vector _ _ (v .pels) h) (λ e.
+      by-case (ResultIs Same) (eqb (g .context .«picture_type») 3 && not (S.«macroblock_intra» (v .«macroblock_type»)))
       (λ e. skips-spared (v .«macroblock_type») (v .forPrev) (v .backPrev) _ _ (v .pels) h) (λ e. tt)))
 
   -- ---- blocks
@@ -176,8 +177,8 @@ module _ (g : S.Coding) (l : List ℕ) (three : g .context .stores .cur * (384 *
       let start = planeStart cur (planeOf i) n in
       let size = planeLength (planeOf i) n in
       let before = midOf start size x in
-      put-spared start size x (laid intra before (blockPlace m i) (blockWidth m i) (g .rules .transform (f .recon))) (plane-low (planeOf i) n)
-      (plane-high (planeOf i) n) (laid-length intra before (blockPlace m i) (blockWidth m i) (g .rules .transform (f .recon))) h
+      put-spared start size x (laid intra before (blockAddress m i) (blockWidth m i) (g .rules .transform (f .recon))) (plane-low (planeOf i) n)
+      (plane-high (planeOf i) n) (laid-length intra before (blockAddress m i) (blockWidth m i) (g .rules .transform (f .recon))) h
 
   abbrev Blocks : S.Blocks → Type 0
   Blocks b = Same (b .pels)
@@ -185,18 +186,18 @@ module _ (g : S.Coding) (l : List ℕ) (three : g .context .stores .cur * (384 *
   abbrev Variables : S.Variables → Type 0
   Variables v = Same (v .pels)
 
-  abbrev Slices : S.Slices → Type 0
+  abbrev Slices : S.SlicesLoopState → Type 0
   Slices x = Same (x .pels)
 
   module _ {s : List ℕ} where
     block-spared : (intra isFar : Bool) (scale a i : ℕ) (b : S.Blocks) → Blocks b
-        → Gives s (WayIs Blocks) (cond intra (S.intraBlock g isFar scale a i b) (S.nonIntraBlock g scale a i b))
+        → Gives s (ResultIs Blocks) (cond intra (S.intraBlock g isFar scale a i b) (S.nonIntraBlock g scale a i b))
     unfolding S.intraBlock S.nonIntraBlock
     block-spared intra isFar scale a i b h =
         g-if intra (λ e. g-then _ _ (λ zz. g-then _ _ (λ u. g-then _ _ (λ p. g-then _ _ (λ f. g-done (written-spared true i a f (b .pels) h))))))
         (λ e. g-then _ _ (λ p. g-then _ _ (λ f. g-done (written-spared false i a f (b .pels) h))))
 
-    blocks-spared : (intra isFar : Bool) (cbp scale a : ℕ) (b : S.Blocks) → Blocks b → Gives s (WayIs Blocks) (S.blocks g intra isFar cbp scale a b)
+    blocks-spared : (intra isFar : Bool) (cbp scale a : ℕ) (b : S.Blocks) → Blocks b → Gives s (ResultIs Blocks) (S.blocks g intra isFar cbp scale a b)
     unfolding S.blocks
     blocks-spared intra isFar cbp scale a b h =
         g-each {P = Blocks} 6 (S.block g intra isFar cbp scale a) (λ i b h.
@@ -204,56 +205,57 @@ module _ (g : S.Coding) (l : List ℕ) (three : g .context .stores .cur * (384 *
 
     -- ---- macroblocks
 
-    coded-spared : (first : Bool) (k u : ℕ) (v : S.Variables) (x : List ℕ) → Same x → Gives s (WayIs Variables) (S.coded g first k u v x)
-    unfolding S.coded
+    coded-spared : (first : Bool) (k u : ℕ) (v : S.Variables) (x : List ℕ) → Same x → Gives s (ResultIs Variables) (S.codedMacroblock g first k u v x)
+    unfolding S.codedMacroblock
     coded-spared first k u v x h =
         g-then _ _ (λ t. g-then _ _ (λ u. g-then _ _ (λ scale. g-then _ _ (λ f. g-then _ _ (λ b.
-        g-onward {P = Same} _ (g-done (by-case (WayIs Same) (S.«macroblock_intra» t) (λ e. h) (λ e. predicted-spared t _ f b x h))) (λ x h. g-then _ _ (λ cbp.
+        g-onward {P = Same} _ (g-done (by-case (ResultIs Same) (S.«macroblock_intra» t) (λ e. h) (λ e. predicted-spared t _ f b x h)))
+            (λ x h. g-then _ _ (λ cbp.
         g-onward {P = Blocks} _ (blocks-spared _ _ cbp scale _ _ h) (λ b h. g-done h))))))))
 
-    macroblock-spared : (first : Bool) (v : S.Variables) → Variables v → Gives s (WayIs Variables) (S.macroblock g first v)
+    macroblock-spared : (first : Bool) (v : S.Variables) → Variables v → Gives s (ResultIs Variables) (S.macroblock g first v)
     unfolding S.macroblock
     macroblock-spared first v h =
         g-then _ _ (λ k. g-then _ _ (λ u. g-onward {P = Same} _ (g-done (skipped-spared first k v h)) (λ x h. coded-spared first k _ v x h)))
 
     -- ---- slices
 
-    past-spared : (w : Way S.Variables) → WayIs Variables w
-        → Gives s (Turned (λ (x : S.Slicing). Variables (x .variables)) (WayIs Variables)) (S.pastMacroblock g w)
-    unfolding S.pastMacroblock run
-    past-spared (out n l) h = g-done tt
-    past-spared (on v) h = record { value = λ a. go (has s a 23) (eqb (got s a 23) 0) (S.isMore g v) a }
+    past-spared : (w : Result S.Variables) → ResultIs Variables w
+        → Gives s (OnStep (λ (x : S.SliceLoopState). Variables (x .variables)) (ResultIs Variables)) (S.afterMacroblock g w)
+    unfolding S.afterMacroblock run
+    past-spared (error n l) h = g-done tt
+    past-spared (ok v) h = record { value = λ a. go (has s a 23) (eqb (readAt s a 23) 0) (S.isMore g v) a }
       where
-        go : (t u more : Bool) (a : ℕ) → Turned (λ (x : S.Slicing). Variables (x .variables)) (WayIs Variables)
-            (run (cond (not t) (done (stop S.forbidden))
-            (cond u (done (stop (on v))) (cond more (done (again (record { first = false; variables = v }))) (done (stop S.forbidden))))) s a .value)
+        go : (t u more : Bool) (a : ℕ) → OnStep (λ (x : S.SliceLoopState). Variables (x .variables)) (ResultIs Variables)
+            (run (cond (not t) (done (finish S.forbidden))
+            (cond u (done (finish (ok v))) (cond more (done (continue (record { first = false; variables = v }))) (done (finish S.forbidden))))) s a .value)
         go false u more a = tt
         go true true more a = h
         go true false true a = h
         go true false false a = tt
 
-    slice-spared : (position : ℕ) (x : List ℕ) → Same x → Gives s (WayIs Variables) (S.slice g position x)
-    unfolding S.slice S.sliceTurn
+    slice-spared : (position : ℕ) (x : List ℕ) → Same x → Gives s (ResultIs Variables) (S.slice g position x)
+    unfolding S.slice S.sliceStep
     slice-spared position x h =
         g-then _ _ (λ q. g-then _ _ (λ u.
-        g-loop (λ (x : S.Slicing). Variables (x .variables)) many (S.sliceTurn g) S.forbidden
-        (λ y i. g-bind (S.pastMacroblock g) (macroblock-spared (y .first) (y .variables) i) past-spared) tt _ h))
+        g-loop (λ (x : S.SliceLoopState). Variables (x .variables)) many (S.sliceStep g) S.forbidden
+        (λ y i. g-bind (S.afterMacroblock g) (macroblock-spared (y .first) (y .variables) i) past-spared) tt _ h))
 
-    past-slice-spared : (w : Way S.Variables) → WayIs Variables w → Gives s (Turned Slices (WayIs Same)) (S.pastSlice g w)
-    unfolding S.pastSlice
-    past-slice-spared (out n l) h = g-done tt
-    past-slice-spared (on v) h = g-if (S.isMore g v) (λ e. g-done h) (λ e. g-done h)
+    past-slice-spared : (w : Result S.Variables) → ResultIs Variables w → Gives s (OnStep Slices (ResultIs Same)) (S.afterSlice g w)
+    unfolding S.afterSlice
+    past-slice-spared (error n l) h = g-done tt
+    past-slice-spared (ok v) h = g-if (S.isMore g v) (λ e. g-done h) (λ e. g-done h)
 
-    turn-spared : (x : S.Slices) → Slices x → Gives s (Turned Slices (WayIs Same)) (S.slicesTurn g x)
-    unfolding S.slicesTurn
-    turn-spared x h =
+    step-spared : (x : S.SlicesLoopState) → Slices x → Gives s (OnStep Slices (ResultIs Same)) (S.slicesStep g x)
+    unfolding S.slicesStep
+    step-spared x h =
         g-bind _ (g-any nextStartCode)
-        (λ c u. g-if (leZ (pos 1) c && leZ c (pos 0xaf)) (λ e. g-bind (S.pastSlice g) (slice-spared (natAbs c) (x .pels) h) past-slice-spared)
+        (λ c u. g-if (leZ (pos 1) c && leZ c (pos 0xaf)) (λ e. g-bind (S.afterSlice g) (slice-spared (natAbs c) (x .pels) h) past-slice-spared)
         (λ e. g-if ((eqZ c (pos 0xb2) || eqZ c (pos 0xb5)) && not (x .begun)) (λ e. g-done h) (λ e. g-done tt)))
 
-    slices-spared : Gives s (WayIs Same) (S.slices g l)
+    slices-spared : Gives s (ResultIs Same) (S.slices g l)
     unfolding S.slices
-    slices-spared = g-loop Slices many (S.slicesTurn g) S.forbidden turn-spared tt _ (record { long = refl; same = λ i o. refl })
+    slices-spared = g-loop Slices many (S.slicesStep g) S.forbidden step-spared tt _ (record { long = refl; same = λ i o. refl })
 
 -- ---- a picture
 
@@ -262,9 +264,9 @@ module _ (r : S.Rules) (z : Sizes) (m : Matrices) (t : Stores) (l s : List ℕ) 
   -- what a picture leaves: the other stores, and the roles of all for the next picture
   pub record Leaves (d : S.Decoded) : Type 0 where
     pub spared : Spared (t .cur) (z .«mb_size») l (d .pels)
-    pub stores : d .stores ≡ S.turned (d .header .«picture_coding_type») t
+    pub stores : d .stores ≡ S.rolesAfter (d .header .«picture_coding_type») t
 
-  pub picture-spared : (f b : S.Direction) → Gives s (WayIs Leaves) (S.picture r z m t f b l)
+  pub picture-spared : (f b : S.Direction) → Gives s (ResultIs Leaves) (S.picture r z m t f b l)
   unfolding S.picture
   picture-spared f b =
       g-then _ _ (λ h.
@@ -280,6 +282,6 @@ module _ (r : S.Rules) (z : Sizes) (m : Matrices) (t : Stores) (l s : List ℕ) 
       }
 
       go : (h : S.Header) (b : Bool)
-          → Gives s (WayIs (Spared (t .cur) (z .«mb_size») l)) (S.slices (coding h (cond b t (record { cur = t .cur; fwd = t .bwd; bwd = t .bwd }))) l)
+          → Gives s (ResultIs (Spared (t .cur) (z .«mb_size») l)) (S.slices (coding h (cond b t (record { cur = t .cur; fwd = t .bwd; bwd = t .bwd }))) l)
       go h true = slices-spared (coding h t) l three area
       go h false = slices-spared (coding h (record { cur = t .cur; fwd = t .bwd; bwd = t .bwd })) l three area

@@ -14,27 +14,27 @@ use Rattle.macroblock_head.specs.Heads.{macroblockType}
 use Rattle.slice.specs.Slices.{extra}
 
 -- 2.4.2.7: macroblock_stuffing, macroblock_escape (each adds 33), macroblock_address_increment (Table B.1)
-unfoldable pub increment : Prog (Way ℕ)
+unfoldable pub increment : Prog (Result ℕ)
 increment = do
   while 11 0b00000001111 (λ x. x) 0
   escapes ← while 11 0b00000001000 (λ x. x + 33) 0
-  code ← plain macroblockAddressIncrement
+  code ← lift macroblockAddressIncrement
   shall (leb 1 code && leb code 33)
-  give (escapes + code)
+  pure (escapes + code)
 
 -- 2.4.2.7: from macroblock_type on, at the address n behind the last one, which was of the type `last`
-unfoldable pub coded : Coding → Bool → ℕ → ℕ → Variables → List ℕ → Prog (Way Variables)
-coded g first n last v l = do
+unfoldable pub codedMacroblock : Coding → Bool → ℕ → ℕ → Variables → List ℕ → Prog (Result Variables)
+codedMacroblock g first n last v l = do
   let address = v .«previous_macroblock_address» +ℤ pos n
-  t ← plain (macroblockType (g .context .«picture_type»))
+  t ← lift (macroblockType (g .context .«picture_type»))
   shall (inTable (g .context .«picture_type») t)
-  scale ← if «macroblock_quant» t then plain (bits 5) else give (v .«quantizer_scale»)
+  scale ← if «macroblock_quant» t then lift (bits 5) else pure (v .«quantizer_scale»)
   for ← forVector g t (forStart g first last v)
   back ← backVector g t (backStart g first last v)
-  p ← step (if «macroblock_intra» t then on l else predicted g t (natAbs address) for back l)
-  cbp ← if «macroblock_pattern» t then plain codeBlockPattern else give 0
+  p ← fromResult (if «macroblock_intra» t then ok l else predicted g t (natAbs address) for back l)
+  cbp ← if «macroblock_pattern» t then lift codeBlockPattern else pure 0
   b ← blocks g («macroblock_intra» t) (far address v) cbp scale (natAbs address) (record { past = v .past; pels = p })
-  give (record {
+  pure (record {
     «previous_macroblock_address» = address;
     «past_intra_address» = if «macroblock_intra» t then address else v .«past_intra_address»;
     «quantizer_scale» = scale;
@@ -46,16 +46,16 @@ coded g first n last v l = do
   })
 
 -- 2.4.3.6: macroblock_address = previous_macroblock_address + macroblock_address_increment, in the picture; the macroblocks between are skipped
-unfoldable pub macroblock : Coding → Bool → Variables → Prog (Way Variables)
+unfoldable pub macroblock : Coding → Bool → Variables → Prog (Result Variables)
 macroblock g first v = do
   n ← increment
   let address = v .«previous_macroblock_address» +ℤ pos n
   shall (leZ (pos 0) address && ltZ address (pos (g .context .sizes .«mb_size»)))
-  l ← step (skipped g first n v)
-  coded g first n (lastType g first n v) v l
+  l ← fromResult (skipped g first n v)
+  codedMacroblock g first n (lastType g first n v) v l
 
 -- between two macroblocks: is the next one the first?
-pub record Slicing : Type 0 where
+pub record SliceLoopState : Type 0 where
   pub first : Bool
   pub variables : Variables
 
@@ -64,15 +64,15 @@ abbrev pub isMore : Coding → Variables → Bool
 isMore g v = ltZ (v .«previous_macroblock_address» +ℤ pos 1) (pos (g .context .sizes .«mb_size»))
 
 -- 2.4.2.6: do macroblock() while (nextbits() != '000 0000 0000 0000 0000 0000')
-unfoldable pub pastMacroblock : Coding → Way Variables → Prog (Turn Slicing (Way Variables))
-pastMacroblock g (out n l) = done (stop (out n l))
-pastMacroblock g (on v) = look 23 λ h x.
-    if not h then done (stop forbidden)
-    else if eqb x 0 then done (stop (on v))
-    else if isMore g v then done (again (record { first = false; variables = v })) else done (stop forbidden)
+unfoldable pub afterMacroblock : Coding → Result Variables → Prog (Step SliceLoopState (Result Variables))
+afterMacroblock g (error n l) = done (finish (error n l))
+afterMacroblock g (ok v) = look 23 λ h x.
+    if not h then done (finish forbidden)
+    else if eqb x 0 then done (finish (ok v))
+    else if isMore g v then done (continue (record { first = false; variables = v })) else done (finish forbidden)
 
-unfoldable pub sliceTurn : Coding → Slicing → Prog (Turn Slicing (Way Variables))
-sliceTurn g x = bind (macroblock g (x .first) (x .variables)) (pastMacroblock g)
+unfoldable pub sliceStep : Coding → SliceLoopState → Prog (Step SliceLoopState (Result Variables))
+sliceStep g x = bind (macroblock g (x .first) (x .variables)) (afterMacroblock g)
 
 -- 2.4.3.6: previous_macroblock_address = (slice_vertical_position - 1) * mb_width - 1. 2.4.4.1: past_intra_address = -2. What else stands is not used
 abbrev pub sliceStart : Coding → ℕ → ℕ → List ℕ → Variables
@@ -88,19 +88,19 @@ sliceStart g position q l = record {
 }
 
 -- 2.4.2.6: quantizer_scale, extra_information_slice, macroblocks
-unfoldable pub slice : Coding → ℕ → List ℕ → Prog (Way Variables)
+unfoldable pub slice : Coding → ℕ → List ℕ → Prog (Result Variables)
 slice g position l = do
-  q ← plain (bits 5)
-  plain extra
-  loop many (sliceTurn g) forbidden (record { first = true; variables = sliceStart g position q l })
+  q ← lift (bits 5)
+  lift extra
+  loop many (sliceStep g) forbidden (record { first = true; variables = sliceStart g position q l })
 
 -- 2.4.2.5, 2.4.3.4: full_pel_.._vector, .._f_code; .._r_size = .._f_code - 1, and 0 is forbidden
-unfoldable pub direction : Prog (Way Direction)
+unfoldable pub direction : Prog (Result Direction)
 direction = do
   full ← field 1
   code ← field 3
   shall (not (eqb code 0))
-  give (record { «full_pel_vector» = not (eqb full 0); «r_size» = code - 1 })
+  pure (record { «full_pel_vector» = not (eqb full 0); «r_size» = code - 1 })
 
 -- picture_coding_type, and what the header says of the two directions; one of which it says nothing is not used
 pub record Header : Type 0 where
@@ -109,44 +109,45 @@ pub record Header : Type 0 where
   pub backward : Direction
 
 -- 2.4.3.4: picture_coding_type is I, P or B; extra_bit_picture is 0, since extra_information_picture is reserved, and next_start_code() passes it over
-unfoldable pub header : Direction → Direction → Prog (Way Header)
+unfoldable pub header : Direction → Direction → Prog (Result Header)
 header f b = do
   temporal ← field 10
   type ← field 3
   delay ← field 16
   shall (eqb type 1 || eqb type 2 || eqb type 3)
-  forward ← if eqb type 1 then give f else direction
-  backward ← if eqb type 3 then direction else give b
+  forward ← if eqb type 1 then pure f else direction
+  backward ← if eqb type 3 then direction else pure b
   extra ← nextbits 1
   shall (eqb extra 0)
-  give (record { «picture_coding_type» = type; forward = forward; backward = backward })
+  pure (record { «picture_coding_type» = type; forward = forward; backward = backward })
 
 -- has a slice begun?
-pub record Slices : Type 0 where
+pub record SlicesLoopState : Type 0 where
   pub begun : Bool
   pub pels : List ℕ
 
 -- 2.4.2.5: do slice() while a slice start code follows, which one does until the last macroblock is reached (2.4.3.5)
-unfoldable pub pastSlice : Coding → Way Variables → Prog (Turn Slices (Way (List ℕ)))
-pastSlice g (out n l) = done (stop (out n l))
-pastSlice g (on v) = if isMore g v then done (again (record { begun = true; pels = v .pels })) else done (stop (on (v .pels)))
+unfoldable pub afterSlice : Coding → Result Variables → Prog (Step SlicesLoopState (Result (List ℕ)))
+afterSlice g (error n l) = done (finish (error n l))
+afterSlice g (ok v) = if isMore g v then done (continue (record { begun = true; pels = v .pels })) else done (finish (ok (v .pels)))
 
 -- 2.4.2.5: next_start_code(), then a slice (01 to AF); before the first one extension data (B5) and user data (B2), which end at the next start code
-unfoldable pub slicesTurn : Coding → Slices → Prog (Turn Slices (Way (List ℕ)))
-slicesTurn g x = bind nextStartCode λ c.
-    if leZ (pos 1) c && leZ c (pos 0xaf) then bind (slice g (natAbs c) (x .pels)) (pastSlice g)
-    else if (eqZ c (pos 0xb2) || eqZ c (pos 0xb5)) && not (x .begun) then done (again (record { begun = false; pels = x .pels })) else done (stop forbidden)
+unfoldable pub slicesStep : Coding → SlicesLoopState → Prog (Step SlicesLoopState (Result (List ℕ)))
+slicesStep g x = bind nextStartCode λ c.
+    if leZ (pos 1) c && leZ c (pos 0xaf) then bind (slice g (natAbs c) (x .pels)) (afterSlice g)
+    else if (eqZ c (pos 0xb2) || eqZ c (pos 0xb5))
+        && not (x .begun) then done (continue (record { begun = false; pels = x .pels })) else done (finish forbidden)
 
-unfoldable pub slices : Coding → List ℕ → Prog (Way (List ℕ))
-slices g l = loop many (slicesTurn g) forbidden (record { begun = false; pels = l })
+unfoldable pub slices : Coding → List ℕ → Prog (Result (List ℕ))
+slices g l = loop many (slicesStep g) forbidden (record { begun = false; pels = l })
 
 -- 2.4.4: the store `bwd` has the last I or P picture decoded, `fwd` the one before it. A P picture is predicted from the last, a B picture from both
 abbrev pub references : ℕ → Stores → Stores
 references type t = if eqb type 3 then t else record { cur = t .cur; fwd = t .bwd; bwd = t .bwd }
 
 -- 2.4.4: an I or P picture becomes the last, and the store of the one before is free
-abbrev pub turned : ℕ → Stores → Stores
-turned type t = if eqb type 3 then t else record { cur = t .fwd; fwd = t .bwd; bwd = t .cur }
+abbrev pub rolesAfter : ℕ → Stores → Stores
+rolesAfter type t = if eqb type 3 then t else record { cur = t .fwd; fwd = t .bwd; bwd = t .cur }
 
 pub record Decoded : Type 0 where
   pub header : Header
@@ -154,10 +155,10 @@ pub record Decoded : Type 0 where
   pub pels : List ℕ
 
 -- 2.4.2.5: header and slices; f and b stand for a direction of which the header says nothing
-unfoldable pub picture : Rules → Sizes → Matrices → Stores → Direction → Direction → List ℕ → Prog (Way Decoded)
+unfoldable pub picture : Rules → Sizes → Matrices → Stores → Direction → Direction → List ℕ → Prog (Result Decoded)
 picture r z m t f b l = do
   h ← header f b
   let type = h .«picture_coding_type»
   let g : Context = record { «picture_type» = type; sizes = z; stores = references type t }
   x ← slices (record { context = g; matrices = m; forward = h .forward; backward = h .backward; rules = r }) l
-  give (record { header = h; stores = turned type t; pels = x })
+  pure (record { header = h; stores = rolesAfter type t; pels = x })

@@ -120,9 +120,9 @@ pasted-from table at first k p f l e =
     rw (place, count) at (pasted-on p (omega arith) (e ∙ rw (getD-drop first table (k - first) 0, entry)))
 
 -- a store before the part that is pasted
-paste-behind : (d : List ℕ) (at : ℕ) (s : List ℕ) (n i : ℕ) (v : ℕ) → i < at → at ≤ length d
+paste-after : (d : List ℕ) (at : ℕ) (s : List ℕ) (n i : ℕ) (v : ℕ) → i < at → at ≤ length d
     → set (paste d at s n) i v ≡ paste (set d i v) at s n
-paste-behind d at s n i v l h =
+paste-after d at s n i v l h =
     let front : i < length (take at d) = simp length-take (omega arith) in
     let more : i < length (take at d ++ take n s) = simp length-append (omega arith) in
     set-append-left (take at d ++ take n s) (drop (at + n) d) i v more
@@ -147,7 +147,7 @@ module _ (before intra other : List ℕ) (h : (length before ≡ tablesLength) �
       let second : Pasted (set m (intraMatrixAt + k) x) otherMatrixAt other k (set now (intraMatrixAt + k) x) =
       pasted (p .most) (omega (arith, first .long))
       (ap (λ (t : List ℕ). set t (intraMatrixAt + k) x) (p .is)
-      ∙ paste-behind m otherMatrixAt other k (intraMatrixAt + k) x (omega arith) (omega (arith, p .inside))) in
+      ∙ paste-after m otherMatrixAt other k (intraMatrixAt + k) x (omega arith) (omega (arith, p .inside))) in
       subst (λ (t : List ℕ). Pasted t otherMatrixAt other (k + 1) (set (set now (intraMatrixAt + k) x) (otherMatrixAt + k) (getD other k 0))) (first .is)
       (pasted-on second (omega arith) refl)
 

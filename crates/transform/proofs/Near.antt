@@ -11,17 +11,17 @@ use lib.ListN.{getD-replicate}
 use mir.Facts.{and-yes}
 use Rattle.laws.proofs.Tables.{every}
 use Rattle.laws.proofs.Tables as Tables
-use Rattle.transform.specs.Steps.{Step, input, _⊕_, _⊖_, neg, _⊗_, nearest, over256, value, outputs, output}
+use Rattle.transform.specs.Steps.{Expression, input, _⊕_, _⊖_, neg, _⊗_, nearest, over256, value, outputs, output}
 use Rattle.transform.specs.Butterfly.{nth, butterfly}
 use Rattle.transform.specs.Idct.{at, lane, columns, rows, idct, dcOnly}
-use Rattle.transform.specs.Exact.{exact, exactColumn, exactResult, distance, Near, LoneNear}
+use Rattle.transform.specs.Exact.{exact, exactColumn, exactResult, distance, NearExact, DcOnlyNearExact}
 use Rattle.transform.proofs.Eights.{nth-eight}
 use Rattle.transform.proofs.Blocks.{block-at}
 use Rattle.transform.proofs.LoneDc.{lone-dc}
 use Rattle.transform.proofs.Apart.{Within, within-abs, itself, weaken, plus, less, minus, times, finer, round}
 
 -- at most d divisions stand within one another, and there are eight inputs
-abbrev deep : ℕ → Step → Bool
+abbrev deep : ℕ → Expression → Bool
 deep d (input k) = ltb k 8
 deep d (a ⊕ b) = deep d a && deep d b
 deep d (a ⊖ b) = deep d a && deep d b
@@ -31,7 +31,7 @@ deep zero (nearest a) = false
 deep (suc d) (nearest a) = deep d a
 
 -- how far apart, over m * 256 ^ d, where input k is e k apart over m
-abbrev apart : ℕ → ℕ → (ℕ → ℕ) → Step → ℕ
+abbrev apart : ℕ → ℕ → (ℕ → ℕ) → Expression → ℕ
 apart d m e (input k) = e k * 256 ^ d
 apart d m e (a ⊕ b) = apart d m e a + apart d m e b
 apart d m e (a ⊖ b) = apart d m e a + apart d m e b
@@ -41,7 +41,7 @@ apart zero m e (nearest a) = 0
 apart (suc d) m e (nearest a) = 128 * (m * 256 ^ d) + apart d m e a
 
 module _ (m : ℕ) (e : ℕ → ℕ) (s S : ℕ → ℤ) (h : (k : ℕ) → k < 8 → Within m (e k) (s k) (S k)) where
-  sound : (d : ℕ) (x : Step) → T (deep d x) → Within (m * 256 ^ d) (apart d m e x) (value s x) (exact d S x)
+  sound : (d : ℕ) (x : Expression) → T (deep d x) → Within (m * 256 ^ d) (apart d m e x) (value s x) (exact d S x)
   sound d (input k) t = finer (h k (ltb→lt k 8 t)) (256 ^ d)
   sound d (a ⊕ b) t = let q = and-yes (deep d a) (deep d b) t in plus (sound d a (q .0)) (sound d b (q .1))
   sound d (a ⊖ b) t = let q = and-yes (deep d a) (deep d b) t in less (sound d a (q .0)) (sound d b (q .1))
@@ -55,7 +55,7 @@ module _ (m : ℕ) (e : ℕ → ℕ) (s S : ℕ → ℤ) (h : (k : ℕ) → k < 
 -- ---- the two passes
 
 -- what the outputs of a step are apart, computed
-abbrev good : ℕ → ℕ → ℕ → ℕ → ℕ → Step → Bool
+abbrev good : ℕ → ℕ → ℕ → ℕ → ℕ → Expression → Bool
 good d m e most k x = deep d x && leb (apart d m (λ i. e) x) most
 
 -- each output of a step whose inputs are e apart over m
@@ -103,7 +103,7 @@ module _ (l : List ℤ) where
 one-less : (n : ℕ) → n ≤ distance → n < 16777216
 one-less n h = omega arith
 
-pub idct-near : (l : List ℤ) → Near l
+pub idct-near : (l : List ℤ) → NearExact l
 idct-near l = record {
   most = λ y x p q. within-abs (result-near l y x p q);
   less = λ y x p q.
@@ -117,7 +117,7 @@ module _ (l : List ℤ) (zeros : (k : ℕ) → 0 < k → k < 64 → at l k ≡ p
       (ap (λ (b : List ℤ). at b (y * 8 + x)) (lone-dc l zeros) ∙ getD-replicate 64 (y * 8 + x) (dcOnly (at l 0)) (pos 0) (omega arith))
       (idct-near l .most y x p q)
 
-  pub lone-near : LoneNear l
+  pub lone-near : DcOnlyNearExact l
   lone-near = record {
     most = short-near;
     less = λ y x p q. one-less (natAbs (dcOnly (at l 0) *ℤ pos 16777216 -ℤ exactResult l y x)) (short-near y x p q);

@@ -66,8 +66,8 @@ module _ {start : ℕ → ℕ} {step : ℕ} (L : Lanes start step) (f : Eight �
         beside n d (yes u) = inl u
         beside n d (no u) = inr (let v : start i + n * step < start j + k * step = above (start i + n * step) (start j + k * step) d u in omega arith)
 
-    pub turn-pass : (e : Eight) (b : List ℤ) → e ≡ f (lane a (start i) step) → b ≡ put e → After b (i + 1)
-    turn-pass e b p w =
+    pub step-pass : (e : Eight) (b : List ℤ) → e ≡ f (lane a (start i) step) → b ≡ put e → After b (i + 1)
+    step-pass e b p w =
         record {
           most = omega arith;
           size = ap length w ∙ length-rows a (start i) step 1 (λ k x. nth e k) 8 ∙ inv .size;

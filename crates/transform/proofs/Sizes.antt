@@ -16,7 +16,7 @@ use Rattle.transform.specs.Butterfly.{nth, butterfly}
 use Rattle.transform.specs.Steps.{over256, outputs}
 use Rattle.transform.specs.Idct.{at, lane, columns, rows, idct}
 use Rattle.laws.specs.Sizes.{AtMost, Narrow}
-use Rattle.transform.specs.Bounds.{Middle, inputSize, outputSize}
+use Rattle.transform.specs.Bounds.{BetweenPasses, inputSize, outputSize}
 use Rattle.transform.proofs.Eights.{nth-eight}
 use Rattle.transform.proofs.Blocks.{block-at}
 use Rattle.transform.proofs.Steps.{good, outs-within}
@@ -77,7 +77,7 @@ module _ (l : List ℤ) (h : Bounded l) where
   given (suc (suc (suc (suc (suc (suc (suc zero))))))) p = tt
   given (suc (suc (suc (suc (suc (suc (suc (suc x)))))))) p = let z : ⊥ = omega arith in absurd z
 
-  pub middle : Middle (columns l)
+  pub middle : BetweenPasses (columns l)
   unfolding columns
   middle =
       record {
@@ -89,7 +89,7 @@ module _ (l : List ℤ) (h : Bounded l) where
 
 -- ---- the rows between the passes
 
-module _ (l : List ℤ) (h : Middle l) where
+module _ (l : List ℤ) (h : BetweenPasses l) where
   pub row-within : (y : ℕ) → y < 8 → AtMost 8 inputSize (nth (lane l (y * 8) 1))
   row-within y p =
       lane-within inputSize l (y * 8) 1

@@ -13,7 +13,7 @@ use Rattle.laws.proofs.Exprs.{Exp, var, cst, _⊹_, _∸_, _×̇_, neg, shr, In
 use Rattle.laws.proofs.Tables.{every, at}
 use Rattle.transform.specs.declared.butterfly.Eight.{Eight}
 use Rattle.transform.specs.Steps as S
-use Rattle.transform.specs.Steps.{Step, input, _⊕_, _⊖_, _⊗_, nearest, outputs, output}
+use Rattle.transform.specs.Steps.{Expression, input, _⊕_, _⊖_, _⊗_, nearest, outputs, output}
 use Rattle.transform.specs.Butterfly.{eight, nth, butterfly}
 use Rattle.laws.specs.Sizes.{AtMost}
 use Rattle.transform.proofs.Eights.{nth-eight}
@@ -75,7 +75,7 @@ abbrev pub y7 : Exp
 y7 = neg x0 ∸ rnd (b4 ×̇ cst 473 ⊹ b6 ×̇ cst 196)
 
 -- an expression of the definition, as the code computes it
-abbrev pub exp : Step → Exp
+abbrev pub exp : Expression → Exp
 exp (input k) = var k
 exp (a ⊕ b) = exp a ⊹ exp b
 exp (a ⊖ b) = exp a ∸ exp b
@@ -106,7 +106,7 @@ module _ (size : ℕ → ℕ) (a : Eight) (h : AtMost 8 size (nth a)) where
   step-is = refl
 
   -- no step on the way to an output leaves 32 bits, and the output is at most M in size
-  abbrev pub good : ℕ → ℕ → Step → Bool
+  abbrev pub good : ℕ → ℕ → Expression → Bool
   good M k e = ok inputs (exp e) && leb (bound inputs (exp e)) M
 
   pub outs-within : (M : ℕ) → T (every (good M) 0 outputs) → (k : ℕ) → k < 8 → natAbs (nth (butterfly a) k) ≤ M

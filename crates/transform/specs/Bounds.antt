@@ -4,7 +4,7 @@ use mathlib.Core.List.{List, [], _∷_}
 use lib.IntN.{ℤ, pos, natAbs, _+ℤ_}
 use lib.ListN.{getD}
 use Rattle.laws.specs.Sizes.{AtMost}
-use Rattle.transform.specs.Steps.{Step, input, _⊕_, _⊖_, neg, _⊗_, nearest, value, output}
+use Rattle.transform.specs.Steps.{Expression, input, _⊕_, _⊖_, neg, _⊗_, nearest, value, output}
 use Rattle.transform.specs.Butterfly.{nth}
 use Rattle.transform.specs.Idct.{at, lane, columns}
 
@@ -17,13 +17,13 @@ abbrev pub outputSize : ℕ → ℕ
 outputSize k = 33500000
 
 -- a block between the passes
-abbrev pub Middle : List ℤ → Type 0
-Middle l = AtMost 64 (λ k. inputSize (k % 8)) (at l)
+abbrev pub BetweenPasses : List ℤ → Type 0
+BetweenPasses l = AtMost 64 (λ k. inputSize (k % 8)) (at l)
 
 -- ---- each number on the way
 
 -- how large a step can be whose inputs keep to these sizes
-abbrev pub sizeOf : (ℕ → ℕ) → Step → ℕ
+abbrev pub sizeOf : (ℕ → ℕ) → Expression → ℕ
 sizeOf size (input k) = size k
 sizeOf size (a ⊕ b) = sizeOf size a + sizeOf size b
 sizeOf size (a ⊖ b) = sizeOf size a + sizeOf size b
@@ -37,16 +37,16 @@ pub record Sized (n : ℕ) (z : ℤ) : Type 0 where
   pub small : n < 2147483648
 
 -- every sum, difference and product on the way to a step does, also the sum that is divided
-abbrev pub Keeps : (ℕ → ℕ) → (ℕ → ℤ) → Step → Type 0
-Keeps size s (input k) = Sized (size k) (s k)
-Keeps size s (a ⊕ b) = Keeps size s a × Keeps size s b × Sized (sizeOf size (a ⊕ b)) (value s (a ⊕ b))
-Keeps size s (a ⊖ b) = Keeps size s a × Keeps size s b × Sized (sizeOf size (a ⊖ b)) (value s (a ⊖ b))
-Keeps size s (neg a) = Keeps size s a × Sized (sizeOf size (neg a)) (value s (neg a))
-Keeps size s (a ⊗ n) = Keeps size s a × Sized (sizeOf size (a ⊗ n)) (value s (a ⊗ n))
-Keeps size s (nearest a) =
-    Keeps size s a × Sized (sizeOf size a + 128) (value s a +ℤ pos 128) × Sized (sizeOf size (nearest a)) (value s (nearest a))
+abbrev pub InBounds : (ℕ → ℕ) → (ℕ → ℤ) → Expression → Type 0
+InBounds size s (input k) = Sized (size k) (s k)
+InBounds size s (a ⊕ b) = InBounds size s a × InBounds size s b × Sized (sizeOf size (a ⊕ b)) (value s (a ⊕ b))
+InBounds size s (a ⊖ b) = InBounds size s a × InBounds size s b × Sized (sizeOf size (a ⊖ b)) (value s (a ⊖ b))
+InBounds size s (neg a) = InBounds size s a × Sized (sizeOf size (neg a)) (value s (neg a))
+InBounds size s (a ⊗ n) = InBounds size s a × Sized (sizeOf size (a ⊗ n)) (value s (a ⊗ n))
+InBounds size s (nearest a) =
+    InBounds size s a × Sized (sizeOf size a + 128) (value s a +ℤ pos 128) × Sized (sizeOf size (nearest a)) (value s (nearest a))
 
 -- in both passes, of which the second rounds its outputs
-pub record NoneLeaves (l : List ℤ) : Type 0 where
-  pub column : (x k : ℕ) → x < 8 → k < 8 → Keeps inputSize (nth (lane l x 8)) (output k)
-  pub row : (y k : ℕ) → y < 8 → k < 8 → Keeps inputSize (nth (lane (columns l) (y * 8) 1)) (nearest (output k))
+pub record NoOverflow (l : List ℤ) : Type 0 where
+  pub column : (x k : ℕ) → x < 8 → k < 8 → InBounds inputSize (nth (lane l x 8)) (output k)
+  pub row : (y k : ℕ) → y < 8 → k < 8 → InBounds inputSize (nth (lane (columns l) (y * 8) 1)) (nearest (output k))

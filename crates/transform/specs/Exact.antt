@@ -2,12 +2,12 @@
 use Prim.Native.Nat.{ℕ, zero, suc, _+_, _*_, _^_, _<_, _≤_}
 use mathlib.Core.List.{List}
 use lib.IntN.{ℤ, pos, negℤ, natAbs, _+ℤ_, _-ℤ_, _*ℤ_}
-use Rattle.transform.specs.Steps.{Step, input, _⊕_, _⊖_, neg, _⊗_, nearest, output}
+use Rattle.transform.specs.Steps.{Expression, input, _⊕_, _⊖_, neg, _⊗_, nearest, output}
 use Rattle.transform.specs.Butterfly.{nth}
 use Rattle.transform.specs.Idct.{at, lane, idct, dcOnly}
 
 -- 256 ^ d times the exact number of a step in which at most d divisions stand within one another; input k is s k
-abbrev pub exact : ℕ → (ℕ → ℤ) → Step → ℤ
+abbrev pub exact : ℕ → (ℕ → ℤ) → Expression → ℤ
 exact d s (input k) = s k *ℤ pos (256 ^ d)
 exact d s (a ⊕ b) = exact d s a +ℤ exact d s b
 exact d s (a ⊖ b) = exact d s a -ℤ exact d s b
@@ -29,11 +29,11 @@ abbrev pub distance : ℕ
 distance = 10856960
 
 -- each result of the transform is no farther from the exact one, so less than 1 away
-pub record Near (l : List ℤ) : Type 0 where
+pub record NearExact (l : List ℤ) : Type 0 where
   pub most : (y x : ℕ) → y < 8 → x < 8 → natAbs (at (idct l) (y * 8 + x) *ℤ pos 16777216 -ℤ exactResult l y x) ≤ distance
   pub less : (y x : ℕ) → y < 8 → x < 8 → natAbs (at (idct l) (y * 8 + x) *ℤ pos 16777216 -ℤ exactResult l y x) < 16777216
 
 -- the same of the short way for a block that has no coefficient but that at place 0
-pub record LoneNear (l : List ℤ) : Type 0 where
+pub record DcOnlyNearExact (l : List ℤ) : Type 0 where
   pub most : (y x : ℕ) → y < 8 → x < 8 → natAbs (dcOnly (at l 0) *ℤ pos 16777216 -ℤ exactResult l y x) ≤ distance
   pub less : (y x : ℕ) → y < 8 → x < 8 → natAbs (dcOnly (at l 0) *ℤ pos 16777216 -ℤ exactResult l y x) < 16777216

@@ -7,19 +7,19 @@ use lib.ListN.{getD}
 
 infixl 6 _⊕_ _⊖_
 infixl 7 _⊗_
-pub data Step : Type 0 where
-  input : ℕ → Step
-  _⊕_ _⊖_ : Step → Step → Step
-  neg : Step → Step
-  _⊗_ : Step → ℕ → Step  -- times a constant
-  nearest : Step → Step  -- over 256, to the nearest
+pub data Expression : Type 0 where
+  input : ℕ → Expression
+  _⊕_ _⊖_ : Expression → Expression → Expression
+  neg : Expression → Expression
+  _⊗_ : Expression → ℕ → Expression  -- times a constant
+  nearest : Expression → Expression  -- over 256, to the nearest
 
 -- (t + 128) >> 8: t over 256, to the nearest
 abbrev pub over256 : ℤ → ℤ
 over256 t = shrZ (t +ℤ pos 128) 256
 
 -- its number, where input k is s k
-abbrev pub value : (ℕ → ℤ) → Step → ℤ
+abbrev pub value : (ℕ → ℤ) → Expression → ℤ
 value s (input k) = s k
 value s (a ⊕ b) = value s a +ℤ value s b
 value s (a ⊖ b) = value s a -ℤ value s b
@@ -28,7 +28,7 @@ value s (a ⊗ n) = value s a *ℤ pos n
 value s (nearest a) = over256 (value s a)
 
 -- RULES 4.1: the eight outputs
-abbrev pub outputs : List Step
+abbrev pub outputs : List Expression
 outputs =
     let m0 = input 0 in
     let b1 = input 4 in
@@ -51,5 +51,5 @@ outputs =
     (b7 ⊕ y4) ∷ (x4 ⊕ y3) ∷ (y5 ⊖ x0) ∷ (y6 ⊖ y7) ∷ (y6 ⊕ y7) ∷ (x0 ⊕ y5) ∷ (y3 ⊖ x4) ∷ (y4 ⊖ b7) ∷ []
 
 -- output k
-abbrev pub output : ℕ → Step
+abbrev pub output : ℕ → Expression
 output k = getD outputs k (input 0)

@@ -11,7 +11,7 @@ ghost use Rattle.codes.specs.Matrices.{Bounded};
 ghost use Rattle.transform.specs.Butterfly.{nth};
 ghost use Rattle.transform.specs.Idct.{at, lane, columns, rows, idct, dcOnly};
 ghost use Rattle.laws.specs.Sizes.{Narrow};
-ghost use Rattle.transform.specs.Bounds.{Middle};
+ghost use Rattle.transform.specs.Bounds.{BetweenPasses};
 
 // Number k of the eight from start on, step apart.
 fn entry(block: &[i32; 64], start: usize, step: usize, k: usize) -> i32
@@ -79,7 +79,7 @@ fn columns(block: &mut [i32; 64])
 // RULES 4.2, the second pass: each row through the step, and rounded.
 fn rows(block: &mut [i32; 64])
     requires { ⌜ length (now block) ≡ 64 ⌝ }
-    requires { ⌜ Middle (now block) ⌝ }
+    requires { ⌜ BetweenPasses (now block) ⌝ }
     ensures { λ _. ⌜ now (block .exit) ≡ rows (now (block .entry)) ⌝ }
 {
     let mut i = 0;

@@ -1,12 +1,12 @@
 -- 2.4.2.8, 2.4.3.7, 2.4.4.1, 2.4.4.2: block(i). dct_coeff_first, dct_coeff_next and end_of_block are read by `pairs` of crates/coefficients.
 use Rattle.codes.specs.Matrices.{zigZag}
 use Rattle.coefficients.specs.declared.block.BlockEnd.the-variants.{Whole, Dropped, Outside}
-use Rattle.coefficients.specs.{Dcs.dcSize, Standard.dctZZ0, Syntax.Pair, Syntax.Ended, Syntax.pairs}
-use Rattle.prediction.specs.{Planes.planeOf, Planes.planeLength, Writers.overwrite, Writers.addBlock, Writers.blockWidth, Writers.blockPlace}
+use Rattle.coefficients.specs.{Dcs.dcSize, Standard.dctZZ0, Syntax.Pair, Syntax.PairsEnd, Syntax.pairs}
+use Rattle.prediction.specs.{Planes.planeOf, Planes.planeLength, Writers.overwrite, Writers.addBlock, Writers.blockWidth, Writers.blockAddress}
 use Rattle.blocks.specs.Blocks.{matrixFor}
 use Rattle.standard.specs.Standard.Words.{Bool, true, false, _&&_, _||_, List, [], _∷_, ℕ, _+_, _-_, _^_, eqb, ltb, ℤ, pos, negℤ, _+ℤ_}
 use Rattle.standard.specs.Standard.Words.{_-ℤ_, _*ℤ_, getD, set, replicate, ltZ, leZ, midOf, putMid, Prog, bits, if_then_else_, macroblockAt, planeStart}
-use Rattle.standard.specs.Standard.Words.{Way, on, plain, step, give, forBelow, _>>=_, _>>_, flag, forbidden, shall}
+use Rattle.standard.specs.Standard.Words.{Result, ok, lift, fromResult, pure, forBelow, _>>=_, _>>_, flag, forbidden, shall}
 use Rattle.standard.specs.Standard.State.{Coding, Pasts, pasts, Variables}
 
 -- dct_recon so far, row by row, and how many places of the zig-zag order are used
@@ -15,26 +15,26 @@ pub record Filled : Type 0 where
   pub n : ℕ
 
 -- 2.4.3.7: i = i + run + 1; dct_zz[i] = level. 2.4.4.1, 2.4.4.2: dct_recon[m][n], where scan[m][n] is i
-unfoldable pub reconstructed : Coding → Bool → ℕ → Filled → List Pair → Way Filled
-reconstructed g intra scale f [] = on f
+unfoldable pub reconstructed : Coding → Bool → ℕ → Filled → List Pair → Result Filled
+reconstructed g intra scale f [] = ok f
 reconstructed g intra scale f (p ∷ ps) =
-    let place = getD zigZag (f .n + p .run) 0 in
-    let quant = getD (matrixFor (g .matrices) intra) place 0 in
+    let position = getD zigZag (f .n + p .run) 0 in
+    let quant = getD (matrixFor (g .matrices) intra) position 0 in
     if g .rules .admitted intra (p .level) scale quant then
-    reconstructed g intra scale (record { recon = set (f .recon) place (g .rules .dctRecon intra (p .level) scale quant); n = f .n + p .run + 1 }) ps
+    reconstructed g intra scale (record { recon = set (f .recon) position (g .rules .dctRecon intra (p .level) scale quant); n = f .n + p .run + 1 }) ps
     else forbidden
 
 -- up to end_of_block, within the 64 places
-abbrev pub coefficients : Coding → Bool → ℕ → Filled → Ended → Way Filled
+abbrev pub coefficients : Coding → Bool → ℕ → Filled → PairsEnd → Result Filled
 coefficients g intra scale f p = elim (p .end) [ Whole ↦ reconstructed g intra scale f (p .pairs) | Dropped ↦ forbidden | Outside ↦ forbidden ]
 
 -- 2.4.2.8, 2.4.3.7: dct_dc_size_.., dct_dc_differential, and dct_zz[0] from them
-unfoldable pub dctDc : ℕ → Prog (Way ℤ)
+unfoldable pub dctDc : ℕ → Prog (Result ℤ)
 dctDc i = do
-  size ← plain (dcSize (ltb i 4))
-  if eqb size 0 then give (pos 0) else do
-    differential ← plain (bits size)
-    give (dctZZ0 size differential)
+  size ← lift (dcSize (ltb i 4))
+  if eqb size 0 then pure (pos 0) else do
+    differential ← lift (bits size)
+    pure (dctZZ0 size differential)
 
 -- the past of block i becomes x: that of Y for 0 to 3, of Cb for 4, of Cr for 5
 abbrev pub pastAs : ℕ → ℤ → Pasts → Pasts
@@ -61,34 +61,34 @@ written g intra i address f l =
     let size = planeLength (planeOf i) (g .context .sizes .«mb_size») in
     let before = midOf start size l in
     let x = g .rules .transform (f .recon) in
-    putMid start size l (if intra then overwrite before (blockPlace m i) (blockWidth m i) x else addBlock before (blockPlace m i) (blockWidth m i) x)
+    putMid start size l (if intra then overwrite before (blockAddress m i) (blockWidth m i) x else addBlock before (blockAddress m i) (blockWidth m i) x)
 
 -- 2.4.4.1: dct_dc_.._past = dct_recon[0][0], in the 12 bits that the transform takes (Annex A)
-unfoldable pub intraBlock : Coding → Bool → ℕ → ℕ → ℕ → Blocks → Prog (Way Blocks)
+unfoldable pub intraBlock : Coding → Bool → ℕ → ℕ → ℕ → Blocks → Prog (Result Blocks)
 intraBlock g isFar scale address i b = do
   zz ← dctDc i
   let recon = dcPredictor isFar i (b .past) +ℤ pos 8 *ℤ zz
   shall (leZ (negℤ (pos 2048)) recon && leZ recon (pos 2047))
-  p ← plain (pairs 1)
-  f ← step (coefficients g true scale (record { recon = set (replicate 64 (pos 0)) 0 recon; n = 1 }) p)
-  give (record { past = pastAs i recon (b .past); pels = written g true i address f (b .pels) })
+  p ← lift (pairs 1)
+  f ← fromResult (coefficients g true scale (record { recon = set (replicate 64 (pos 0)) 0 recon; n = 1 }) p)
+  pure (record { past = pastAs i recon (b .past); pels = written g true i address f (b .pels) })
 
 -- 2.4.4.2
-unfoldable pub nonIntraBlock : Coding → ℕ → ℕ → ℕ → Blocks → Prog (Way Blocks)
+unfoldable pub nonIntraBlock : Coding → ℕ → ℕ → ℕ → Blocks → Prog (Result Blocks)
 nonIntraBlock g scale address i b = do
-  p ← plain (pairs 0)
-  f ← step (coefficients g false scale (record { recon = replicate 64 (pos 0); n = 0 }) p)
-  give (record { past = b .past; pels = written g false i address f (b .pels) })
+  p ← lift (pairs 0)
+  f ← fromResult (coefficients g false scale (record { recon = replicate 64 (pos 0); n = 0 }) p)
+  pure (record { past = b .past; pels = written g false i address f (b .pels) })
 
 -- 2.4.3.6: pattern_code[i] = 0; if (cbp & (1 << (5 - i))) pattern_code[i] = 1; if (macroblock_intra) pattern_code[i] = 1
 abbrev pub patternCode : Bool → ℕ → ℕ → Bool
 patternCode intra cbp i = flag cbp (2 ^ (5 - i)) || intra
 
 -- 2.4.2.8: block(i), if (pattern_code[i])
-abbrev pub block : Coding → Bool → Bool → ℕ → ℕ → ℕ → ℕ → Blocks → Prog (Way Blocks)
+abbrev pub block : Coding → Bool → Bool → ℕ → ℕ → ℕ → ℕ → Blocks → Prog (Result Blocks)
 block g intra isFar cbp scale address i b =
-    if patternCode intra cbp i then (if intra then intraBlock g isFar scale address i b else nonIntraBlock g scale address i b) else give b
+    if patternCode intra cbp i then (if intra then intraBlock g isFar scale address i b else nonIntraBlock g scale address i b) else pure b
 
 -- 2.4.2.7: for (i = 0; i < 6; i++) block(i)
-unfoldable pub blocks : Coding → Bool → Bool → ℕ → ℕ → ℕ → Blocks → Prog (Way Blocks)
+unfoldable pub blocks : Coding → Bool → Bool → ℕ → ℕ → ℕ → Blocks → Prog (Result Blocks)
 blocks g intra isFar cbp scale address b = forBelow 6 (block g intra isFar cbp scale address) b

@@ -4,37 +4,37 @@ pub use Prim.Native.Nat.{ℕ, zero, suc, _+_, _-_, _*_, _^_}
 pub use borrow.Rule.Slice.PartMut.{midOf, putMid}
 pub use lib.IntN.{ℤ, pos, negsuc, negℤ, natAbs, _+ℤ_, _-ℤ_, _*ℤ_}
 pub use lib.{Dec.eqb, Dec.ltb, Dec.leb, ListN.getD, ListN.set, ListN.replicate, Signed.ltZ, Signed.leZ}
-pub use Rattle.laws.specs.Turns.{Turn, again, stop}
+pub use Rattle.laws.specs.Loops.{Step, continue, finish}
 pub use Rattle.bits.specs.Programs.{Prog, done, look, skip, bind, bits, nextStartCode, loop, many, eqZ, if_then_else_}
 pub use Rattle.prediction.specs.{Predict.macroblockAt, Planes.planeStart}
-pub use Rattle.picture_state.specs.Ways.{Way, on, out, also, plain, step, give, forBelow, _>>=_, _>>_}
+pub use Rattle.picture_state.specs.Result.{Result, ok, error, andThen, lift, fromResult, pure, forBelow, _>>=_, _>>_}
 pub use Rattle.picture_state.specs.{declared.types.Context.Context, declared.types.Matrices.Matrices, Flags.flag}
 
 -- the stream breaks a rule that a decoder relies on: nothing more is said of it
-abbrev pub forbidden : {A : Type 0} → Way A
-forbidden = out 0 []
+abbrev pub forbidden : {A : Type 0} → Result A
+forbidden = error 0 []
 
 -- a run that was not ended so: as far as it has read, the stream conforms
-abbrev pub conforms : {A : Type 0} → Way A → Bool
-conforms (on x) = true
-conforms (out n l) = false
+abbrev pub conforms : {A : Type 0} → Result A → Bool
+conforms (ok x) = true
+conforms (error n l) = false
 
 -- "shall"
-abbrev pub shall : Bool → Prog (Way (Unit {0}))
-shall b = if b then give tt else done forbidden
+abbrev pub shall : Bool → Prog (Result (Unit {0}))
+shall b = if b then pure tt else done forbidden
 
 -- 2.3, nextbits(): the next n bits, which are there
-abbrev pub nextbits : ℕ → Prog (Way ℕ)
-nextbits n = look n (λ h v. if h then give v else done forbidden)
+abbrev pub nextbits : ℕ → Prog (Result ℕ)
+nextbits n = look n (λ h v. if h then pure v else done forbidden)
 
 -- 2.2, a field of n bits, which are there
-unfoldable pub field : ℕ → Prog (Way ℕ)
-field n = look n (λ h v. if h then skip n (give v) else done forbidden)
+unfoldable pub field : ℕ → Prog (Result ℕ)
+field n = look n (λ h v. if h then skip n (pure v) else done forbidden)
 
 -- while (nextbits() == word, of n bits): they are passed over, and x becomes f x
-unfoldable pub whileTurn : ℕ → ℕ → (ℕ → ℕ) → ℕ → Prog (Turn ℕ (Way ℕ))
-whileTurn n word f x =
-    look n (λ h v. if h then (if eqb v word then skip n (done (again (f x))) else done (stop (on x))) else done (stop forbidden))
+unfoldable pub whileStep : ℕ → ℕ → (ℕ → ℕ) → ℕ → Prog (Step ℕ (Result ℕ))
+whileStep n word f x =
+    look n (λ h v. if h then (if eqb v word then skip n (done (continue (f x))) else done (finish (ok x))) else done (finish forbidden))
 
-unfoldable pub while : ℕ → ℕ → (ℕ → ℕ) → ℕ → Prog (Way ℕ)
-while n word f x = loop many (whileTurn n word f) forbidden x
+unfoldable pub while : ℕ → ℕ → (ℕ → ℕ) → ℕ → Prog (Result ℕ)
+while n word f x = loop many (whileStep n word f) forbidden x

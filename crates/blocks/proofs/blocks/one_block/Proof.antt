@@ -10,7 +10,7 @@ use lib.ListN.{getD}
 use mir.Syntax.{w32}
 use mir.Val.{toZ, ofZ}
 use Rattle.coefficients.specs.Dcs.{dcInside}
-use Rattle.coefficients.specs.Blocks.{readOf}
+use Rattle.coefficients.specs.Blocks.{blockReadOf}
 use Rattle.coefficients.proofs.Kept.{Kept}
 use Rattle.blocks.specs.Blocks.{predictorOf, quantiserOf}
 use Rattle.picture_state.proofs.Signed.{inside-read, address-read}
@@ -49,7 +49,7 @@ predictor-is : (c : tie.After-predictor-of) → let d = entry c .args .state .«
 predictor-is c =
     inside-read _ (inside c) ∙ ap (λ (k : ℕ). getD (entry c .args .state .«dc_predictor») k (pos 0)) (c .predictor-of .ensures)
 
-read-kept : (c : tie.After-read-block) → Kept (readOf (c .read-block .last .1 .1 .1 .0) (c .read-block .result))
+read-kept : (c : tie.After-read-block) → Kept (blockReadOf (c .read-block .last .1 .1 .1 .0) (c .read-block .result))
 read-kept c =
     let s = entry (predictor c) in
     let a = s .args in
@@ -74,7 +74,7 @@ write-block-requires : tie.Need-write-block-requires
 write-block-requires c κs =
     let x = read c in
     let k = entry (predictor x) .pre .0 in
-    (k .held, (rw (address-read (k .reads .slice)) (k .here), read-kept x .bounded))
+    (k .storeFits, (rw (address-read (k .reads .slice)) (k .here), read-kept x .bounded))
 
 predicted-requires : tie.Need-predicted-requires
 predicted-requires c κs = entry (predictor (read (c .before .before .before .before))) .pre .1 .1

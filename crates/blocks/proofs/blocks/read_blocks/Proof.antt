@@ -1,14 +1,14 @@
 -- `blocks::read_blocks` meets its contract: `AtBlock` holds at each turn.
 use Prim.Native.Nat.{_-_}
 use native.Mathlib.Omega.{arith}
-use Rattle.picture_state.specs.State.{world}
+use Rattle.picture_state.specs.State.{sliceState}
 use Rattle.blocks.proofs.BlockLoop.{AtBlock, at-first, at-next, at-stop, at-end}
 use Rattle.blocks.proofs.blocks.read_blocks.Statement.{statement}
 use Rattle.blocks.proofs.blocks.read_blocks.Tie as tie
 
 abbrev Inv-loop : tie.InvT-loop
 Inv-loop s store₀ values₀ tables coded from₀ state₀ number₀ store values from state number =
-    AtBlock coded tables s from₀ (world state₀ values₀ store₀) from state values store number
+    AtBlock coded tables s from₀ (sliceState state₀ values₀ store₀) from state values store number
 
 abbrev μ-loop : tie.MeasureT-loop
 μ-loop s store₀ values₀ tables coded from₀ state₀ number₀ store values from state number = 6 - number

@@ -71,7 +71,7 @@ results-requires c κs =
       (
         block-in-part (s .pre .0) _ (s .args .number) (natAbs (s .args .address)) (m-is (p .before .before .before))
             (start-is p) (length-is p) (c .before .before .block-width .ensures .0)
-            (c .before .before .before .block-place .ensures .1),
+            (c .before .before .before .block-address .ensures .1),
         s .pre .1 .1,
       ),
     )
@@ -82,7 +82,7 @@ returns c =
     let s = entry p in
     in-store (s .pre .0) _ (s .args .number) (natAbs (s .args .address)) (m-is (p .before .before .before))
     (start-is p) (length-is p) (placed c .block-width .ensures .0)
-    (placed c .before .block-place .ensures .0) (s .args .q) (filled (now (s .args .values)) (s .args .n)) (c .before .before .results .ensures)
+    (placed c .before .block-address .ensures .0) (s .args .q) (filled (now (s .args .values)) (s .args .n)) (c .before .before .results .ensures)
 
 pub write-results-spec : {M : Type 1} → statement M
 write-results-spec =

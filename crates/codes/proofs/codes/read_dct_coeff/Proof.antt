@@ -5,7 +5,7 @@ use borrow.Author.Tests.{leb-true}
 use lib.ListN.{length}
 use native.Mathlib.Omega.{arith}
 use denote.Ref.{now}
-use Rattle.bits.specs.Runs.{placeOf}
+use Rattle.bits.specs.Runs.{positionOf}
 use Rattle.codes.proofs.Looked.{coefficient-agrees, coefficient-further, coefficient-ends, below, looked-code, further-code, further-asks}
 use Rattle.codes.proofs.Parts.{places, natural-table, natural-code}
 use Rattle.codes.proofs.codes.read_dct_coeff.Statement.{statement}
@@ -15,7 +15,7 @@ use Rattle.codes.proofs.codes.read_dct_coeff.Tie as tie
 abbrev begun : tie.After-next-eight → tie.Start
 begun x = x .before .before .before .before
 
-two : (x : tie.After-next-eight) → placeOf (begun x .args .reader) / 8 + 2 ≤ length (now (begun x .args .s))
+two : (x : tie.After-next-eight) → positionOf (begun x .args .reader) / 8 + 2 ≤ length (now (begun x .args .s))
 two x = leb-true _ _ (sym (x .before .before .has-eight .ensures) ∙ x .before .if1 .taken)
 
 next-requires : tie.Need-next-eight-requires
@@ -24,13 +24,13 @@ next-requires c κs = leb-true _ _ (sym (c .before .has-eight .ensures) ∙ c .i
 further-requires : tie.Need-read-natural-from-requires
 further-requires c κs =
     let x = c .before .before in
-    further-asks (places .coefficient) (begun x .pre .1) (begun x .pre .0) (two x) (c .on .ensures) _ (omega arith)
+    further-asks (places .coefficient) (begun x .pre .1) (begun x .pre .0) (two x) (c .advanced-by .ensures) _ (omega arith)
 
 returns : tie.Need-returns
 returns c =
     let x = c .before .before .before in
     further-code (begun x .pre .0) (coefficient-agrees _ _ (two x) (x .next-eight .ensures) refl) (places .coefficient) (begun x .pre .1)
-    (c .before .on .ensures) (c .read-natural-from .ensures) (coefficient-further _ (omega (arith, c .before .before .if2 .taken)))
+    (c .before .advanced-by .ensures) (c .read-natural-from .ensures) (coefficient-further _ (omega (arith, c .before .before .if2 .taken)))
 
 look-requires : tie.Need-look-dct-coeff-requires
 look-requires c κs = below _ _ (c .before .next-eight .ensures)

@@ -6,8 +6,8 @@ use borrow.Author.Tests.{leb-true}
 use lib.ListN.{length}
 use native.Mathlib.Omega.{arith}
 use denote.Ref.{now}
-use Rattle.bits.specs.Runs.{placeOf}
-use Rattle.codes.specs.Look.{led}
+use Rattle.bits.specs.Runs.{positionOf}
+use Rattle.codes.specs.Look.{walkedEight}
 use Rattle.codes.specs.Tables.{macroblockAddressIncrementIndex}
 use Rattle.codes.proofs.Looked.{increment-one, increment-agrees, increment-further, increment-ends, below, looked-code, further-code, further-asks}
 use Rattle.codes.proofs.Parts.{places, natural-table, natural-code}
@@ -18,7 +18,7 @@ use Rattle.codes.proofs.codes.read_macroblock_address_increment.Tie as 
 abbrev begun : tie.After-next-eight → tie.Start
 begun x = x .before .before .before .before
 
-two : (x : tie.After-next-eight) → placeOf (begun x .args .reader) / 8 + 2 ≤ length (now (begun x .args .s))
+two : (x : tie.After-next-eight) → positionOf (begun x .args .reader) / 8 + 2 ≤ length (now (begun x .args .s))
 two x = leb-true _ _ (sym (x .before .before .has-eight .ensures) ∙ x .before .if1 .taken)
 
 next-requires : tie.Need-next-eight-requires
@@ -27,24 +27,25 @@ next-requires c κs = leb-true _ _ (sym (c .before .has-eight .ensures) ∙ c .i
 further-requires : tie.Need-read-natural-from-requires
 further-requires c κs =
     let x = c .before .before .before in
-    further-asks (places .increment) (begun x .pre .1) (begun x .pre .0) (two x) (c .on .ensures) 40 (omega arith)
+    further-asks (places .increment) (begun x .pre .1) (begun x .pre .0) (two x) (c .advanced-by .ensures) 40 (omega arith)
 
 returns : tie.Need-returns
 returns c =
     let x = c .before .before .before .before in
     further-code (begun x .pre .0) (increment-agrees _ _ (two x) (x .next-eight .ensures) refl) (places .increment) (begun x .pre .1)
-    (c .before .on .ensures) (c .read-natural-from .ensures) (ap (led macroblockAddressIncrementIndex) (c .before .before .if3 .taken) ∙ increment-one)
+    (c .before .advanced-by .ensures) (c .read-natural-from .ensures)
+    (ap (walkedEight macroblockAddressIncrementIndex) (c .before .before .if3 .taken) ∙ increment-one)
 
 further-requires-2 : tie.Need-read-natural-from-requires-2
 further-requires-2 c κs =
     let x = c .before .before .before .before in
-    further-asks (places .increment) (begun x .pre .1) (begun x .pre .0) (two x) (c .on2 .ensures) _ (omega arith)
+    further-asks (places .increment) (begun x .pre .1) (begun x .pre .0) (two x) (c .advanced-by2 .ensures) _ (omega arith)
 
 returns-2 : tie.Need-returns-2
 returns-2 c =
     let x = c .before .before .before .before .before in
     further-code (begun x .pre .0) (increment-agrees _ _ (two x) (x .next-eight .ensures) refl) (places .increment) (begun x .pre .1)
-    (c .before .on2 .ensures) (c .read-natural-from2 .ensures)
+    (c .before .advanced-by2 .ensures) (c .read-natural-from2 .ensures)
     (increment-further _ (c .before .before .if4 .taken) (c .before .before .before .before .if2 .taken))
 
 look-requires : tie.Need-look-macroblock-address-increment-requires

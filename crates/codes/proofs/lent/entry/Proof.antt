@@ -16,10 +16,10 @@ read-entry : (t : List ℕ) (intra t₀ : Bool) (place : ℕ) → intra ≡ t₀
 read-entry t intra t₀ place e h = sym (matrix-at t t₀ place h) ∙ ap (λ (b : Bool). getD (matrixOf t b) place 0) (sym e)
 
 returns : tie.Need-returns
-returns c = let s = c .before .before in read-entry _ (s .args .intra) true (s .args .place) (c .before .if1 .taken) (s .pre .1)
+returns c = let s = c .before .before in read-entry _ (s .args .intra) true (s .args .position) (c .before .if1 .taken) (s .pre .1)
 
 returns-2 : tie.Need-returns-2
-returns-2 c = let s = c .before .before in read-entry _ (s .args .intra) false (s .args .place) (c .before .if1 .left) (s .pre .1)
+returns-2 c = let s = c .before .before in read-entry _ (s .args .intra) false (s .args .position) (c .before .if1 .left) (s .pre .1)
 
 pub entry-spec : {M : Type 1} → statement M
 entry-spec =
@@ -28,10 +28,10 @@ entry-spec =
     (λ c. search needs)
     (λ c. search needs)
     (λ c. search needs)
-    (λ c. let s = c .before .before in omega (arith, s .pre .0 .bytes (intraMatrixAt + s .args .place) (omega arith)))
+    (λ c. let s = c .before .before in omega (arith, s .pre .0 .bytes (intraMatrixAt + s .args .position) (omega arith)))
     returns
     (λ c. search needs)
     (λ c. search needs)
     (λ c. search needs)
-    (λ c. let s = c .before .before in omega (arith, s .pre .0 .bytes (otherMatrixAt + s .args .place) (omega arith)))
+    (λ c. let s = c .before .before in omega (arith, s .pre .0 .bytes (otherMatrixAt + s .args .position) (omega arith)))
     returns-2)

@@ -14,13 +14,13 @@ use Rattle.codes.proofs.Parts.{premultiplier-at}
 use Rattle.codes.proofs.lent.premultiplier.Statement.{statement}
 use Rattle.codes.proofs.lent.premultiplier.Tie as tie
 
-small : (c : tie.After-result) → getD (now (c .before .args .tables)) (638 + c .before .args .place) 0 ≤ 62
-small c = let s = c .before in omega (arith, premultiplier-at (s .pre .0) (s .args .place) (s .pre .1), premultiplier-small (s .args .place))
+small : (c : tie.After-result) → getD (now (c .before .args .tables)) (638 + c .before .args .position) 0 ≤ 62
+small c = let s = c .before in omega (arith, premultiplier-at (s .pre .0) (s .args .position) (s .pre .1), premultiplier-small (s .args .position))
 
 returns : tie.Need-returns
 returns c =
     let s = c .before in
-    let n = s .args .place in
+    let n = s .args .position in
     natural-num w32 _ 62 (small c) tt .is ∙ ap pos (premultiplier-at (s .pre .0) n (s .pre .1))
     ∙ sym (natural (getD premultiplierMatrix n (pos 0)) (premultiplier-natural n))
 

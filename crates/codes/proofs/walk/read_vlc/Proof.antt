@@ -15,10 +15,10 @@ use Rattle.codes.proofs.walk.read_vlc.Tie as tie
 
 -- the entry at the end of the walk
 abbrev entry : tie.After-shared-slice-known3 → ℕ
-entry c = let x = c .before .before in getD (now (x .before .before .before .args .table)) (x .walk .result .place) 0
+entry c = let x = c .before .before in getD (now (x .before .before .before .args .table)) (x .walk .result .position) 0
 
 small : (c : tie.After-shared-slice-known3) → entry c < 65536
-small c = omega (arith, c .shared-slice-known3 .given (c .before .before .walk .result .place))
+small c = omega (arith, c .shared-slice-known3 .given (c .before .before .walk .result .position))
 
 found : (c : tie.After-shared-slice-known3) → Num (toZ w32 (entry c) -ℤ pos 1024) (pos (entry c) -ℤ pos 1024) 66559
 found c = natural-num w32 (entry c) 65535 (omega (arith, small c)) tt ⊟ con 1024

@@ -15,5 +15,5 @@ pub read-vlc-uint-spec : {M : Type 1} → statement M
 read-vlc-uint-spec =
     tie.close
     (tie.spec (λ c κs. search needs) (λ c. search needs) (λ c. omega arith)
-    (λ c. omega (arith, c .shared-slice-known3 .given (c .before .before .walk-from .result .place)))
-    (λ c. omega (arith, c .shared-slice-known3 .given (c .before .before .walk-from .result .place))) returns)
+    (λ c. omega (arith, c .shared-slice-known3 .given (c .before .before .walk-from .result .position)))
+    (λ c. omega (arith, c .shared-slice-known3 .given (c .before .before .walk-from .result .position))) returns)

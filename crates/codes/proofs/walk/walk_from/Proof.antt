@@ -14,7 +14,7 @@ use Rattle.bits.specs.Runs.{Inside}
 use Rattle.bits.proofs.Gives.{given-by, g-bits}
 use Rattle.bits.proofs.Rules.{Loops, loop-start, loop-on, loop-end, r-call, r-yes, r-no, r-done, reading}
 use Rattle.codes.specs.Lent.{indexOf, indices}
-use Rattle.codes.specs.Walk.{walkTurn}
+use Rattle.codes.specs.Walk.{walkStep}
 use Rattle.codes.proofs.Lists.{map-at, length-map}
 use Rattle.codes.proofs.walk.walk_from.Statement.{statement}
 use Rattle.codes.proofs.walk.walk_from.Tie as tie
@@ -30,7 +30,7 @@ index-on t k h = map-at indexOf t 0 k ∙ ap (λ (b : Bool). cond b (pos 0) (pos
 abbrev Inv-loop : tie.InvT-loop
 Inv-loop s table pair from₀ at₀ from at =
     Inside s from × (at + 1 < length table)
-    × Loops (length (indices table)) (walkTurn (indices table)) 0 pair s from₀ at from (length table - 1 - at)
+    × Loops (length (indices table)) (walkStep (indices table)) 0 pair s from₀ at from (length table - 1 - at)
 
 abbrev μ-loop : tie.MeasureT-loop
 μ-loop s table pair from₀ at₀ from at = length table - 1 - at
@@ -52,7 +52,7 @@ abbrev place : tie.After-read-bit Inv-loop μ-loop → ℕ
 place x = x .before .loop .at + x .read-bit .result .value
 
 returns : tie.Need-returns Inv-loop μ-loop
-unfolding walkTurn
+unfolding walkStep
 returns c =
     let x = c .before .before .before .before in
     let ends = r-yes _ (index-end (table x) (place x) (c .if1 .taken)) r-done in (
@@ -79,7 +79,7 @@ loop-less : tie.Need-loop-less Inv-loop μ-loop
 loop-less c = let n = next c in omega (arith, n .further, n .inside)
 
 loop-again : tie.Need-loop-again Inv-loop μ-loop
-unfolding walkTurn
+unfolding walkStep
 loop-again c =
     let x = read c in
     let t = table x in
@@ -89,7 +89,7 @@ loop-again c =
     let goes = ap (λ (z : ℤ). leZ z (pos 0)) (n .is) ∙ no-le (lit e) (lit 0) (omega (arith, n .further)) in
     let a = x .before .before .before .before .args in
     let Going : ℕ → Type 0 = λ at.
-    Loops (length (indices t)) (walkTurn (indices t)) 0 (a .pair) (now (a .s)) (a .reader) at
+    Loops (length (indices t)) (walkStep (indices t)) 0 (a .pair) (now (a .s)) (a .reader) at
     (x .read-bit .result .reader) (length t - 1 - at) in (
       x .read-bit .ensures .inside,
       n .inside,

@@ -16,7 +16,7 @@ abbrev whole : Exp
 whole = var 0 ×̇ var 1
 
 small : (c : tie.After-premultiplier) → natAbs (c .premultiplier .result) ≤ 62
-small c = rw (c .premultiplier .ensures) (premultiplier-small (c .before .before .args .place))
+small c = rw (c .premultiplier .ensures) (premultiplier-small (c .before .before .args .position))
 
 abbrev ρ : tie.After-dequantise → List (Input w32)
 ρ c = signed w32 (c .dequantise .result) 2048 (c .dequantise .ensures .1) ∷ signed w32 (c .before .premultiplier .result) 62 (small (c .before)) ∷ []
@@ -31,7 +31,7 @@ returns : tie.Need-returns
 returns c =
     let p = c .before in
     let e = rw (toZ-ofZ (p .before .before .fits .level), p .before .entry .ensures) at (c .dequantise .ensures .0) in
-    rw (value (ρ c) whole tt, p .premultiplier .ensures) (ap (λ (x : ℤ). x *ℤ getD premultiplierMatrix (p .before .before .args .place) (pos 0)) e)
+    rw (value (ρ c) whole tt, p .premultiplier .ensures) (ap (λ (x : ℤ). x *ℤ getD premultiplierMatrix (p .before .before .args .position) (pos 0)) e)
 
 pub premultiplied-spec : {M : Type 1} → statement M
 premultiplied-spec =

@@ -73,8 +73,8 @@ returns-2 c =
     let k = c .before in
     reading (begun k .pre .0) (pair-dropped (at-loop k .loop .inv .1) (pair-read k) (c .if1 .taken))
 
-inside : (c : tie.After-place-of Inv-loop μ-loop) → c .place-of .result < 64
-inside c = rw (c .place-of .ensures) (zig-zag-inside _)
+inside : (c : tie.After-position-of Inv-loop μ-loop) → c .position-of .result < 64
+inside c = rw (c .position-of .ensures) (zig-zag-inside _)
 
 premultiplied-requires : tie.Need-premultiplied-requires Inv-loop μ-loop
 premultiplied-requires c κs =
@@ -91,7 +91,7 @@ loop-again c =
     let k = p .before .before in
     let a = begun k .args in
     let e = toZ-ofZ {w = w32} (sfits-of (c .premultiplied .ok)) ∙ (rw (rd w32 (num {s = level k} (small k .1)) tt .is) at (c .premultiplied .ensures)) in
-    rw (e, p .place-of .ensures) (
+    rw (e, p .position-of .ensures) (
       read k .read-coefficient .ensures .inside,
       pair-on (at-loop k .loop .inv .1) (pair-read k) (p .before .if1 .left),
     )

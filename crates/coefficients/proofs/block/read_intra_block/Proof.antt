@@ -11,7 +11,7 @@ use Rattle.laws.proofs.Exprs.{Exp, var, cst, _⊹_, _×̇_, Input, signed, need
 use Rattle.bits.proofs.Gives.{given-by}
 use Rattle.bits.proofs.Rules.{reading}
 use Rattle.coefficients.specs.Dcs.{dcInside}
-use Rattle.coefficients.proofs.Placing.{dc-outside, behind-dc}
+use Rattle.coefficients.proofs.Placing.{dc-outside, after-dc}
 use Rattle.coefficients.proofs.Sizes.{difference-small, inside-small}
 use Rattle.coefficients.proofs.block.read_intra_block.Statement.{statement}
 use Rattle.coefficients.proofs.block.read_intra_block.Tie as tie
@@ -72,7 +72,7 @@ returns-2 c =
     let h = sym (inside i) ∙ sym (Bool·not-not _) ∙ ap not (e .if1 .left) in
     rw (value (ρ d) sum tt)
     (reading (s .pre .0)
-    (behind-dc _ (a .luminance) (a .predictor) (now (a .values)) (a .q) (s .pre .1 .1 .0) (d .read-dc-difference .ensures .runs) h
+    (after-dc _ (a .luminance) (a .predictor) (now (a .values)) (a .q) (s .pre .1 .1 .0) (d .read-dc-difference .ensures .runs) h
     (rw (value (ρ d) first tt) at (r .read-coefficients .ensures .runs))))
 
 pub read-intra-block-spec : {M : Type 1} → statement M

@@ -4,7 +4,7 @@ use Rattle.decoder.proofs.headers.find_sequence.Statement.{statement}
 use Rattle.decoder.proofs.headers.find_sequence.Tie as tie
 
 next-code-requires : tie.Need-next-code-requires
-next-code-requires c κs = let p = c .before .pre in (p .0 .state .place, p .1)
+next-code-requires c κs = let p = c .before .pre in (p .0 .state .position, p .1)
 
 returns : tie.Need-returns
 unfolding findSequence

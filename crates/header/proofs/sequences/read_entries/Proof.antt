@@ -25,10 +25,10 @@ zig-zag-requires c κs = tt
 loop-holds : tie.Need-loop-holds Inv-loop μ-loop
 loop-holds c = entry-start (c .before .before .pre)
 
-array-read-place : tie.Need-array-read-place Inv-loop μ-loop
+array-read-place : tie.Need-array-read-position Inv-loop μ-loop
 array-read-place c = omega arith
 
-cast-place : tie.Need-cast-place Inv-loop μ-loop
+cast-place : tie.Need-cast-position Inv-loop μ-loop
 cast-place c = let l = c .before .before .before in omega (arith, inside (l .before) (l .loop .i))
 
 cast-matrix : tie.Need-cast-matrix Inv-loop μ-loop

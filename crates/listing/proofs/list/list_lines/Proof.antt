@@ -6,7 +6,7 @@ use denote.Ref.{now}
 use lib.ListN.{replicate}
 use Rattle.decoder.specs.declared.answers.Opening.{Opening}
 use Rattle.decoder.specs.declared.answers.Opening.the-variants as O
-use Rattle.decoder.specs.Record.{left}
+use Rattle.decoder.specs.Record.{callResult}
 use Rattle.decoder.specs.Opening.{opening}
 use Rattle.decoder.specs.Listing.{line}
 use Rattle.listing.proofs.Listed.{one-line, long-listed, refused-listed}
@@ -32,9 +32,9 @@ entry o = emptied o .before .before .before .before
 
 -- what opening left, its answer known
 opened : (o : tie.After-store2) (a : Opening) → let x = o .before .«open» in
-    x .result .answer ≡ a → left a (x .result .decoder) (x .last .1 .0) ≡ opening (now (entry o .args .stream)) (replicate 55296 0)
+    x .result .answer ≡ a → callResult a (x .result .decoder) (x .last .1 .0) ≡ opening (now (entry o .args .stream)) (replicate 55296 0)
 opened o a e =
-    ap (λ (y : Opening). left y (o .before .«open» .result .decoder) (o .before .«open» .last .1 .0)) (sym e)
+    ap (λ (y : Opening). callResult y (o .before .«open» .result .decoder) (o .before .«open» .last .1 .0)) (sym e)
     ∙ o .before .«open» .ensures
     ∙ ap (opening (now (entry o .args .stream))) (emptied o .empty-store .ensures)
 

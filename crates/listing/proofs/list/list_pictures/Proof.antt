@@ -7,8 +7,8 @@ use denote.Ref.{now}
 use lib.ListN.{length}
 use Rattle.playback.specs.declared.outcome.Outcome.{Outcome}
 use Rattle.playback.specs.declared.outcome.Outcome.the-variants as H
-use Rattle.decoder.specs.Record.{left}
-use Rattle.decoder.specs.HandOut.{handOut}
+use Rattle.decoder.specs.Record.{callResult}
+use Rattle.decoder.specs.Decode.{decode}
 use Rattle.decoder.specs.Listing.{line}
 use Rattle.listing.specs.Text.{Wrote, lineText, numberIn}
 use Rattle.listing.proofs.Writing.{wrote-length}
@@ -50,12 +50,12 @@ picture k = called (k .before .before .before)
 
 -- a line more fits
 fits : (t : Turn) → t .loop .at + 84 ≤ length (t .loop .page)
-fits t = let i = t .loop .inv .0 in omega (arith, listed-few i, i .place, i .long, entry t .pre)
+fits t = let i = t .loop .inv .0 in omega (arith, listed-few i, i .position, i .long, entry t .pre)
 
 -- what the call left, its answer known
 answered : (d : Call) (o : Outcome) → let x = d .decode in let l = turn d .loop in
-    x .result .outcome ≡ o → left o (x .result .decoder) (x .last .1 .1 .0) ≡ handOut (l .decoder) (now (entry (turn d) .args .stream)) (l .store)
-answered d o e = ap (λ (y : Outcome). left y (d .decode .result .decoder) (d .decode .last .1 .1 .0)) (sym e) ∙ d .decode .ensures
+    x .result .outcome ≡ o → callResult o (x .result .decoder) (x .last .1 .1 .0) ≡ decode (l .decoder) (now (entry (turn d) .args .stream)) (l .store)
+answered d o e = ap (λ (y : Outcome). callResult y (d .decode .result .decoder) (d .decode .last .1 .1 .0)) (sym e) ∙ d .decode .ensures
 
 loop-holds : tie.Need-loop-holds Inv-loop μ-loop
 loop-holds c =
@@ -75,7 +75,7 @@ returns c =
     let w = subst (λ (k : ℕ). Wrote (l .page) (l .at) (lineText (line (l .handed) 0 0 k)) (x .write-line .last .0) (x .write-line .result)) e
     (x .write-line .ensures .0) in (
       listed-end (l .inv .0) a (d .decode .result .decoder) (d .decode .last .1 .1 .0) (answered d (H.Refused a) (o .enum-told .given .1)) w,
-      omega (arith, x .write-line .ensures .1, listed-few (l .inv .0), l .inv .0 .place),
+      omega (arith, x .write-line .ensures .1, listed-few (l .inv .0), l .inv .0 .position),
     )
 
 loop-again : tie.Need-loop-again Inv-loop μ-loop

@@ -22,7 +22,7 @@ write-bytes-requires c κs = omega (arith, few (c .before .before), c .before .b
 
 -- the place behind the digits
 low : (w : tie.After-write-bytes) → w .write-bytes .result ≤ entry (digits w) .args .at + 20
-low w = let d = digits w in omega (arith, few d, d .decimal .ensures, w .write-bytes .ensures .place)
+low w = let d = digits w in omega (arith, few d, d .decimal .ensures, w .write-bytes .ensures .position)
 
 -- what was asked of the page
 asked : (w : tie.After-write-bytes) → let s = entry (digits w) in s .args .at + 21 ≤ length (s .args .page .now)

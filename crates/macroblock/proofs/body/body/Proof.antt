@@ -29,7 +29,7 @@ predict-unless-intra-requires c κs =
     let t = h .before in
     let r = start t .pre .0 in
     let k = headed-possible r (t .read-macroblock-type .ensures) (h .read-head .ensures) in
-    (r .held, (headed-here r (t .read-macroblock-type .ensures) (h .read-head .ensures), k))
+    (r .storeFits, (headed-here r (t .read-macroblock-type .ensures) (h .read-head .ensures), k))
 
 returns : tie.Need-returns
 returns c =

@@ -20,10 +20,10 @@ use Rattle.macroblock.proofs.later.advance.Statement.{statement}
 use Rattle.macroblock.proofs.later.advance.Tie as tie
 
 -- the entry, from the next address; that address, from the reset; the reset, from the prediction
-abbrev start : tie.After-further → tie.Start
+abbrev start : tie.After-address-plus → tie.Start
 start f = f .before .before
 
-abbrev stepped : tie.After-skip-reset → tie.After-further
+abbrev stepped : tie.After-skip-reset → tie.After-address-plus
 stepped k = k .before .before
 
 abbrev reset : tie.After-predict-skipped → tie.After-skip-reset
@@ -34,13 +34,13 @@ abbrev done : tie.After-enum-told → tie.After-predict-skipped
 done n = n .before .before .before .before
 
 -- the next address, as the code reads it
-next-is : (f : tie.After-further) → toZ w32 (ofZ w32 (f .further .result .«macroblock_address»)) ≡ start f .args .state .«macroblock_address» +ℤ pos 1
+next-is : (f : tie.After-address-plus) → toZ w32 (ofZ w32 (f .address-plus .result .«macroblock_address»)) ≡ start f .args .state .«macroblock_address» +ℤ pos 1
 next-is f =
     let s = start f in
-    next-read (s .args .g) (s .args .n) (s .args .state) (s .pre .0) (s .pre .1 .0) (s .pre .1 .1) (f .further .ensures)
+    next-read (s .args .g) (s .args .n) (s .args .state) (s .pre .0) (s .pre .1 .0) (s .pre .1 .1) (f .address-plus .ensures)
 
-further-requires : tie.Need-further-requires
-further-requires c κs =
+address-plus-requires : tie.Need-address-plus-requires
+address-plus-requires c κs =
     let s = c .before in
     reaches (s .args .g) (s .args .n) (s .args .state) (s .pre .0) (s .pre .1 .0) (s .pre .1 .1) (omega arith)
 
@@ -48,7 +48,7 @@ returns : tie.Need-returns
 returns c =
     let f = c .before in
     let s = start f in
-    advance-one (s .args .g) (s .args .n) (s .args .state) (s .pre .0) (s .pre .1 .0) (s .pre .1 .1) (c .if1 .taken) (f .further .ensures)
+    advance-one (s .args .g) (s .args .n) (s .args .state) (s .pre .0) (s .pre .1 .0) (s .pre .1 .1) (c .if1 .taken) (f .address-plus .ensures)
 
 cast-first : tie.Need-cast-first
 cast-first c =
@@ -73,8 +73,8 @@ returns-2 c =
     advance-refused (s .args .g) (s .args .n) (s .args .state) (s .pre .0) (s .pre .1 .0) (s .pre .1 .1) (k .before .if1 .left) (k .skip-reset .ensures)
     (ap natAbs (next-is f)) (q .predict-skipped .ensures) (c .enum-told2 .given .1)
 
-further-requires-2 : tie.Need-further-requires-2
-further-requires-2 c κs =
+address-plus-requires-2 : tie.Need-address-plus-requires-2
+address-plus-requires-2 c κs =
     let k = reset (done c) in
     let s = start (stepped k) in
     rw (k .skip-reset .ensures, skip-address (s .args .g) (s .args .state))
@@ -87,13 +87,13 @@ returns-3 c =
     let f = stepped k in
     let s = start f in
     advance-on (s .args .g) (s .args .n) (s .args .state) (s .pre .0) (s .pre .1 .0) (s .pre .1 .1) (k .before .if1 .left) (k .skip-reset .ensures)
-    (ap natAbs (next-is f)) (q .predict-skipped .ensures) (c .before .enum-told .given .1) (c .further2 .ensures)
+    (ap natAbs (next-is f)) (q .predict-skipped .ensures) (c .before .enum-told .given .1) (c .address-plus2 .ensures)
 
 pub advance-spec : {M : Type 1} → statement M
 advance-spec =
     tie.close
     (tie.spec
-    further-requires
+    address-plus-requires
     returns
     (λ c κs. search needs)
     cast-first
@@ -103,6 +103,6 @@ advance-spec =
     (λ c. search needs)
     (λ c. search needs)
     returns-2
-    further-requires-2
+    address-plus-requires-2
     (λ c. search needs)
     returns-3)

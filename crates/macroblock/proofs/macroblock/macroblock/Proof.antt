@@ -12,12 +12,12 @@ start n = n .before .before .before
 returns : tie.Need-returns
 returns c =
     let f = c .before .before in let i = f .before .before .before in let n = i .before .before in
-    macroblock-first (start n .pre .0) (n .read-increment .ensures) (matricesIn (now (start n .args .tables))) (i .if1 .taken) (f .first-of .ensures)
+    macroblock-first (start n .pre .0) (n .read-increment .ensures) (matricesIn (now (start n .args .tables))) (i .if1 .taken) (f .first-macroblock .ensures)
 
 returns-2 : tie.Need-returns-2
 returns-2 c =
     let f = c .before .before in let i = f .before .before .before in let n = i .before .before in
-    macroblock-later (start n .pre .0) (n .read-increment .ensures) (matricesIn (now (start n .args .tables))) (i .if1 .left) (f .later-of .ensures)
+    macroblock-later (start n .pre .0) (n .read-increment .ensures) (matricesIn (now (start n .args .tables))) (i .if1 .left) (f .later-macroblock .ensures)
 
 pub macroblock-spec : {M : Type 1} → statement M
 macroblock-spec =

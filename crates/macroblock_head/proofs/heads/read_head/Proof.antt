@@ -17,7 +17,7 @@ returns c =
     let q = scaled f in
     let a = start q .args in
     head-still (a .t) (a .before) (q .before .flagged .ensures) (q .read-scale .ensures) (a .picture-type)
-    (sym (f .flag .ensures) ∙ c .before .if1 .taken) (c .stilled .ensures)
+    (sym (f .flag .ensures) ∙ c .before .if1 .taken) (c .vectors-reset .ensures)
 
 read-vectors-requires : tie.Need-read-vectors-requires
 read-vectors-requires c κs =

@@ -13,28 +13,28 @@ abbrev μ-loop : tie.MeasureT-loop
 loop-holds : tie.Need-loop-holds Inv-loop μ-loop
 loop-holds c = at-code (c .before .pre .0)
 
-increment-turn-requires : tie.Need-increment-turn-requires Inv-loop μ-loop
-increment-turn-requires c κs = let i = c .loop .inv in (i .inside, (c .before .before .pre .1, sum-most i))
+increment-step-requires : tie.Need-increment-step-requires Inv-loop μ-loop
+increment-step-requires c κs = let i = c .loop .inv in (i .inside, (c .before .before .pre .1, sum-most i))
 
 returns : tie.Need-returns Inv-loop μ-loop
 returns c =
     let t = c .before .before .before in
-    let r = t .increment-turn .result in
-    code-end (t .before .loop .inv) (r .sum) (r .again) (t .increment-turn .ensures) (not-true (r .again) (c .if1 .taken))
+    let r = t .increment-step .result in
+    code-end (t .before .loop .inv) (r .sum) (r .continues) (t .increment-step .ensures) (not-true (r .continues) (c .if1 .taken))
 
 loop-less : tie.Need-loop-less Inv-loop μ-loop
 loop-less c =
     let t = c .before .before .before in
-    let r = t .increment-turn .result in
-    goes-on (t .before .loop .inv) (r .sum) (r .again) (t .increment-turn .ensures) (not-false (r .again) (c .if1 .left))
+    let r = t .increment-step .result in
+    goes-on (t .before .loop .inv) (r .sum) (r .continues) (t .increment-step .ensures) (not-false (r .continues) (c .if1 .left))
 
 loop-again : tie.Need-loop-again Inv-loop μ-loop
 loop-again c =
     let t = c .before .before .before in
-    let r = t .increment-turn .result in
-    at-code-on (t .before .loop .inv) (r .sum) (r .again) (t .increment-turn .ensures) (not-false (r .again) (c .if1 .left))
+    let r = t .increment-step .result in
+    at-code-on (t .before .loop .inv) (r .sum) (r .continues) (t .increment-step .ensures) (not-false (r .continues) (c .if1 .left))
 
 pub read-increment-spec : {M : Type 1} → statement M
 read-increment-spec =
     tie.close
-    (tie.spec Inv-loop μ-loop loop-holds increment-turn-requires returns loop-less loop-again)
+    (tie.spec Inv-loop μ-loop loop-holds increment-step-requires returns loop-less loop-again)

@@ -3,7 +3,7 @@ use mathlib.Core.Path.{_≡_, sym, _∙_}
 use borrow.Author.Needs.{needs}
 use borrow.Author.Tests.{not-true, not-false}
 use denote.Ref.{now}
-use Rattle.memory.specs.Memory.{Memory, memory, roomy, isRecord}
+use Rattle.memory.specs.Memory.{Memory, memory, hasRoom, isRecord}
 use Rattle.memory.proofs.Room.{room}
 use Rattle.memory.proofs.reading.is_record.Statement.{statement}
 use Rattle.memory.proofs.reading.is_record.Tie as tie
@@ -15,7 +15,7 @@ lent c =
     memory (now (s .args .numbers)) (now (s .args .integers)) (now (s .args .matrices)) (now (s .args .clock))
 
 -- behind the question
-roomy-is : (c : tie.Else1) → roomy (lent (c .before)) ≡ true
+roomy-is : (c : tie.Else1) → hasRoom (lent (c .before)) ≡ true
 roomy-is c = sym (c .before .has-room .ensures) ∙ not-false (c .before .has-room .result) (c .if1 .left)
 
 returns : tie.Need-returns

@@ -2,7 +2,7 @@ use mathlib.Core.Path.{_≡_, sym, subst}
 use borrow.Author.Needs.{needs}
 use denote.Ref.{now}
 use Rattle.memory.specs.Fields.{Typed}
-use Rattle.memory.specs.Memory.{Memory, memory, written, Holds}
+use Rattle.memory.specs.Memory.{Memory, memory, written, HoldsRecord}
 use Rattle.memory.proofs.Room.{Room, room}
 use Rattle.memory.proofs.RoundTrip.{held, wrote-all}
 use Rattle.memory.proofs.writing.save.Statement.{statement}
@@ -48,7 +48,7 @@ returns c =
     wrote-all d (lent s) (n .put-numbers .ensures .0) (p .put-integers .ensures .0) (m .put-matrices .ensures .0) (k .put-clock .ensures) in
     let typed : Typed d =
     record { numbers = n .put-numbers .ensures .1; integers = p .put-integers .ensures .1; matrices = m .put-matrices .ensures .1 } in
-    (wrote, subst (λ (z : Memory). Holds z d) (sym wrote) (held d typed (lent s)))
+    (wrote, subst (λ (z : Memory). HoldsRecord z d) (sym wrote) (held d typed (lent s)))
 
 pub save-spec : {M : Type 1} → statement M
 save-spec =

@@ -19,10 +19,10 @@ abbrev lent : tie.Start → Memory
 lent s = memory (now (s .args .numbers)) (now (s .args .integers)) (now (s .args .matrices)) (now (s .args .clock))
 
 -- the calls, from the last one back to the entry; between two of them the parts of the record are lent and given back
-abbrev at-hand-out : tie.After-slice-known9 → tie.After-hand-out
-at-hand-out c = let integers = c .before .before .before .before in let store = integers .before .before .before .before in store .before
+abbrev at-decode-record : tie.After-slice-known9 → tie.After-decode-record
+at-decode-record c = let integers = c .before .before .before .before in let store = integers .before .before .before .before in store .before
 
-abbrev asked : tie.After-hand-out-arg5 → tie.Else3
+abbrev asked : tie.After-decode-record-arg5 → tie.Else3
 asked c = let first = c .before .before .before .before in first .before
 
 abbrev roomy : tie.After-is-record → tie.Else2
@@ -62,8 +62,8 @@ returns-3 c =
 
 -- the hand-out, and what it leaves
 module _ (c : tie.After-slice-known9) where
-  abbrev gave : tie.After-hand-out
-  gave = at-hand-out c
+  abbrev gave : tie.After-decode-record
+  gave = at-decode-record c
 
   abbrev ready : tie.Else3
   ready = asked (gave .before)
@@ -72,14 +72,15 @@ module _ (c : tie.After-slice-known9) where
   start = begun (roomy (ready .before))
 
   abbrev memory-left : Memory
-  memory-left = let x = gave .hand-out .last .1 .1 in memory (x .0) (x .1 .0) (x .1 .1 .0) (x .1 .1 .1 .0)
+  memory-left = let x = gave .decode-record .last .1 .1 in memory (x .0) (x .1 .0) (x .1 .1 .0) (x .1 .1 .1 .0)
 
   room : pictureCount ≤ length (now (start .args .picture))
   room = roomy (ready .before) .if2 .left
 
-  gives : {a : Outcome} → gave .hand-out .result ≡ a → told a (gave .hand-out .last .1 .0) memory-left (now (start .args .picture)) (now (start .args .time))
+  gives : {a : Outcome} → gave .decode-record .result ≡ a
+      → told a (gave .decode-record .last .1 .0) memory-left (now (start .args .picture)) (now (start .args .time))
       ≡ decodesIn (now (start .args .stream)) (now (start .args .store)) (lent start) (now (start .args .picture)) (now (start .args .time))
-  gives e = rw (← e) (decodes _ _ _ _ _ (roomy (ready .before) .before .if1 .left) (is ready) room (gave .hand-out .ensures))
+  gives e = rw (← e) (decodes _ _ _ _ _ (roomy (ready .before) .before .if1 .left) (is ready) room (gave .decode-record .ensures))
 
 -- the outcome is a picture, whose numbers are put over the beginning of what is lent
 abbrev answered : tie.After-picture-numbers → tie.After-outcome
@@ -93,10 +94,10 @@ returns-4 : tie.Need-returns-4
 returns-4 c =
     let k = c .before .before in let v = k .before .before .before in let o = answered v in let p = o .before .before in
     let put = k .copy-numbers .ensures ∙ ap (λ z. over z (now (start p .args .picture))) (v .picture-numbers .ensures) in
-    (rw put (gives p (o .outcome .given .1)), λ i h q. gave p .hand-out .ensures .holds)
+    (rw put (gives p (o .outcome .given .1)), λ i h q. gave p .decode-record .ensures .holds)
 
 returns-5 : tie.Need-returns-5
-returns-5 c = let p = c .before .before .before in (gives p (c .before .outcome2 .given .1), λ i h q. gave p .hand-out .ensures .holds)
+returns-5 c = let p = c .before .before .before in (gives p (c .before .outcome2 .given .1), λ i h q. gave p .decode-record .ensures .holds)
 
 pub mpeg1-decode-spec : {M : Type 1} → statement M
 mpeg1-decode-spec =

@@ -8,14 +8,14 @@ use Rattle.picture_state.specs.declared.types.Picture.{Picture}
 use Rattle.picture_state.specs.declared.types.Sizes.{Sizes}
 use Rattle.picture_state.specs.Possible.{PossiblePicture}
 use Rattle.picture.specs.Pictures.{contextOf, picture}
-use Rattle.picture_state.specs.Contracts.{Held}
+use Rattle.picture_state.specs.Contracts.{StoreFits}
 use Rattle.picture.proofs.Header.{header-fits, headed-possible}
 use borrow.Author.Needs.{needs}
 use Rattle.picture.proofs.whole.read_picture.Statement.{statement}
 use Rattle.picture.proofs.whole.read_picture.Tie as tie
 
 -- another possible picture of these sizes has its stores there too
-held-as : (p : Picture) {q : Picture} (z : Sizes) {store : List ℕ} → Held (contextOf z p) store → PossiblePicture q → Held (contextOf z q) store
+held-as : (p : Picture) {q : Picture} (z : Sizes) {store : List ℕ} → StoreFits (contextOf z p) store → PossiblePicture q → StoreFits (contextOf z q) store
 held-as p z k q =
     record {
       across = k .across;
@@ -38,8 +38,8 @@ header w = w .before .before
 abbrev start : tie.After-read-picture-header → tie.Start
 start h = h .before .before .before
 
-read-coded-requires : tie.Need-read-coded-requires
-read-coded-requires c κs =
+read-slices-in-roles-requires : tie.Need-read-slices-in-roles-requires
+read-slices-in-roles-requires c κs =
     let w = c .before .before .before .before in
     let h = header w in
     let s = start h in
@@ -55,7 +55,7 @@ returns c =
     let t = d .before .before .before in
     let w = t .before .before in
     let h = header w in
-    let r = d .read-coded .ensures in
+    let r = d .read-slices-in-roles .ensures in
     record {
       runs =
           r-call _ (h .read-picture-header .ensures .runs)
@@ -77,4 +77,4 @@ returns-2 c =
 pub read-picture-spec : {M : Type 1} → statement M
 read-picture-spec =
     tie.close
-    (tie.spec (λ c κs. search needs) (λ c κs. search needs) (λ c κs. search needs) read-coded-requires (λ c. search needs) returns returns-2)
+    (tie.spec (λ c κs. search needs) (λ c κs. search needs) (λ c κs. search needs) read-slices-in-roles-requires (λ c. search needs) returns returns-2)

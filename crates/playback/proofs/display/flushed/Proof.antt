@@ -1,15 +1,15 @@
 use mathlib.Core.Path.{ap}
 use borrow.Author.Needs.{needs}
-use Rattle.laws.specs.Turns.{Turn, stop}
+use Rattle.laws.specs.Loops.{Step, finish}
 use Rattle.playback.specs.declared.state.State.{State}
-use Rattle.playback.specs.Display.{Result}
+use Rattle.playback.specs.Display.{OutcomeState}
 use Rattle.playback.proofs.Showing.{steps-as, flush-yes, flush-no}
 use Rattle.playback.proofs.display.flushed.Statement.{statement}
 use Rattle.playback.proofs.display.flushed.Tie as tie
 
 -- the end of the turns
-abbrev ends : Result → Turn State Result
-ends g = stop g
+abbrev ends : OutcomeState → Step State OutcomeState
+ends g = finish g
 
 returns : tie.Need-returns
 returns c =
@@ -19,7 +19,7 @@ returns c =
     let h = i .before in
     let p = h .before in
     let d = p .before .before .args .d in
-    steps-as (rw (t .told .ensures, x .held-as .ensures) at (c .gave .ensures))
+    steps-as (rw (t .shown-picture .ensures, x .has-reference-frame-as .ensures) at (c .finished .ensures))
     (ap ends (flush-yes _ d (rw (h .has-ended .ensures .0, p .from-position .ensures) at (i .if1 .taken))))
 
 returns-2 : tie.Need-returns-2
@@ -28,7 +28,7 @@ returns-2 c =
     let h = i .before in
     let p = h .before in
     let d = p .before .before .args .d in
-    steps-as (c .gave2 .ensures) (ap ends (flush-no _ d (rw (h .has-ended .ensures .0, p .from-position .ensures) at (i .if1 .left))))
+    steps-as (c .finished2 .ensures) (ap ends (flush-no _ d (rw (h .has-ended .ensures .0, p .from-position .ensures) at (i .if1 .left))))
 
 pub flushed-spec : {M : Type 1} → statement M
 flushed-spec =

@@ -6,18 +6,18 @@ use Rattle.playback.proofs.display.shown.Statement.{statement}
 use Rattle.playback.proofs.display.shown.Tie as tie
 
 returns : tie.Need-returns
-returns c = steps-as (c .handed .ensures) (shown-b (c .before .before .args .d) (c .before .if1 .taken))
+returns c = steps-as (c .output-picture .ensures) (shown-b (c .before .before .args .d) (c .before .if1 .taken))
 
 returns-2 : tie.Need-returns-2
 returns-2 c =
     let i = c .before in
-    steps-as (c .handed2 .ensures) (shown-held (i .before .before .args .d) (ne-eqb _ _ (i .before .if1 .left)) (i .if2 .taken))
+    steps-as (c .output-picture2 .ensures) (shown-held (i .before .before .args .d) (ne-eqb _ _ (i .before .if1 .left)) (i .if2 .taken))
 
 returns-3 : tie.Need-returns-3
 returns-3 c =
     let i = c .before in
     let d = i .before .before .args .d in
-    record { is = rw (c .held-as .ensures) (shown-first d (ne-eqb _ _ (i .before .if1 .left)) (i .if2 .left)); goes = refl }
+    record { is = rw (c .has-reference-frame-as .ensures) (shown-first d (ne-eqb _ _ (i .before .if1 .left)) (i .if2 .left)); goes = refl }
 
 pub shown-spec : {M : Type 1} → statement M
 shown-spec = tie.close (tie.spec (λ c κs. search needs) returns (λ c κs. search needs) returns-2 (λ c κs. search needs) returns-3)

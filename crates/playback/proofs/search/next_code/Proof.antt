@@ -18,7 +18,7 @@ returns c =
 find-start-code-requires : tie.Need-find-start-code-requires
 find-start-code-requires c κs =
     let p = c .before .before .before .before .pre in
-    rw (c .from-position .ensures) (record { place = p .0; stream = p .1 })
+    rw (c .from-position .ensures) (record { position = p .0; stream = p .1 })
 
 returns-2 : tie.Need-returns-2
 returns-2 c =

@@ -4,7 +4,7 @@ use native.Mathlib.Omega.{arith}
 use borrow.Author.Needs.{needs}
 use denote.Ref.{now}
 use lib.ListN.{getD}
-use Rattle.prediction.specs.Samples.{laid, sample}
+use Rattle.prediction.specs.Samples.{storedSample, sample}
 use Rattle.prediction.proofs.apart.four_at.Statement.{statement}
 use Rattle.prediction.proofs.apart.four_at.Tie as tie
 
@@ -13,7 +13,7 @@ unfolding sample
 returns c =
     let s = c .before .before .before .before .before .before .before .before in
     let a = s .args in
-    c .laid .ensures ∙ ap (laid (a .interpolate) (getD (now (a .store)) (a .o) 0)) (rw (s .pre .1) at (c .before .average4 .ensures))
+    c .stored-sample .ensures ∙ ap (storedSample (a .interpolate) (getD (now (a .store)) (a .o) 0)) (rw (s .pre .1) at (c .before .average4 .ensures))
 
 pub four-at-spec : {M : Type 1} → statement M
 four-at-spec =

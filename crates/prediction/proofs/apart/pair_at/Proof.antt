@@ -4,14 +4,14 @@ use native.Mathlib.Omega.{arith}
 use borrow.Author.Needs.{needs}
 use denote.Ref.{now}
 use lib.ListN.{getD}
-use Rattle.prediction.specs.Samples.{laid}
+use Rattle.prediction.specs.Samples.{storedSample}
 use Rattle.prediction.proofs.apart.pair_at.Statement.{statement}
 use Rattle.prediction.proofs.apart.pair_at.Tie as tie
 
 returns : tie.Need-returns
 returns c =
     let a = c .before .before .before .before .before .before .args in
-    c .laid .ensures ∙ ap (laid (a .interpolate) (getD (now (a .store)) (a .o) 0)) (c .before .average2 .ensures)
+    c .stored-sample .ensures ∙ ap (storedSample (a .interpolate) (getD (now (a .store)) (a .o) 0)) (c .before .average2 .ensures)
 
 pub pair-at-spec : {M : Type 1} → statement M
 pair-at-spec =

@@ -10,7 +10,7 @@ use lib.Dec.{eqb}
 use lib.ListN.{getD, replicate}
 use Rattle.laws.specs.Stores.{storeRow}
 use Rattle.prediction.specs.Apart.{chosen}
-use Rattle.prediction.proofs.Beside.{Reads, Making, make-on, Rows, no-row, none-made, rows-turn, all-rows, chosen-reads, chosen-rows, both-one}
+use Rattle.prediction.proofs.Beside.{Reads, Making, make-on, Rows, no-row, none-made, rows-step, all-rows, chosen-reads, chosen-rows, both-one}
 use Rattle.prediction.proofs.apart.predict_apart.Statement.{statement}
 use Rattle.prediction.proofs.apart.predict_apart.Tie as tie
 
@@ -66,7 +66,7 @@ row-written : {b x : ℕ} {row last : List ℕ} (t : tie.In-loop Inv-loop2 μ-lo
     → Making (a .interpolate) f (l .store) (a .from + l .y * a .dw) (a .to + l .y * a .dw) b other row x → b ≤ x
     → last ≡ storeRow (l .store) (a .to + l .y * a .dw) (λ x. getD row x 0) b
     → Rows (a .interpolate) f (now (a .store)) (a .from) (a .to) (a .dw) (a .size) last (l .y + 1)
-row-written t is = let s = t .before .before .before in rows-turn is (s .pre .1 .1) (t .before .loop .inv) (t .loop-test .taken) (read s)
+row-written t is = let s = t .before .before .before in rows-step is (s .pre .1 .1) (t .before .loop .inv) (t .loop-test .taken) (read s)
 
 pub predict-apart-spec : {M : Type 1} → statement M
 predict-apart-spec =

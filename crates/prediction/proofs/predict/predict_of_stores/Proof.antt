@@ -5,7 +5,7 @@ use Prim.Native.Nat.{ℕ, _+_, _≤_}
 use native.Mathlib.Omega.{arith}
 use denote.Ref.{now}
 use mir.Facts.{toZ-ofZ}
-use Rattle.prediction.specs.declared.place.Place.{Place}
+use Rattle.prediction.specs.declared.position.BlockPosition.{BlockPosition}
 use Rattle.prediction.specs.Planes.{blockSize, After}
 use Rattle.prediction.specs.Predict.{blockOf, bytes}
 use Rattle.prediction.proofs.Macroblocks.{count-most, placed, plane-in, planes-apart, alike}
@@ -23,11 +23,11 @@ place-is : (k : tie.After-block) → let a = entry k .args in k .block .result �
 place-is k = k .block .ensures ∙ ap (blockOf (entry k .args .m)) (k .before .block-size .ensures)
 
 -- a plane ends in the store, with the place and the start that the code has
-room : {p r : Place} {a b n : ℕ} → p ≡ r → a ≡ b → b + bytes r ≤ n → a + bytes p ≤ n
+room : {p r : BlockPosition} {a b n : ℕ} → p ≡ r → a ≡ b → b + bytes r ≤ n → a + bytes p ≤ n
 room ep ea h = rw (ep, ea) h
 
 -- and two are apart
-beside : {p r : Place} {a b c d : ℕ} → p ≡ r → a ≡ b → c ≡ d → (b + bytes r ≤ d) ⊎ (d + bytes r ≤ b) → (a + bytes p ≤ c) ⊎ (c + bytes p ≤ a)
+beside : {p r : BlockPosition} {a b c d : ℕ} → p ≡ r → a ≡ b → c ≡ d → (b + bytes r ≤ d) ⊎ (d + bytes r ≤ b) → (a + bytes p ≤ c) ⊎ (c + bytes p ≤ a)
 beside ep ea ec h = rw (ep, ea, ec) h
 
 plane-start-requires : tie.Need-plane-start-requires

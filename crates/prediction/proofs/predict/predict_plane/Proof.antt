@@ -8,7 +8,7 @@ use borrow.Rule.Slice.PartMut.{midOf, putMid}
 use denote.Ref.{now}
 use lib.IntN.{ℤ}
 use mir.Facts.{toZ-ofZ}
-use Rattle.prediction.specs.declared.place.Fetch.{Fetch}
+use Rattle.prediction.specs.declared.position.Fetch.{Fetch}
 use Rattle.prediction.specs.Planes.{After, follow}
 use Rattle.prediction.specs.Predict.{bytes, fetch, predicted}
 use Rattle.prediction.proofs.Fetches.{copied-in}

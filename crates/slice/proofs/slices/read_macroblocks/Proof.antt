@@ -33,7 +33,7 @@ macroblock-requires c κs =
 goes-on-requires : tie.Need-goes-on-requires Inv-loop μ-loop
 goes-on-requires c κs =
     let p = c .before .before .before .before .macroblock .ensures in
-    (p .reads .inside, (size-most (p .held), adds-one (p .reads .slice)))
+    (p .reads .inside, (size-most (p .storeFits), adds-one (p .reads .slice)))
 
 same-length : tie.Need-same-length Inv-loop μ-loop
 same-length c = let m = read (c .before) in omega (arith, m .macroblock .kept .1 .1 .0, turn m .loop .inv .long)

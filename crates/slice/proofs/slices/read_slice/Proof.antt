@@ -1,8 +1,8 @@
 -- `slices::read_slice` meets its contract: the scale and the extra bytes are read, and the macroblocks are those of the definition's loop.
 use denote.Ref.{now}
 use borrow.Author.Needs.{needs}
-use Rattle.picture_state.specs.Ways.{on}
-use Rattle.picture_state.specs.State.{world}
+use Rattle.picture_state.specs.Result.{ok}
+use Rattle.picture_state.specs.State.{sliceState}
 use Rattle.picture_state.specs.Contracts.{matricesIn}
 use Rattle.slice.proofs.SliceLoop.{start-awaits, slice-runs}
 use Rattle.slice.proofs.slices.read_slice.Statement.{statement}
@@ -30,13 +30,13 @@ returns c =
     let s = entry z in
     let a = s .args in
     let p = s .pre in
-    let w = m .read-macroblocks .ensures .passed (on (world (a .state) (now (a .values)) (now (a .store)))) in
+    let w = m .read-macroblocks .ensures .passed (ok (sliceState (a .state) (now (a .values)) (now (a .store)))) in
     record {
       runs =
           slice-runs (p .0) (p .1 .0) (a .number) (p .1 .1 .1 .1) (z .before .before .read .ensures) (z .before .skip-extra .ensures)
           (matricesIn (now (a .tables))) (z .slice-start .ensures) (w .runs);
       reads = w .reads;
-      held = w .held;
+      storeFits = w .storeFits;
     }
 
 pub read-slice-spec : {M : Type 1} → statement M

@@ -4,7 +4,7 @@ use native.Mathlib.Omega.{arith}
 use Rattle.transform.specs.Butterfly.{nth, butterfly}
 use Rattle.laws.specs.Sizes.{AtMost}
 use Rattle.transform.specs.Bounds.{inputSize}
-use Rattle.transform.proofs.Passes.{After, start-pass, kept, turn-pass, by-columns, end-columns}
+use Rattle.transform.proofs.Passes.{After, start-pass, kept, step-pass, by-columns, end-columns}
 use Rattle.transform.proofs.Sizes.{column-within}
 use Rattle.transform.proofs.idct.columns.Statement.{statement}
 use Rattle.transform.proofs.idct.columns.Tie as tie
@@ -27,7 +27,7 @@ loop-again : tie.Need-loop-again Inv-loop μ-loop
 loop-again c =
     let b = c .before .before in
     let l = b .before .before .before .before in
-    turn-pass by-columns butterfly (l .before .args .block .now) (l .loop .inv) (b .before .before .before .loop-test .taken)
+    step-pass by-columns butterfly (l .before .args .block .now) (l .loop .inv) (b .before .before .before .loop-test .taken)
     (b .butterfly .result) (c .put-lane .last .0) (b .butterfly .ensures ∙ ap butterfly (b .before .lane .ensures)) (c .put-lane .ensures)
 
 pub columns-spec : {M : Type 1} → statement M

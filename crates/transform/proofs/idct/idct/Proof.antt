@@ -3,7 +3,7 @@ use borrow.Author.Needs.{needs}
 use lib.ListN.{length}
 use Rattle.transform.specs.Idct.{rows, idct}
 use Rattle.laws.specs.Sizes.{Narrow}
-use Rattle.transform.specs.Bounds.{Middle}
+use Rattle.transform.specs.Bounds.{BetweenPasses}
 use Rattle.transform.proofs.Blocks.{columns-length}
 use Rattle.transform.proofs.Sizes.{middle, idct-narrow}
 use Rattle.transform.proofs.idct.idct.Statement.{statement}
@@ -17,7 +17,7 @@ rows-requires : tie.Need-rows-requires
 rows-requires c κs =
     let s = start (c .before) in
     let e = c .before .columns .ensures in
-    (ap length e ∙ columns-length (s .args .block .now), subst Middle (sym e) (middle (s .args .block .now) (s .pre)))
+    (ap length e ∙ columns-length (s .args .block .now), subst BetweenPasses (sym e) (middle (s .args .block .now) (s .pre)))
 
 returns : tie.Need-returns
 unfolding idct

@@ -6,7 +6,7 @@ use Rattle.transform.specs.Butterfly.{eight, nth, butterfly}
 use Rattle.transform.specs.Steps.{over256}
 use Rattle.laws.specs.Sizes.{AtMost}
 use Rattle.transform.specs.Bounds.{inputSize, outputSize}
-use Rattle.transform.proofs.Passes.{After, start-pass, kept, turn-pass, by-rows, row-step, end-rows}
+use Rattle.transform.proofs.Passes.{After, start-pass, kept, step-pass, by-rows, row-step, end-rows}
 use Rattle.transform.proofs.Sizes.{row-within, outputs-within}
 use Rattle.transform.proofs.idct.rows.Statement.{statement}
 use Rattle.transform.proofs.idct.rows.Tie as tie
@@ -35,7 +35,7 @@ loop-again c =
     let r = c .before .before in
     let b = r .before in
     let l = b .before .before .before .before in
-    turn-pass by-rows row-step (l .before .args .block .now) (l .loop .inv) (b .before .before .before .loop-test .taken)
+    step-pass by-rows row-step (l .before .args .block .now) (l .loop .inv) (b .before .before .before .loop-test .taken)
     (r .rounded .result) (c .put-lane .last .0)
     (r .rounded .ensures ∙ ap (λ (e : Eight). eight (λ k. over256 (nth e k))) (b .butterfly .ensures ∙ ap butterfly (b .before .lane .ensures)))
     (c .put-lane .ensures)

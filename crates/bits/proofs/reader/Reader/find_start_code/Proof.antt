@@ -10,8 +10,8 @@ use mir.Facts.{toZ-ofZ}
 use borrow.Author.Needs.{needs}
 use Rattle.laws.proofs.Ints.{same-bits}
 use Rattle.bits.specs.Bounds.{lastPosition}
-use Rattle.bits.specs.Runs.{Inside, placeOf}
-use Rattle.bits.specs.Programs.{eqZ, findTurn, findStartCode, many}
+use Rattle.bits.specs.Runs.{Inside, positionOf}
+use Rattle.bits.specs.Programs.{eqZ, findStep, findStartCode, many}
 use Rattle.bits.proofs.Codes.{eqZ-yes, eqZ-no, code-fits}
 use Rattle.bits.proofs.Rules.{Loops, loop-start, loop-on, loop-end, r-call, r-yes, r-no, r-done, r-start-past, reading}
 use Rattle.bits.proofs.reader.Reader.find_start_code.Statement.{statement}
@@ -20,10 +20,10 @@ use Rattle.bits.proofs.reader.Reader.find_start_code.Tie as tie
 abbrev Inv-loop : tie.InvT-loop
 Inv-loop s code reader₀ reader =
     Inside s reader
-    × Loops many (findTurn (toZ w32 code)) (negsuc 0) tt s reader₀ tt reader (lastPosition - placeOf reader)
+    × Loops many (findStep (toZ w32 code)) (negsuc 0) tt s reader₀ tt reader (lastPosition - positionOf reader)
 
 abbrev μ-loop : tie.MeasureT-loop
-μ-loop s code reader₀ reader = lastPosition - placeOf reader
+μ-loop s code reader₀ reader = lastPosition - positionOf reader
 
 -- the code that is sought stops the search, and so does -1
 sought : (k c : ℤ) → k ≡ c → (eqZ k c || eqZ k (negsuc 0)) ≡ true
@@ -39,7 +39,7 @@ loop-holds : tie.Need-loop-holds Inv-loop μ-loop
 loop-holds c = (c .before .pre, loop-start (omega arith))
 
 returns : tie.Need-returns Inv-loop μ-loop
-unfolding findStartCode findTurn
+unfolding findStartCode findStep
 returns c =
     let x = c .before .before in
     let fits = x .before .before .before .fits .code in
@@ -52,7 +52,7 @@ returns c =
     )
 
 returns-2 : tie.Need-returns-2 Inv-loop μ-loop
-unfolding findStartCode findTurn
+unfolding findStartCode findStep
 returns-2 c =
     let x = c .before .before .before in
     let fits = x .before .before .before .fits .code in
@@ -69,13 +69,13 @@ loop-less c =
     let x = c .before .before .before .before in
     omega (
       arith,
-      x .next-start-code .ensures .0 .inside .place,
+      x .next-start-code .ensures .0 .inside .position,
       r-start-past (x .next-start-code .ensures .0 .runs)
           (λ e. c .before .if2 .left (ap (ofZ w32) e)),
     )
 
 loop-again : tie.Need-loop-again Inv-loop μ-loop
-unfolding findTurn
+unfolding findStep
 loop-again c =
     let x = c .before .before .before .before in
     let fits = x .before .before .before .fits .code in

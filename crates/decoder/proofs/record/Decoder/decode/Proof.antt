@@ -5,10 +5,10 @@ use native.Mathlib.Omega.{arith}
 use borrow.Author.Tests.{not-true, not-false}
 use borrow.Author.Needs.{needs}
 use Rattle.decoder.specs.Fit.{Fit}
-use Rattle.decoder.specs.HandOut.{askFirst, goOn, handOut}
-use Rattle.decoder.proofs.Asking.{room-yes, room-no}
+use Rattle.decoder.specs.Decode.{checkHeaderAndStore, afterChecks, decode}
+use Rattle.decoder.proofs.Checking.{room-yes, room-no}
 use Rattle.decoder.proofs.Fits.{fit-of}
-use Rattle.decoder.proofs.HandingOut.{begun-had, played, first-had, go-no, go-on, hand-1, hand-2, hand-mark, hand-on}
+use Rattle.decoder.proofs.Decoding.{begun-had, played, first-had, go-no, go-on, hand-1, hand-2, decode-mark, decode-on}
 use Rattle.decoder.proofs.record.Decoder.decode.Statement.{statement}
 use Rattle.decoder.proofs.record.Decoder.decode.Tie as tie
 
@@ -39,7 +39,7 @@ returns-3 c =
     let p = i .before .before in
     let a = entry p .args in
     c .refused3 .ensures (now (a .store))
-    ∙ hand-mark (now (a .stream)) (a .self) (now (a .store)) (p .before .if1 .left) (sym (p .possible-with .ensures) ∙ not-false _ (i .before .if2 .left))
+    ∙ decode-mark (now (a .stream)) (a .self) (now (a .store)) (p .before .if1 .left) (sym (p .possible-with .ensures) ∙ not-false _ (i .before .if2 .left))
     (i .if3 .taken)
 
 -- the record fits
@@ -48,11 +48,11 @@ fit i = fit-of (sym (second i .possible-with .ensures) ∙ not-false _ (i .befor
 
 -- behind the questions 1 and 2 and the mark
 rest : (i : tie.Else3) → let a = entry (second i) .args in let l = now (a .store) in
-    goOn (now (a .stream)) (a .self) l (askFirst (now (a .stream)) (a .self) l) ≡ handOut (a .self) (now (a .stream)) l
+    afterChecks (now (a .stream)) (a .self) l (checkHeaderAndStore (now (a .stream)) (a .self) l) ≡ decode (a .self) (now (a .stream)) l
 rest i =
     let p = second i in
     let a = entry p .args in
-    hand-on (now (a .stream)) (a .self) (now (a .store)) (p .before .if1 .left) (sym (p .possible-with .ensures) ∙ not-false _ (i .before .if2 .left))
+    decode-on (now (a .stream)) (a .self) (now (a .store)) (p .before .if1 .left) (sym (p .possible-with .ensures) ∙ not-false _ (i .before .if2 .left))
     (i .if3 .left)
 
 with-header-requires : tie.Need-with-header-requires
@@ -113,7 +113,7 @@ returns-6 c =
     let h = not-false _ (n .before .if4 .left) in
     go-on (now (a .stream)) d l d 0 refl
     (room-yes d l d 0 refl (omega (arith, n .store-bytes .ensures, j .if5 .left)) ∙ first-had (now (a .stream)) d l h)
-    (c .ended .ensures (p .pictures .last .1 .0)
+    (c .call-result-of .ensures (p .pictures .last .1 .0)
     ∙ played (now (a .stream)) d d l (p .pictures .ensures) (begun-had d l h))
     ∙ rest i
 

@@ -1,0 +1,120 @@
+-- RULES Q, D1.4: the questions of each call, in the order asked.
+use mathlib.Core.Path.{_≡_}
+use mathlib.Core.Bool.{Bool, true, false, not, _&&_, _||_}
+use mathlib.Core.List.{List, [], _∷_, _++_}
+use Prim.Native.Nat.{ℕ}
+use lib.Dec.{eqb, leb}
+use lib.IntN.{negsuc}
+use lib.ListN.{length}
+use Rattle.laws.specs.Loops.{continue, finish}
+use Rattle.bits.specs.Bits.{has}
+use Rattle.bits.specs.Programs.{run, eqZ, if_then_else_}
+use Rattle.picture_state.specs.Result.{Result, ok, error}
+use Rattle.picture_state.specs.declared.types.Matrices.{Matrices}
+use Rattle.picture_state.specs.declared.types.Sizes.{Sizes}
+use Rattle.picture.specs.Pictures.{PictureState}
+use Rattle.header.specs.Sequences.{size, rest}
+use Rattle.conversion.specs.Pictures.{fits}
+use Rattle.playback.specs.declared.state.State.{State}
+use Rattle.playback.specs.Steps.{DecodingState, atPicture, pictureRun, pictureStep}
+use Rattle.playback.specs.Cases.{isThere, isFlush}
+use Rattle.decoder.specs.declared.record.Decoder.{Decoder}
+use Rattle.decoder.specs.Record.{fresh, position, startCode, storeBytes}
+use Rattle.decoder.specs.Possible.{possible, possibleWith}
+use Rattle.decoder.specs.Headers.{findSequence, withSizeRead, accepted}
+use Rattle.decoder.specs.Decode.{startState}
+
+-- a check (RULES Q: question): its error code (RULES: number), and whether it passes (RULES: 'yes')
+pub record Check : Type 0 where
+  pub number : ℕ
+  pub passes : Bool
+
+abbrev pub check : ℕ → Bool → Check
+check n b = record { number = n; passes = b }
+
+-- RULES D1.4: the number of the first failing check (the first "no"); 0 where there is none
+unfoldable pub firstFailing : List Check → ℕ
+firstFailing [] = 0
+firstFailing (q ∷ qs) = if q .passes then firstFailing qs else q .number
+
+-- RULES D1.4: the question with the number n is the first whose answer is "no"
+pub data IsFirstFailing (n : ℕ) : List Check → Type 0 where
+  this-one : {q : Check} {qs : List Check} → q .number ≡ n → q .passes ≡ false → IsFirstFailing n (q ∷ qs)
+  a-later : {q : Check} {qs : List Check} → q .passes ≡ true → IsFirstFailing n qs → IsFirstFailing n (q ∷ qs)
+
+-- RULES Q1
+abbrev pub isShort : List ℕ → Check
+isShort s = check 1 (leb (length s) 16777216)
+
+-- RULES Q3: is a sequence start code found, or in the record already?
+abbrev pub hasCode : List ℕ → Decoder → Check
+hasCode s d = check 3 (not (eqZ (startCode (findSequence s d)) (negsuc 0)))
+
+-- RULES Q4: 1,088 bits behind it
+abbrev pub hasBits : List ℕ → Decoder → Check
+hasBits s d = check 4 (has s (position (findSequence s d)) 1088)
+
+-- the record behind width and height
+abbrev pub withSize : List ℕ → Decoder → Decoder
+withSize s d = withSizeRead (run size s (position (findSequence s d))) (findSequence s d)
+
+-- RULES Q5
+abbrev pub hasSize : List ℕ → Decoder → Check
+hasSize s d = check 5 (not (eqb (withSize s d .sequence .width) 0 || eqb (withSize s d .sequence .height) 0))
+
+-- the record behind a header that is accepted
+abbrev pub withHeader : List ℕ → Decoder → Decoder
+withHeader s d = accepted (run rest s (position (withSize s d))) (withSize s d)
+
+-- RULES Q6: of the record with the header, accepted in this call or earlier
+abbrev pub hasStore : Decoder → List ℕ → Check
+hasStore x l = check 6 (leb (storeBytes x) (length l))
+
+-- RULES "Order": opening asks 1, 3, 4, 5, 6
+abbrev pub openingChecks : List ℕ → List ℕ → List Check
+openingChecks s l = isShort s ∷ hasCode s fresh ∷ hasBits s fresh ∷ hasSize s fresh ∷ hasStore (withHeader s fresh) l ∷ []
+
+-- RULES Q7: is there a picture to decode, or one to flush?
+abbrev pub hasPicture : List ℕ → State → Check
+hasPicture s x = check 7 (isThere s x || isFlush s x)
+
+-- the number with which a picture leaves early, 0 where it does not
+abbrev pub errorCodeOf : Result PictureState → ℕ
+errorCodeOf (ok f) = 0
+errorCodeOf (error n l) = n
+
+-- how the picture at the state's place ends
+abbrev pub pictureEnd : List ℕ → Sizes → Matrices → DecodingState → Result PictureState
+pictureEnd s z m x = pictureRun s z m x .value
+
+-- RULES QB, Q8, Q9: the picture ends at the first value that is outside, and says which question that was
+abbrev pub isInside : ℕ → Result PictureState → Check
+isInside n w = check n (not (eqb (errorCodeOf w) n))
+
+-- RULES 8.2 to 8.5: what a turn asks, behind its search
+unfoldable pub stepChecks : List ℕ → Sizes → Matrices → DecodingState → List Check
+stepChecks s z m x =
+    hasPicture s (x .state) ∷
+    (if isThere s (x .state) then isInside 8 (pictureEnd s z m x) ∷ isInside 9 (pictureEnd s z m x) ∷ [] else [])
+
+-- RULES 8.7: one turn, or two
+unfoldable pub picturesChecks : List ℕ → Sizes → Matrices → DecodingState → List Check
+picturesChecks s z m x =
+    stepChecks s z m (atPicture s x) ++ (elim (pictureStep s z m x) [ continue y ↦ stepChecks s z m (atPicture s y) | finish e ↦ [] ])
+
+-- the record with which a hand-out comes to its pictures
+abbrev pub withHeaderRead : List ℕ → Decoder → Decoder
+withHeaderRead s d = if d .sequence .«has_sequence_header» then d else withHeader s d
+
+-- RULES "Order": a hand-out asks 1, 2, the stop mark, then 3, 4, 5 while no header is accepted, then 6, and of its pictures 7, 8 and 9
+unfoldable pub decodeChecks : Decoder → List ℕ → List ℕ → List Check
+decodeChecks d s l =
+    isShort s ∷ check 2 (possibleWith s d) ∷ check (d .stop) (eqb (d .stop) 0) ∷
+    ((if d .sequence .«has_sequence_header» then [] else hasCode s d ∷ hasBits s d ∷ hasSize s d ∷ []) ++
+    (hasStore (withHeaderRead s d) l
+    ∷ picturesChecks s (withHeaderRead s d .sequence .sizes) (withHeaderRead s d .sequence .matrices) (startState d (withHeaderRead s d) l)))
+
+-- RULES "Order": the conversion asks 2, 6, 10, 11
+abbrev pub conversionChecks : Decoder → List ℕ → ℕ → List ℕ → ℕ → ℕ → List Check
+conversionChecks d l k a w h =
+    check 2 (possible d) ∷ hasStore d l ∷ check 10 (d .sequence .«has_sequence_header» && leb k 2) ∷ check 11 (fits w h a) ∷ []

@@ -1,8 +1,0 @@
--- `Place::width` meets its contract.
-use native.Mathlib.Omega.{arith}
-use Rattle.prediction.proofs.Places.{width-most}
-use Rattle.prediction.proofs.place.Place.width.Statement.{statement}
-use Rattle.prediction.proofs.place.Place.width.Tie as tie
-
-pub width-spec : {M : Type 1} → statement M
-width-spec = tie.close (tie.spec (λ c. omega (arith, width-most (c .before .pre))) (λ c. omega arith))
