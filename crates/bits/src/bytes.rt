@@ -3,7 +3,7 @@ use crate::position::BytePosition;
 use crate::position::bit_of;
 use crate::reader::Reader;
 ghost use mathlib.Core.Path.{_≡_};
-ghost use Prim.Native.Nat.{_+_, _-_, _*_, _≤_};
+ghost use Prim.Native.Nat.{_+_, _-_, _*_};
 ghost use lib.ListN.{length};
 ghost use Rattle.bits.specs.Bits.{boundary, equalBytes, partAt, Within};
 ghost use Rattle.bits.specs.Runs.{Inside, positionOf};

@@ -4,7 +4,7 @@ use crate::position::BytePosition;
 use crate::position::bit_of;
 use crate::position::byte_of;
 ghost use mathlib.Core.Path.{_≡_};
-ghost use Prim.Native.Nat.{_+_, _-_, _*_, _/_, _^_, _≤_, _<_};
+ghost use Prim.Native.Nat.{_+_, _-_, _*_, _/_, _≤_, _<_};
 ghost use lib.ListN.{length, getD};
 ghost use lib.Dec.{leb};
 ghost use Rattle.bits.specs.Bounds.{longestStream, lastPosition};

@@ -21,8 +21,7 @@ use Rattle.coefficients.specs.declared.quantiser.Quantiser.{Quantiser}
 use Rattle.coefficients.specs.Blocks.{Filled, BlockRead, block, blockDataAfter}
 use Rattle.coefficients.proofs.block.BlockEnd.{the-type}
 use Rattle.coefficients.proofs.Kept.{Kept, block-gives}
-use Rattle.picture_state.specs.declared.types.Context.{Context}
-use Rattle.picture_state.specs.declared.types.Slice.{Slice}
+use Rattle.picture_state.specs.declared.types.{Context.Context, Slice.Slice}
 use Rattle.picture_state.specs.State.{sliceState}
 use Rattle.picture_state.specs.Result.{ok, error}
 use Rattle.blocks.specs.Blocks.{predictorOf, predictorAs, quantiserOf, written, blockEnd, matrixFor, oneBlock}

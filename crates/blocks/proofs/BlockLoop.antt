@@ -14,8 +14,7 @@ use Rattle.picture_state.specs.State.{SliceState, sliceState}
 use Rattle.picture_state.specs.Result.{Result, ok, ifOk, forBelow}
 use Rattle.picture_state.specs.Flags.{flag}
 use Rattle.blocks.specs.Blocks.{oneBlock, patternBlock, blocks}
-use Rattle.picture_state.specs.declared.types.Slice.{Slice}
-use Rattle.picture_state.specs.declared.types.Progress.{Progress}
+use Rattle.picture_state.specs.declared.types.{Slice.Slice, Progress.Progress}
 use Rattle.picture_state.specs.Contracts.{matricesIn, MacroblockInvariant, RefinesAtMacroblock}
 use Rattle.picture_state.proofs.Results.{r-for-bind, r-for-if-ok, way-out}
 use Rattle.blocks.specs.declared.blocks.CodedBlocks.{CodedBlocks}

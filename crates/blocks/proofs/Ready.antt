@@ -14,8 +14,7 @@ use Rattle.coefficients.specs.Dcs.{dcInside}
 use Rattle.blocks.specs.Blocks.{predictorOf, predictorAs}
 use Rattle.picture_state.proofs.Kept.{predictors-kept, predictors-set}
 use Rattle.coefficients.proofs.Kept.{left-bounded}
-use Rattle.picture_state.specs.declared.types.Context.{Context}
-use Rattle.picture_state.specs.declared.types.Slice.{Slice}
+use Rattle.picture_state.specs.declared.types.{Context.Context, Slice.Slice}
 use Rattle.picture_state.specs.Contracts.{MacroblockInvariant}
 use Rattle.picture_state.proofs.Ready.{ready-on}
 

@@ -16,11 +16,9 @@ use Rattle.transform.specs.Idct.{idct, dcOnly}
 use Rattle.prediction.specs.Predict.{macroblockAt}
 use Rattle.prediction.specs.Planes.{planeOf, planeLength, planeStart}
 use Rattle.prediction.specs.Writers.{setConst, overwrite, addConst, addBlock, blockWidth, blockAddress}
-use Rattle.picture_state.specs.declared.types.Context.{Context}
-use Rattle.picture_state.specs.declared.types.Matrices.{Matrices}
-use Rattle.picture_state.specs.declared.types.Slice.{Slice}
+use Rattle.picture_state.specs.declared.types.{Context.Context, Matrices.Matrices, Slice.Slice}
 use Rattle.picture_state.specs.State.{SliceState, sliceState, predictorsAs}
-use Rattle.picture_state.specs.Result.{Result, ok, error, ifOk, bindResult, lift, fromResult, pure, forBelow, _>>=_, _>>_}
+use Rattle.picture_state.specs.Result.{Result, ok, error, lift, fromResult, pure, forBelow, _>>=_, _>>_}
 use Rattle.picture_state.specs.Flags.{flag}
 
 -- RULES 3.1: the place of a block's DC predictor: 0 for Y, 1 for Cb, 2 for Cr

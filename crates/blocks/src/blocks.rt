@@ -71,7 +71,7 @@ fn one_block(
     requires { ⌜ number < 6 ⌝ }
     ensures { λ r. ⌜
         RefinesAtMacroblock
-            (oneBlock (coded .context) (matricesIn (now (tables .entry))) (coded .intra) number (sliceState state (now (values .entry)) (now (store .entry))))
+        (oneBlock (coded .context) (matricesIn (now (tables .entry))) (coded .intra) number (sliceState state (now (values .entry)) (now (store .entry))))
         (coded .context) (now (s .entry)) reader r (now (values .exit)) (now (store .exit))
         ⌝ }
 {

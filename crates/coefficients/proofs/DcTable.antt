@@ -1,12 +1,11 @@
 -- The printed table of DC differences: its lines are as long as their ranges, and it says what the formula says.
 use mathlib.Core.Path.{_≡_, refl, ap}
-use mathlib.Core.Bool.{Bool, true}
-use mathlib.Core.List.{List}
+use mathlib.Core.Bool.{Bool}
 use Prim.Native.Nat.{ℕ, zero, suc, _-_, _^_, _≤_, _<_}
 use native.Mathlib.Omega.{arith}
-use lib.Dec.{T, eqb, eqb→eq}
+use lib.Dec.{T, eqb→eq}
 use lib.IntN.{ℤ, pos, negsuc, _+ℤ_}
-use lib.ListN.{length, length-replicate, replicate}
+use lib.ListN.{length-replicate, replicate}
 use Rattle.laws.proofs.Tables.{every, at}
 use Rattle.bits.specs.Programs.{eqZ}
 use Rattle.coefficients.specs.DcTable.{Line, lines}

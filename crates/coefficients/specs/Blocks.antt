@@ -7,8 +7,7 @@ use lib.IntN.{ℤ, pos, _+ℤ_, _*ℤ_}
 use lib.ListN.{getD, set, replicate}
 use Rattle.bits.specs.Programs.{Prog, done, _>>=_, _>>_, if_then_else_}
 use Rattle.codes.specs.Matrices.{zigZag, premultiplierMatrix}
-use Rattle.coefficients.specs.declared.block.Block.{Block}
-use Rattle.coefficients.specs.declared.block.BlockEnd.{BlockEnd}
+use Rattle.coefficients.specs.declared.block.{Block.Block, BlockEnd.BlockEnd}
 use Rattle.coefficients.specs.declared.block.BlockEnd.the-variants.{Whole, Dropped, Outside}
 use Rattle.coefficients.specs.declared.quantiser.Quantiser.{Quantiser}
 use Rattle.coefficients.specs.Dcs.{dcInside}

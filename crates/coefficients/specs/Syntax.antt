@@ -39,7 +39,7 @@ abbrev pub afterCoefficient : PairsRead → Coefficient → Step PairsRead Pairs
 afterCoefficient x EndOfBlock = finish (pairsEnd (x .pairs) Whole)
 afterCoefficient x (RunLevel run level) =
     cond (ltb (x .n + run) 64) (continue (pairsRead (x .pairs ++ (record { run = run; level = level } ∷ [])) (x .n + run + 1)))
-        (finish (pairsEnd (x .pairs) Dropped))
+    (finish (pairsEnd (x .pairs) Dropped))
 
 -- RULES 3.5, 3.7: one coefficient
 unfoldable pub pairStep : PairsRead → Prog (Step PairsRead PairsEnd)

@@ -10,11 +10,11 @@ mod streams;
 mod sums;
 mod texts;
 
-use cases::run_case;
 use answer_lists::bytes::part;
 use answer_lists::load::load;
 use answer_lists::load::space;
 use answer_lists::numbers::number_at;
+use cases::run_case;
 use show::show_name;
 use streams::run_stream;
 use texts::after_text;

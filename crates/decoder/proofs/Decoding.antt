@@ -10,9 +10,8 @@ use borrow.Author.Tests.{le-leb, lt-leb, eq-eqb, ne-eqb}
 use Rattle.bits.specs.Bounds.{longestStream}
 use Rattle.bits.specs.Programs.{if_then_else_}
 use Rattle.header.specs.Store.{cleared}
-use Rattle.playback.specs.declared.outcome.Outcome.{Outcome}
+use Rattle.playback.specs.declared.outcome.{Outcome.Outcome, StepResult.StepResult}
 use Rattle.playback.specs.declared.outcome.Outcome.the-variants.{Refused}
-use Rattle.playback.specs.declared.outcome.StepResult.{StepResult}
 use Rattle.playback.specs.Steps.{decodingState, LoopEnd, pictures}
 use Rattle.playback.specs.StepResults.{endOf}
 use Rattle.decoder.specs.declared.record.Decoder.{Decoder}

@@ -1,11 +1,10 @@
 -- RULES C.3, Q: what each answer says: a result with its values, or a number; and the number alone.
 use Prim.Native.Nat.{ℕ}
 use lib.Ieee.{Float}
-use Rattle.decoder.specs.declared.answers.Opening.{Opening}
+use Rattle.decoder.specs.declared.answers.{Opening.Opening, Converted.Converted}
 use Rattle.decoder.specs.declared.answers.Opening.the-variants as O
 use Rattle.playback.specs.declared.outcome.Outcome.{Outcome}
 use Rattle.playback.specs.declared.outcome.Outcome.the-variants as H
-use Rattle.decoder.specs.declared.answers.Converted.{Converted}
 use Rattle.decoder.specs.declared.answers.Converted.the-variants as C
 
 -- RULES C.3: an answer

@@ -9,8 +9,7 @@ use lib.Dec.{eqb, leb}
 use lib.ListN.{length, getD}
 use borrow.Author.Tests.{eqb-true, leb-true, leb-false}
 use Rattle.laws.proofs.Tests.{by-case}
-use Rattle.picture_state.specs.declared.types.Matrices.{Matrices}
-use Rattle.picture_state.specs.declared.types.Sizes.{Sizes}
+use Rattle.picture_state.specs.declared.types.{Matrices.Matrices, Sizes.Sizes}
 use Rattle.picture_state.proofs.Possible.{stores-of, picture-of}
 use Rattle.picture_state.specs.State.{firstStores}
 use Rattle.header.specs.Store.{cleared}
@@ -18,8 +17,7 @@ use Rattle.header.proofs.Clearing.{cleared-later, cleared-length}
 use Rattle.decoder.specs.declared.record.Decoder.{Decoder}
 use Rattle.decoder.specs.declared.answers.Opening.{Opening}
 use Rattle.decoder.specs.declared.answers.Opening.the-variants as O
-use Rattle.playback.specs.declared.outcome.Shown.{Shown}
-use Rattle.playback.specs.declared.outcome.Outcome.{Outcome}
+use Rattle.playback.specs.declared.outcome.{Shown.Shown, Outcome.Outcome}
 use Rattle.playback.specs.declared.outcome.Outcome.the-variants as H
 use Rattle.playback.specs.Steps.{LoopEnd}
 use Rattle.decoder.specs.Record.{CallResult, decodingStateOf, fresh, storeBytes}

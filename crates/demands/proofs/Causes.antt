@@ -22,9 +22,8 @@ use Rattle.coefficients.specs.Coefficients.{coefficient}
 use Rattle.coefficients.specs.Dcs.{dcDifference, dcInside}
 use Rattle.coefficients.specs.Syntax.{PairsRead, PairsEnd, CodedBlock, coded, afterCoefficient, pairStep, pairs, intraCoded, otherCoded, codedBlock}
 use Rattle.coefficients.specs.Blocks.{BlockRead, reconstructed, block}
-use Rattle.prediction.specs.declared.position.Fetch.{Fetch}
+use Rattle.prediction.specs.declared.position.{Fetch.Fetch, BlockPosition.BlockPosition}
 use Rattle.prediction.specs.declared.position.Fetch.the-variants.{Alone, Past, Copied}
-use Rattle.prediction.specs.declared.position.BlockPosition.{BlockPosition}
 use Rattle.prediction.specs.Predict.{start, maxAddress, reach, fetch}
 use Rattle.picture_state.specs.declared.types.Sizes.{Sizes}
 use Rattle.demands.specs.Causes.{DcOutside, PredictionOutside}

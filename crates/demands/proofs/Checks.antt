@@ -12,8 +12,7 @@ use Rattle.laws.specs.Loops.{Step, continue, finish}
 use Rattle.bits.specs.Bounds.{longestStream}
 use Rattle.bits.specs.Bits.{has}
 use Rattle.bits.specs.Programs.{Out, eqZ}
-use Rattle.picture_state.specs.declared.types.Matrices.{Matrices}
-use Rattle.picture_state.specs.declared.types.Sizes.{Sizes}
+use Rattle.picture_state.specs.declared.types.{Matrices.Matrices, Sizes.Sizes}
 use Rattle.picture_state.specs.Result.{Result, error}
 use Rattle.picture.specs.Pictures.{PictureState}
 use Rattle.picture.proofs.Kept.{Ends, SameLength, picture-leaves}
@@ -24,7 +23,8 @@ use Rattle.playback.specs.declared.outcome.Outcome.{Outcome}
 use Rattle.playback.specs.declared.outcome.Outcome.the-variants as H
 use Rattle.playback.specs.State as S
 use Rattle.playback.specs.Steps.{DecodingState, LoopEnd, finished, aborted, pictureStateOf, atPicture, pictureRun, pictureStep, pictures}
-use Rattle.playback.specs.Cases.{isThere, isFlush, ReadsPicture, b-picture, reference-picture, flushed-picture, StepCase, outputs, keeps-reference, aborts}
+use Rattle.playback.specs.Cases.{isPictureReady, isFlush, ReadsPicture, b-picture, reference-picture, flushed-picture, StepCase, outputs, keeps-reference}
+use Rattle.playback.specs.Cases.{aborts}
 use Rattle.playback.specs.Cases.{is-seven}
 use Rattle.playback.proofs.Cases.{picture-step-is}
 use Rattle.playback.proofs.TwoSteps.{Each, by-steps}
@@ -102,23 +102,23 @@ Says qs e = endNumber e ≡ firstFailing qs
 
 module _ (s : List ℕ) (z : Sizes) (m : Matrices) where
   -- a picture is there, and is read to its end
-  read-checks : (x : DecodingState) {f : PictureState} {a : ℕ} → isThere s (x .state) ≡ true → ReadsPicture s z m x f a
+  read-checks : (x : DecodingState) {f : PictureState} {a : ℕ} → isPictureReady s (x .state) ≡ true → ReadsPicture s z m x f a
       → stepChecks s z m x ≡ check 7 true ∷ check 8 true ∷ check 9 true ∷ []
   unfolding stepChecks
   read-checks x i r = rw i (ap (λ (o : Out (Result PictureState)). check 7 true ∷ Q.isInside 8 (o .value) ∷ Q.isInside 9 (o .value) ∷ []) r)
 
   -- it leaves early
-  if-ok-checks : (x : DecodingState) {n a : ℕ} {l : List ℕ} → isThere s (x .state) ≡ true → pictureRun s z m x ≡ record { value = error n l; at = a }
+  if-ok-checks : (x : DecodingState) {n a : ℕ} {l : List ℕ} → isPictureReady s (x .state) ≡ true → pictureRun s z m x ≡ record { value = error n l; at = a }
       → stepChecks s z m x ≡ check 7 true ∷ check 8 (not (eqb n 8)) ∷ check 9 (not (eqb n 9)) ∷ []
   unfolding stepChecks
   if-ok-checks x i r = rw i (ap (λ (o : Out (Result PictureState)). check 7 true ∷ Q.isInside 8 (o .value) ∷ Q.isInside 9 (o .value) ∷ []) r)
 
   -- none is there
-  none-checks : (x : DecodingState) {b : Bool} → isThere s (x .state) ≡ false → isFlush s (x .state) ≡ b → stepChecks s z m x ≡ check 7 b ∷ []
+  none-checks : (x : DecodingState) {b : Bool} → isPictureReady s (x .state) ≡ false → isFlush s (x .state) ≡ b → stepChecks s z m x ≡ check 7 b ∷ []
   unfolding stepChecks
   none-checks x i u = rw (i, u)
 
-  if-ok-says : (x : DecodingState) {n a : ℕ} {l : List ℕ} → isThere s (x .state) ≡ true → pictureRun s z m x ≡ record { value = error n l; at = a }
+  if-ok-says : (x : DecodingState) {n a : ℕ} {l : List ℕ} → isPictureReady s (x .state) ≡ true → pictureRun s z m x ≡ record { value = error n l; at = a }
       → n ≡ firstFailing (stepChecks s z m x)
   unfolding firstFailing
   if-ok-says x {n} i r =

@@ -17,14 +17,11 @@ use Rattle.laws.proofs.Lists.{length-row}
 use Rattle.laws.proofs.Tests.{each}
 use Rattle.conversion.specs.Pictures.{pictureIn, fits}
 use Rattle.decoder.specs.declared.record.Decoder.{Decoder}
-use Rattle.decoder.specs.declared.answers.Opening.{Opening}
+use Rattle.decoder.specs.declared.answers.{Opening.Opening, DecodeResult.DecodeResult, Converted.Converted}
 use Rattle.decoder.specs.declared.answers.Opening.the-variants as O
 use Rattle.decoder.specs.declared.answers.Opened as D
-use Rattle.playback.specs.declared.outcome.Shown.{Shown}
-use Rattle.playback.specs.declared.outcome.Outcome.{Outcome}
+use Rattle.playback.specs.declared.outcome.{Shown.Shown, Outcome.Outcome}
 use Rattle.playback.specs.declared.outcome.Outcome.the-variants as H
-use Rattle.decoder.specs.declared.answers.DecodeResult.{DecodeResult}
-use Rattle.decoder.specs.declared.answers.Converted.{Converted}
 use Rattle.decoder.specs.declared.answers.Converted.the-variants as C
 use Rattle.decoder.specs.Record.{CallResult, fresh, storeBytes}
 use Rattle.decoder.specs.Possible.{possible}

@@ -7,11 +7,9 @@ use Prim.Native.Nat.{ℕ, _+_, _*_, _/_, _≤_, _<_}
 use native.Mathlib.Omega.{arith}
 use lib.Dec.{leb}
 use lib.ListN.{length, getD}
-use Rattle.decoder.specs.declared.answers.Opening.{Opening}
-use Rattle.decoder.specs.declared.answers.Opened.{Opened}
+use Rattle.decoder.specs.declared.answers.{Opening.Opening, Opened.Opened, DecodeResult.DecodeResult}
 use Rattle.playback.specs.declared.outcome.Outcome.{Outcome}
 use Rattle.playback.specs.declared.outcome.Outcome.the-variants as H
-use Rattle.decoder.specs.declared.answers.DecodeResult.{DecodeResult}
 use Rattle.decoder.specs.Record.{CallResult}
 use Rattle.decoder.specs.Possible.{possible}
 use Rattle.decoder.specs.Run.{CallState, callState, stateAfter, stateAfterOpening, pictureIn}

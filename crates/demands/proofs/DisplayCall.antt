@@ -10,8 +10,7 @@ use lib.ListN.{length, getD}
 use borrow.Author.Tests.{le-leb, eq-eqb}
 use Rattle.laws.specs.Loops.{Step, continue, finish}
 use Rattle.laws.proofs.Tests.{by-case}
-use Rattle.picture_state.specs.declared.types.Matrices.{Matrices}
-use Rattle.picture_state.specs.declared.types.Sizes.{Sizes}
+use Rattle.picture_state.specs.declared.types.{Matrices.Matrices, Sizes.Sizes}
 use Rattle.picture_state.proofs.Possible.{picture-of}
 use Rattle.header.specs.Store.{cleared}
 use Rattle.decoder.specs.declared.record.Decoder.{Decoder}
@@ -19,9 +18,9 @@ use Rattle.playback.specs.declared.outcome.Outcome.{Outcome}
 use Rattle.playback.specs.declared.outcome.Outcome.the-variants as H
 use Rattle.playback.specs.State.{frames}
 use Rattle.playback.specs.Steps.{DecodingState, LoopEnd, finished, aborted, atPicture, pictures}
-use Rattle.playback.specs.Cases.{isThere, StepCase, outputs, keeps-reference, aborts, is-seven}
+use Rattle.playback.specs.Cases.{isPictureReady, StepCase, outputs, keeps-reference, aborts, is-seven}
 use Rattle.playback.proofs.Cases.{picture-step-is}
-use Rattle.decoder.specs.Record.{CallResult, decodingStateOf, withDecodingState, stopAs, storeBytes}
+use Rattle.decoder.specs.Record.{CallResult, decodingStateOf, stopAs, storeBytes}
 use Rattle.decoder.specs.Possible.{possibleWith}
 use Rattle.decoder.specs.Headers.{CheckResult, refused, passed, checkHeader, checkStore}
 use Rattle.decoder.specs.Decode.{callResultOf, checkHeaderAndStore, startState, afterChecks}
@@ -92,7 +91,8 @@ module _ (s : List ℕ) (short : length s ≤ longestStream) where
   isSeven (finish (finished (H.Refused n) x)) = true
   isSeven (finish (aborted n l)) = false
 
-  seven-reads : {z : Sizes} {m : Matrices} {x : DecodingState} {t : Step DecodingState LoopEnd} → StepCase s z m x t → isSeven t ≡ true → isThere s (x .state)
+  seven-reads : {z : Sizes} {m : Matrices} {x : DecodingState} {t : Step DecodingState LoopEnd} → StepCase s z m x t → isSeven t ≡ true
+      → isPictureReady s (x .state)
       ≡ false
   seven-reads (outputs h) e = absurd (true≢false (sym e))
   seven-reads (keeps-reference i r b h) e = absurd (true≢false (sym e))

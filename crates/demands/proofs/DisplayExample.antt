@@ -42,6 +42,6 @@ unfolding iterate allBelow ofInt bitAt bitsAt readAt afterRead codePrefix codeFr
     intraQuantMatrix nonIntraQuantMatrix premultiplierMatrix bounded ifOk bindResult P.direction P.pictureHeader P.slicesInRoles P.slicesStep P.slices P.picture
     fresh freshState possibleDisplay cleared possible matrix size rest findSequence accepted checkSize checkHeader checkStore opened openingFrom opening
     nextCode isFollowed timeOf counted outputPicture shown afterPicture decoded searched pictureStep pictures callResultOf checkHeaderAndStore startState
-        afterChecks decode
+    afterChecks decode
     displayed waiting stepReads picturesRead decodeReads
 shown-example = record { reads = refl; shows = refl; waits = refl; reads-no-more = refl; shows-no-more = refl }

@@ -8,8 +8,7 @@ use mathlib.Core.Logic.{_⊎_, inl, inr}
 use Prim.Native.Nat.{ℕ, _≤_, _<_}
 use lib.Dec.{leb}
 use lib.ListN.{length, getD}
-use Rattle.decoder.specs.declared.answers.Opening.{Opening}
-use Rattle.decoder.specs.declared.answers.Opened.{Opened}
+use Rattle.decoder.specs.declared.answers.{Opening.Opening, Opened.Opened}
 use Rattle.playback.specs.declared.outcome.Outcome.{Outcome}
 use Rattle.decoder.specs.Record.{CallResult, callResult}
 use Rattle.decoder.specs.Opening.{opening}
@@ -79,7 +78,7 @@ module _ (s : List ℕ) (short : length s ≤ longestStream) (bytes : (k : ℕ) 
   opening-begins : (l : List ℕ) → Begins (opening s l)
   opening-begins =
       opening-leaves s short (λ x. Phase s x []) (λ x l h. no-header h refl)
-          (λ x l h e. under-way (accepted-keeps s short l h e) (none-held (h .hasReferenceFrame)))
+      (λ x l h e. under-way (accepted-keeps s short l h e) (none-held (h .hasReferenceFrame)))
 
 -- ---- a stream that is too long: nothing is read, and nothing shown
 

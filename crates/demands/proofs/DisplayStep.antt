@@ -8,19 +8,16 @@ use lib.IntN.{negsuc}
 use Rattle.laws.specs.Loops.{Step}
 use Rattle.laws.proofs.Tests.{both}
 use Rattle.bits.specs.Programs.{Out, eqZ}
-use Rattle.picture_state.specs.declared.types.Matrices.{Matrices}
-use Rattle.picture_state.specs.declared.types.Sizes.{Sizes}
-use Rattle.picture_state.specs.declared.types.Stores.{Stores}
+use Rattle.picture_state.specs.declared.types.{Matrices.Matrices, Sizes.Sizes, Stores.Stores}
 use Rattle.picture_state.specs.Result.{Result, ok, error}
 use Rattle.picture.specs.Pictures as P
 use Rattle.playback.specs.declared.outcome.Shown.{Shown}
 use Rattle.playback.specs.declared.outcome.Outcome.the-variants as H
-use Rattle.playback.specs.declared.state.State.{State}
 use Rattle.playback.specs.State.{position, startCode, hasReferenceFrame, frames, stateAfterPicture, hasReferenceFrameAs}
 use Rattle.playback.specs.Search.{hasEnded}
 use Rattle.playback.specs.Display.{isReference, isWaiting, counted}
 use Rattle.playback.specs.Steps.{DecodingState, LoopEnd, finished, aborted, pictureRun, atPicture}
-use Rattle.playback.specs.Cases.{isThere, isFlush, ReadsPicture, stateLeftBy, countedAfter, isB, b-picture, reference-picture, flushed-picture}
+use Rattle.playback.specs.Cases.{isPictureReady, isFlush, ReadsPicture, stateLeftBy, countedAfter, isB, b-picture, reference-picture, flushed-picture}
 use Rattle.playback.specs.Cases.{StepCase, outputs, keeps-reference, aborts, is-seven}
 use Rattle.playback.proofs.Next.{next-stores}
 use Rattle.playback.proofs.TwoSteps.{Each, next-held}
@@ -64,15 +61,15 @@ StepShows z n h c = Each (On z n h c) (EndShows z n h c)
 -- ---- a turn
 
 module _ (s : List ℕ) (z : Sizes) (m : Matrices) (x : DecodingState) where
-  reads-on : {f : P.PictureState} {a : ℕ} → isThere s (x .state) ≡ true → ReadsPicture s z m x f a → stepReads s z m x ≡ codedPictureBy s z x (ok f)
+  reads-on : {f : P.PictureState} {a : ℕ} → isPictureReady s (x .state) ≡ true → ReadsPicture s z m x f a → stepReads s z m x ≡ codedPictureBy s z x (ok f)
   unfolding stepReads
   reads-on t r = rw t (ap (λ (o : Out (Result P.PictureState)). codedPictureBy s z x (o .value)) r)
 
-  reads-out : {n a : ℕ} {l : List ℕ} → isThere s (x .state) ≡ true → pictureRun s z m x ≡ record { value = error n l; at = a } → stepReads s z m x ≡ []
+  reads-out : {n a : ℕ} {l : List ℕ} → isPictureReady s (x .state) ≡ true → pictureRun s z m x ≡ record { value = error n l; at = a } → stepReads s z m x ≡ []
   unfolding stepReads
   reads-out t r = rw t (ap (λ (o : Out (Result P.PictureState)). codedPictureBy s z x (o .value)) r)
 
-  pub reads-none : isThere s (x .state) ≡ false → stepReads s z m x ≡ []
+  pub reads-none : isPictureReady s (x .state) ≡ false → stepReads s z m x ≡ []
   unfolding stepReads
   reads-none t = rw t refl
 

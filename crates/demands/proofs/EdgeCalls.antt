@@ -1,6 +1,6 @@
 -- RULES H: the header edge, of what `open` and `decode` gave: with 136 bytes behind the code neither 3 nor 4, with fewer 4.
 use mathlib.Core.Path.{_≡_, refl, sym, subst, _∙_}
-use mathlib.Core.Bool.{true, false, true≢false}
+use mathlib.Core.Bool.{false, true≢false}
 use mathlib.Core.List.{List, [], _∷_, _++_}
 use mathlib.Core.Logic.{_⊎_, inl, inr, ⊎-elim}
 use Prim.Native.Nat.{ℕ, _+_, _≤_, _<_}
@@ -16,14 +16,12 @@ use Rattle.bits.specs.Programs.{eqZ}
 use Rattle.header.specs.Store.{cleared}
 use Rattle.decoder.specs.declared.record.Decoder.{Decoder}
 use Rattle.decoder.specs.declared.answers.Opening.the-variants as O
-use Rattle.decoder.specs.declared.answers.Opened.{Opened}
+use Rattle.decoder.specs.declared.answers.{Opened.Opened, DecodeResult.DecodeResult}
 use Rattle.playback.specs.declared.outcome.Outcome.the-variants as H
-use Rattle.decoder.specs.declared.answers.DecodeResult.{DecodeResult}
-use Rattle.picture_state.specs.declared.types.Matrices.{Matrices}
-use Rattle.picture_state.specs.declared.types.Sizes.{Sizes}
+use Rattle.picture_state.specs.declared.types.{Matrices.Matrices, Sizes.Sizes}
 use Rattle.playback.specs.State.{freshState}
 use Rattle.playback.specs.Steps.{DecodingState, LoopEnd, atPicture, pictureStep}
-use Rattle.playback.specs.Cases.{isThere}
+use Rattle.playback.specs.Cases.{isPictureReady}
 use Rattle.decoder.specs.Record.{fresh, decodingStateOf, position, startCode, storeBytes}
 use Rattle.decoder.specs.Possible.{possible}
 use Rattle.demands.specs.Calls.{Opens, Decodes}
@@ -49,7 +47,7 @@ either (q ∷ a) (a-later y k) = go (either a k)
 step-number : {n : ℕ} (s : List ℕ) (z : Sizes) (m : Matrices) (x : DecodingState) → IsFirstFailing n (stepChecks s z m x) → 6 < n
 unfolding stepChecks
 step-number {n} s z m x =
-    by-case (λ (qs : List Check). IsFirstFailing n (Q.hasPicture s (x .state) ∷ qs) → 6 < n) (isThere s (x .state)) (λ t k. three k) (λ t k. one k)
+    by-case (λ (qs : List Check). IsFirstFailing n (Q.hasPicture s (x .state) ∷ qs) → 6 < n) (isPictureReady s (x .state)) (λ t k. three k) (λ t k. one k)
   where
     three : IsFirstFailing n (Q.hasPicture s (x .state) ∷ Q.isInside 8 (pictureEnd s z m x) ∷ Q.isInside 9 (pictureEnd s z m x) ∷ []) → 6 < n
     three (this-one e z) = omega arith
@@ -115,7 +113,7 @@ module _ (d : Decoder) (s l : List ℕ) (r : DecodeResult) (m : List ℕ) (gave 
   pub decode-edge-passes : b + 4 + 136 ≤ length s → (n : ℕ) → r .outcome ≡ H.Refused n → (n ≡ 3) ⊎ (n ≡ 4) → ⊥
   decode-edge-passes f n e w =
       go (decodingStateOf (withHeader s d) (cleared (storeBytes (withHeader s d)) l))
-          (subst (IsFirstFailing n) (checks-unheaded d s l none) (decode-means d s l r m gave n e))
+      (subst (IsFirstFailing n) (checks-unheaded d s l none) (decode-means d s l r m gave n e))
     where
       go : (x : DecodingState)
           → IsFirstFailing n (Q.isShort s ∷ check 2 (possible d) ∷ check (d .stop) (eqb (d .stop) 0) ∷ Q.hasCode s d ∷ Q.hasBits s d ∷ Q.hasSize s d ∷

@@ -179,7 +179,7 @@ unfolding clamp255 half0 odd storeRow storeRows iterate allBelow ofInt div
     P.pictureHeader P.afterSlice P.slicesStep P.slices P.slicesInRoles P.picture
     fresh freshState possibleDisplay cleared possible matrix size rest findSequence accepted checkSize checkHeader checkStore opened openingFrom opening
     nextCode isFollowed timeOf counted outputPicture shown flushed afterPicture decoded searched pictureStep pictures callResultOf checkHeaderAndStore
-        startState afterChecks decode
+    startState afterChecks decode
 shown-pictures = record {
   hands = refl;
   intra-row = refl;

@@ -11,8 +11,7 @@ use borrow.Author.Tests.{eqb-true, leb-true}
 use Rattle.laws.proofs.Tests.{both, each}
 use Rattle.bits.specs.Bounds.{longestStream}
 use Rattle.codes.specs.Matrices.{bounded}
-use Rattle.picture_state.specs.declared.types.Sizes.{Sizes}
-use Rattle.picture_state.specs.declared.types.Picture.{Picture}
+use Rattle.picture_state.specs.declared.types.{Sizes.Sizes, Picture.Picture}
 use Rattle.picture_state.specs.State.{startCodeAs}
 use Rattle.picture_state.specs.Possible.{between, possiblePicture}
 use Rattle.picture_state.proofs.Possible.{picture-of, picture-by}

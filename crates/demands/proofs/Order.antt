@@ -18,7 +18,7 @@ use Rattle.decoder.specs.declared.answers.DecodeResult.{DecodeResult}
 use Rattle.decoder.specs.Record.{decodingStateOf, storeBytes}
 use Rattle.decoder.specs.Possible.{possible}
 use Rattle.playback.specs.Steps.{atPicture}
-use Rattle.playback.specs.Cases.{isThere, isFlush}
+use Rattle.playback.specs.Cases.{isPictureReady, isFlush}
 use Rattle.decoder.specs.Decode.{startState}
 use Rattle.demands.specs.Calls.{Decodes}
 use Rattle.demands.specs.Checks as Q
@@ -108,15 +108,15 @@ module _ (d : Decoder) (s l : List ℕ) (r : DecodeResult) (m : List ℕ) (gave 
     says-6 k = says 6 (omega arith) (from _ b (checks-headed d s l header) ∙ rw (lt-leb (storeBytes d) (length l) k) refl)
 
     -- no picture to decode, and none to flush
-    pub says-7 : storeBytes d ≤ length l → isThere s before ≡ false → isFlush s before ≡ false → r .outcome ≡ H.Refused 7
+    pub says-7 : storeBytes d ≤ length l → isPictureReady s before ≡ false → isFlush s before ≡ false → r .outcome ≡ H.Refused 7
     unfolding firstFailing picturesChecks stepChecks
     says-7 k t u = says 7 (omega arith) (from _ b (checks-headed d s l header) ∙ rw (le-leb (storeBytes d) (length l) k, t, u))
 
     -- the picture leaves early with 8
-    pub says-8 : storeBytes d ≤ length l → isThere s before ≡ true → {x : List ℕ} → endAt ≡ error 8 x → r .outcome ≡ H.Refused 8
+    pub says-8 : storeBytes d ≤ length l → isPictureReady s before ≡ true → {x : List ℕ} → endAt ≡ error 8 x → r .outcome ≡ H.Refused 8
     unfolding firstFailing picturesChecks stepChecks
     says-8 k t e = says 8 (omega arith) (from _ b (checks-headed d s l header) ∙ rw (le-leb (storeBytes d) (length l) k, t, e))
 
-    pub says-9 : storeBytes d ≤ length l → isThere s before ≡ true → {x : List ℕ} → endAt ≡ error 9 x → r .outcome ≡ H.Refused 9
+    pub says-9 : storeBytes d ≤ length l → isPictureReady s before ≡ true → {x : List ℕ} → endAt ≡ error 9 x → r .outcome ≡ H.Refused 9
     unfolding firstFailing picturesChecks stepChecks
     says-9 k t e = says 9 (omega arith) (from _ b (checks-headed d s l header) ∙ rw (le-leb (storeBytes d) (length l) k, t, e))

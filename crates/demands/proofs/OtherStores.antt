@@ -2,7 +2,7 @@
 use mathlib.Core.Path.{_≡_, refl, sym, ap, _∙_}
 use mathlib.Core.Bool.{Bool}
 use mathlib.Core.List.{List}
-use mathlib.Core.Logic.{_⊎_, ⊎-elim}
+use mathlib.Core.Logic.{⊎-elim}
 use Prim.Native.Nat.{ℕ, _+_, _*_, _≤_, _<_}
 use native.Mathlib.Nat.{mul-le-mul-right}
 use native.Mathlib.Omega.{arith}
@@ -15,8 +15,7 @@ use Rattle.bits.specs.Programs.{nextStartCode}
 use Rattle.bits.proofs.Gives.{g-any, g-as}
 use Rattle.coefficients.specs.declared.quantiser.Quantiser.{Quantiser}
 use Rattle.coefficients.specs.Blocks.{Filled, firstOnly}
-use Rattle.prediction.specs.declared.position.BlockPosition.{BlockPosition}
-use Rattle.prediction.specs.declared.position.Fetch.{Fetch}
+use Rattle.prediction.specs.declared.position.{BlockPosition.BlockPosition, Fetch.Fetch}
 use Rattle.prediction.specs.declared.position.Fetch.the-variants.{Alone, Past, Copied}
 use Rattle.prediction.specs.declared.planes.Plane.{Plane}
 use Rattle.prediction.specs.declared.planes.Plane.the-variants.{Y, Cr, Cb}
@@ -25,8 +24,7 @@ use Rattle.prediction.specs.declared.predict.Predicted.the-variants.{Done, Refu
 use Rattle.prediction.specs.Predict.{macroblockAt, blockOf, bytes, fetch, predicted, address, width, chroma}
 use Rattle.prediction.specs.Planes.{After, blockSize, planeOf, planeLength, planeStart, offset, follow, thenPlane, predictedPlanes, storesBytes}
 use Rattle.prediction.specs.Writers.{setConst, overwrite, addConst, addBlock, blockWidth, blockAddress}
-use Rattle.picture_state.specs.declared.types.Context.{Context}
-use Rattle.picture_state.specs.declared.types.Matrices.{Matrices}
+use Rattle.picture_state.specs.declared.types.{Context.Context, Matrices.Matrices}
 use Rattle.blocks.specs.Blocks.{results, written}
 use Rattle.macroblock_head.specs.Heads.{head}
 use Rattle.macroblock_head.specs.Increments.{increment}

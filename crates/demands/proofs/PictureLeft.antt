@@ -9,10 +9,7 @@ use Rattle.bits.specs.Programs.{Prog, run}
 use Rattle.bits.proofs.Programs.{run-bind}
 use Rattle.bits.proofs.Gives.{Gives, g-done, g-as, g-if}
 use Rattle.laws.proofs.Tests.{by-case}
-use Rattle.picture_state.specs.declared.types.Stores.{Stores}
-use Rattle.picture_state.specs.declared.types.Sizes.{Sizes}
-use Rattle.picture_state.specs.declared.types.Matrices.{Matrices}
-use Rattle.picture_state.specs.declared.types.Picture.{Picture}
+use Rattle.picture_state.specs.declared.types.{Stores.Stores, Sizes.Sizes, Matrices.Matrices, Picture.Picture}
 use Rattle.picture_state.specs.State.{storesAs}
 use Rattle.picture_state.specs.Result.{Result, ok, error}
 use Rattle.picture.specs.Pictures as P

@@ -8,13 +8,11 @@ use native.Mathlib.Omega.{arith}
 use native.Mathlib.Nat.{mul-le-mul-right}
 use lib.Dec.{eqb}
 use lib.ListN.{length}
-use Rattle.laws.specs.Loops.{Step, continue, finish}
+use Rattle.laws.specs.Loops.{Step}
 use Rattle.laws.proofs.Tests.{by-case}
 use Rattle.bits.specs.Programs.{Out, run}
 use Rattle.prediction.specs.Planes.{storesBytes}
-use Rattle.picture_state.specs.declared.types.Matrices.{Matrices}
-use Rattle.picture_state.specs.declared.types.Sizes.{Sizes}
-use Rattle.picture_state.specs.declared.types.Stores.{Stores}
+use Rattle.picture_state.specs.declared.types.{Matrices.Matrices, Sizes.Sizes, Stores.Stores}
 use Rattle.picture_state.specs.Possible.{PossibleStores}
 use Rattle.picture_state.specs.Result.{Result, error}
 use Rattle.picture.specs.Pictures as P
@@ -24,7 +22,8 @@ use Rattle.playback.specs.declared.outcome.Shown.{Shown}
 use Rattle.playback.specs.declared.outcome.Outcome.the-variants as H
 use Rattle.playback.specs.State.{position}
 use Rattle.playback.specs.Steps.{DecodingState, LoopEnd, finished, aborted, pictureStateOf, atPicture, pictureRun, pictureStep, pictures}
-use Rattle.playback.specs.Cases.{isThere, isFlush, ReadsPicture, Outputs, b-picture, reference-picture, flushed-picture, StepCase, outputs, keeps-reference}
+use Rattle.playback.specs.Cases.{isPictureReady, isFlush, ReadsPicture, Outputs, b-picture, reference-picture, flushed-picture, StepCase, outputs}
+use Rattle.playback.specs.Cases.{keeps-reference}
 use Rattle.playback.specs.Cases.{aborts, is-seven}
 use Rattle.playback.proofs.Next.{next-stores}
 use Rattle.playback.proofs.Cases.{picture-step-is}
@@ -104,7 +103,7 @@ module _ (s : List ℕ) (z : Sizes) (m : Matrices) where
   pub data CallEnd (x : DecodingState) : LoopEnd → Type 0 where
     hands : {y left : DecodingState} {i : Shown} → Reached x y → Outputs s z m (atPicture s y) i left
         → SameFrom (storesBytes (z .«mb_size»)) (x .store) (left .store) → CallEnd x (finished (H.Picture i) left)
-    seven : {y : DecodingState} → Reached x y → isThere s (atPicture s y .state) ≡ false → isFlush s (atPicture s y .state) ≡ false
+    seven : {y : DecodingState} → Reached x y → isPictureReady s (atPicture s y .state) ≡ false → isFlush s (atPicture s y .state) ≡ false
         → CallEnd x (finished (H.Refused 7) (atPicture s y))
     stops : {y : DecodingState} {n : ℕ} {l : List ℕ} → Reached x y → pictureEnd s z m (atPicture s y) ≡ error n l → Cause s z n
         → SameFrom (storesBytes (z .«mb_size»)) (x .store) l → CallEnd x (aborted n l)

@@ -1,6 +1,6 @@
 -- For RULES R: one call of a run from an opened record, and what it leaves to the next.
 use mathlib.Core.Path.{_≡_, refl, sym, ap, subst, _∙_}
-use mathlib.Core.Bool.{Bool, true, false}
+use mathlib.Core.Bool.{true, false}
 use mathlib.Core.List.{List}
 use mathlib.Core.Logic.{_⊎_, inl, inr, ⊎-elim}
 use Prim.Native.Nat.{ℕ, _+_, _*_, _/_, _≤_, _<_}
@@ -13,16 +13,15 @@ use Rattle.laws.proofs.Tests.{by-case}
 use Rattle.header.specs.Store.{cleared}
 use Rattle.header.proofs.Clearing.{cleared-length}
 use Rattle.decoder.specs.declared.record.Decoder.{Decoder}
-use Rattle.playback.specs.declared.outcome.Shown.{Shown}
-use Rattle.playback.specs.declared.outcome.Outcome.{Outcome}
+use Rattle.playback.specs.declared.outcome.{Shown.Shown, Outcome.Outcome}
 use Rattle.playback.specs.declared.outcome.Outcome.the-variants as H
 use Rattle.playback.specs.State.{frames}
 use Rattle.playback.specs.Steps.{DecodingState, LoopEnd, finished, aborted, pictureStep, pictures}
-use Rattle.decoder.specs.Record.{CallResult, callResult, decodingStateOf, withDecodingState, stopAs, storeBytes}
+use Rattle.decoder.specs.Record.{CallResult, callResult, decodingStateOf, stopAs, storeBytes}
 use Rattle.decoder.specs.Possible.{possibleWith}
 use Rattle.decoder.specs.Headers.{CheckResult, refused, passed, checkHeader, checkStore}
 use Rattle.decoder.specs.Decode.{callResultOf, checkHeaderAndStore, startState, afterChecks, decode}
-use Rattle.decoder.specs.Run.{CallState, callState, call, stateAfter, pictureIn}
+use Rattle.decoder.specs.Run.{CallState, call, stateAfter, pictureIn}
 use Rattle.decoder.proofs.Cleared.{begun-clears}
 use Rattle.decoder.proofs.Fits.{possible-all, marked-possible}
 use Rattle.demands.specs.After.{AfterHeader, after-3, after-4, after-5}

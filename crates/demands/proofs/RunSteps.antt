@@ -1,6 +1,6 @@
 -- For RULES R: what the turns of a hand-out keep.
 use mathlib.Core.Path.{_≡_, refl, sym, ap, subst, _∙_}
-use mathlib.Core.Bool.{Bool, true, false, not, _&&_, _||_, true≢false, false≢true}
+use mathlib.Core.Bool.{true, false, not, _&&_, _||_, true≢false, false≢true}
 use mathlib.Core.List.{List}
 use mathlib.Core.Logic.{_⊎_}
 use Prim.Native.Nat.{ℕ, _+_, _*_, _≤_, _<_}
@@ -8,16 +8,15 @@ use native.Mathlib.Omega.{arith}
 use lib.IntN.{ℤ, pos, negsuc}
 use lib.ListN.{length, getD}
 use borrow.Author.Tests.{leb-true}
-use Rattle.laws.specs.Loops.{Step, continue, finish}
+use Rattle.laws.specs.Loops.{Step, finish}
 use Rattle.laws.proofs.Tests.{both}
 use Rattle.bits.specs.Bounds.{longestStream}
 use Rattle.bits.specs.Programs.{Out, run, eqZ, findStartCode}
 use Rattle.bits.proofs.Start.{isCode}
 use Rattle.bits.proofs.Programs.{run-most}
 use Rattle.codes.proofs.Bounds.{bounded-of, bounded-by}
-use Rattle.picture_state.specs.declared.types.Matrices.{Matrices}
-use Rattle.picture_state.specs.declared.types.Sizes.{Sizes}
-use Rattle.picture_state.specs.Result.{Result, ok, error}
+use Rattle.picture_state.specs.declared.types.{Matrices.Matrices, Sizes.Sizes}
+use Rattle.picture_state.specs.Result.{Result}
 use Rattle.picture.specs.Pictures.{PictureState, picture}
 use Rattle.picture.proofs.Kept as Kept
 use Rattle.picture.proofs.Places.{Ahead, picture-past, picture-ahead}
@@ -28,7 +27,8 @@ use Rattle.playback.specs.State.{position, startCode, frames, stateAfterPicture
 use Rattle.playback.specs.Search.{nextPicture, hasEnded, isFollowed}
 use Rattle.playback.specs.Display.{counted, isWaiting}
 use Rattle.playback.specs.Steps.{DecodingState, withState, LoopEnd, finished, aborted, pictureStateOf, atPicture, pictureRun, pictureStep, pictures}
-use Rattle.playback.specs.Cases.{isThere, isFlush, ReadsPicture, stateLeftBy, b-picture, reference-picture, flushed-picture, StepCase, outputs, keeps-reference}
+use Rattle.playback.specs.Cases.{isPictureReady, isFlush, ReadsPicture, stateLeftBy, b-picture, reference-picture, flushed-picture, StepCase, outputs}
+use Rattle.playback.specs.Cases.{keeps-reference}
 use Rattle.playback.specs.Cases.{aborts, is-seven}
 use Rattle.playback.proofs.Searches.{Barren, Sought, hit, miss, sought}
 use Rattle.playback.proofs.Next.{Next, has, finds, fails, next-is, next-has, next-barren}
@@ -43,7 +43,7 @@ abbrev pub Stuck : List ℕ → Sizes → Matrices → DecodingState → Type 0
 Stuck s z m x = pictureStep s z m x ≡ finish (finished (H.Refused 7) x)
 
 -- a turn whose search changes nothing
-stuck : (s : List ℕ) (z : Sizes) (m : Matrices) (x : DecodingState) → nextPicture s (x .state) ≡ x .state → isThere s (x .state) ≡ false
+stuck : (s : List ℕ) (z : Sizes) (m : Matrices) (x : DecodingState) → nextPicture s (x .state) ≡ x .state → isPictureReady s (x .state) ≡ false
     → isFlush s (x .state) ≡ false → Stuck s z m x
 stuck s z m x e i u = step-seven s z m x (x .state) e i u
 
@@ -63,7 +63,7 @@ search-row s {z} x short k = go (next-is s (x .state) short (k .inside))
     go (finds e f m) = (keeps-searched x k (pos 0) e refl f (omega arith) (λ c. omega arith), at-code refl, refl)
     go (fails e f m b) = (keeps-searched x k (negsuc 0) e refl f m (λ c. absurd (true≢false (sym (ap isCode c)))), at-end refl b, refl)
 
-no-code : {A : Type 0} (s : List ℕ) (x : State) → startCode x ≡ negsuc 0 → isThere s x ≡ true → A
+no-code : {A : Type 0} (s : List ℕ) (x : State) → startCode x ≡ negsuc 0 → isPictureReady s x ≡ true → A
 no-code s x c i = absurd (false≢true (sym (ap (λ (k : ℤ). not (eqZ k (negsuc 0)) && isFollowed s (position x)) c) ∙ i))
 
 -- RULES 8.3: before a picture start code bits are left, so a second one is found
@@ -75,7 +75,7 @@ followed s a short h = go (run (findStartCode (pos 0)) s a) (sought (pos 0) s a 
     go o (hit x y z) f = omega arith
     go o (miss x y) f = let e = leb-true (length s * 8) a (rw x at f) in omega arith
 
-there : (s : List ℕ) {z : Sizes} (x : DecodingState) → length s ≤ longestStream → KeepsAt s z x → Behind s (x .state) → isThere s (x .state) ≡ true
+there : (s : List ℕ) {z : Sizes} (x : DecodingState) → length s ≤ longestStream → KeepsAt s z x → Behind s (x .state) → isPictureReady s (x .state) ≡ true
     → position (x .state) + 40 ≤ length s * 8
 there s x short k (at-code c) i =
     let a = position (x .state) in
@@ -104,7 +104,7 @@ module _ (s : List ℕ) (z : Sizes) (m : Matrices) (short : length s ≤ longest
       past : position (x .state) + 29 ≤ o .at
       inside : o .at ≤ length s * 8
 
-    ran : isThere s (x .state) ≡ true → Ran (pictureRun s z m x)
+    ran : isPictureReady s (x .state) ≡ true → Ran (pictureRun s z m x)
     ran i =
         let a = position (x .state) in
         let h = there s x short k b i in
@@ -116,7 +116,7 @@ module _ (s : List ℕ) (z : Sizes) (m : Matrices) (short : length s ≤ longest
         }
 
     -- a picture that is read to its end has taken 29 bits
-    read-row : {f : PictureState} {a : ℕ} → isThere s (x .state) ≡ true → ReadsPicture s z m x f a
+    read-row : {f : PictureState} {a : ℕ} → isPictureReady s (x .state) ≡ true → ReadsPicture s z m x f a
         → KeepsAt s z (stateLeftBy f (stateAfterPicture f a (x .state))) × (29 * frames (x .state) + 29 ≤ a)
     read-row i r =
         let o = subst Ran r (ran i) in (
@@ -132,12 +132,12 @@ module _ (s : List ℕ) (z : Sizes) (m : Matrices) (short : length s ≤ longest
           omega (arith, k .count, o .past),
         )
 
-    shown-row : {f : PictureState} {a : ℕ} → isThere s (x .state) ≡ true → ReadsPicture s z m x f a
+    shown-row : {f : PictureState} {a : ℕ} → isPictureReady s (x .state) ≡ true → ReadsPicture s z m x f a
         → KeepsAt s z (stateLeftBy f (counted (stateAfterPicture f a (x .state))))
     shown-row {f} {a} i r = let h = read-row i r in keeps-counted (stateLeftBy f (stateAfterPicture f a (x .state))) (h .0) short (h .1)
 
     -- RULES 8.8: the held picture is flushed, and every later turn answers 7
-    flush-row : isThere s (x .state) ≡ false → isFlush s (x .state) ≡ true → Stuck s z m (withState (hasReferenceFrameAs false (x .state)) x)
+    flush-row : isPictureReady s (x .state) ≡ false → isFlush s (x .state) ≡ true → Stuck s z m (withState (hasReferenceFrameAs false (x .state)) x)
     flush-row i u = go b
       where
         go : Behind s (x .state) → Stuck s z m (withState (hasReferenceFrameAs false (x .state)) x)
@@ -145,7 +145,7 @@ module _ (s : List ℕ) (z : Sizes) (m : Matrices) (short : length s ≤ longest
         go (at-end c e) = stuck s z m (withState (hasReferenceFrameAs false (x .state)) x) (next-barren s (hasReferenceFrameAs false (x .state)) c e) i
             (rw c refl)
 
-    seven-row : isThere s (x .state) ≡ false → isFlush s (x .state) ≡ false → Stuck s z m x
+    seven-row : isPictureReady s (x .state) ≡ false → isFlush s (x .state) ≡ false → Stuck s z m x
     seven-row i u = go b
       where
         go : Behind s (x .state) → Stuck s z m x

@@ -14,8 +14,7 @@ use Rattle.bits.specs.Programs.{run, bind, eqZ, findStartCode}
 use Rattle.bits.proofs.Bits.{bits-lt}
 use Rattle.bits.proofs.Programs.{run-most}
 use Rattle.laws.proofs.Tests.{by-case}
-use Rattle.picture_state.specs.declared.types.Sizes.{Sizes}
-use Rattle.picture_state.specs.declared.types.Picture.{Picture}
+use Rattle.picture_state.specs.declared.types.{Sizes.Sizes, Picture.Picture}
 use Rattle.picture_state.specs.State.{storesAs, firstStores}
 use Rattle.codes.specs.Matrices.{bounded}
 use Rattle.picture_state.specs.Possible.{possiblePicture}

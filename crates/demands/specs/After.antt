@@ -8,12 +8,11 @@ use lib.IntN.{pos, negsuc}
 use lib.ListN.{length}
 use Rattle.laws.specs.Loops.{continue}
 use Rattle.bits.specs.Bits.{bitsAt}
-use Rattle.picture_state.specs.declared.types.Matrices.{Matrices}
-use Rattle.picture_state.specs.declared.types.Sizes.{Sizes}
+use Rattle.picture_state.specs.declared.types.{Matrices.Matrices, Sizes.Sizes}
 use Rattle.picture_state.specs.Result.{Result, error}
 use Rattle.picture.specs.Pictures.{PictureState}
 use Rattle.playback.specs.Steps.{DecodingState, atPicture, pictureStep}
-use Rattle.playback.specs.Cases.{isThere, isFlush}
+use Rattle.playback.specs.Cases.{isPictureReady, isFlush}
 use Rattle.decoder.specs.declared.record.Decoder.{Decoder}
 use Rattle.decoder.specs.Record.{fresh, position, startCode, positionAs, sequenceAs, searchedAs, stopAs, withDecodingState, storeBytes}
 use Rattle.decoder.specs.Possible.{possible}
@@ -71,7 +70,7 @@ pub data AfterDecode (d : Decoder) (s l : List ℕ) : ℕ → Decoder → List �
   after-header : {n : ℕ} {x : Decoder} → d .sequence .«has_sequence_header» ≡ false → AfterHeader s d n x → AfterDecode d s l n x l
   after-6 : length l < storeBytes (withHeaderRead s d) → AfterDecode d s l 6 d l
   -- no picture is there to decode or to flush: the record is the one behind that search, and nothing is written since
-  after-7 : {y : DecodingState} → InCall d s l y → isThere s (atPicture s y .state) ≡ false → isFlush s (atPicture s y .state) ≡ false
+  after-7 : {y : DecodingState} → InCall d s l y → isPictureReady s (atPicture s y .state) ≡ false → isFlush s (atPicture s y .state) ≡ false
       → AfterDecode d s l 7 (withDecodingState (withHeaderRead s d) (atPicture s y)) (y .store)
   -- the picture leaves early: the store is what it has written up to there
   after-8-9 : {y : DecodingState} {n : ℕ} {m : List ℕ} → InCall d s l y → endIn d s y ≡ error n m → Cause s (withHeaderRead s d .sequence .sizes) n

@@ -3,10 +3,8 @@ use mathlib.Core.Path.{_≡_}
 use mathlib.Core.List.{List, [], _∷_}
 use Prim.Native.Nat.{ℕ, _+_}
 use Rattle.decoder.specs.declared.record.Decoder.{Decoder}
-use Rattle.decoder.specs.declared.answers.Opened.{Opened}
+use Rattle.decoder.specs.declared.answers.{Opened.Opened, DecodeResult.DecodeResult, Converted.Converted}
 use Rattle.playback.specs.declared.outcome.Outcome.the-variants as H
-use Rattle.decoder.specs.declared.answers.DecodeResult.{DecodeResult}
-use Rattle.decoder.specs.declared.answers.Converted.{Converted}
 use Rattle.decoder.specs.Record.{callResult}
 use Rattle.decoder.specs.Opening.{opening}
 use Rattle.decoder.specs.Decode.{decode}

@@ -10,14 +10,13 @@ use Rattle.laws.specs.Loops.{continue, finish}
 use Rattle.bits.specs.Bits.{has}
 use Rattle.bits.specs.Programs.{run, eqZ, if_then_else_}
 use Rattle.picture_state.specs.Result.{Result, ok, error}
-use Rattle.picture_state.specs.declared.types.Matrices.{Matrices}
-use Rattle.picture_state.specs.declared.types.Sizes.{Sizes}
+use Rattle.picture_state.specs.declared.types.{Matrices.Matrices, Sizes.Sizes}
 use Rattle.picture.specs.Pictures.{PictureState}
 use Rattle.header.specs.Sequences.{size, rest}
 use Rattle.conversion.specs.Pictures.{fits}
 use Rattle.playback.specs.declared.state.State.{State}
 use Rattle.playback.specs.Steps.{DecodingState, atPicture, pictureRun, pictureStep}
-use Rattle.playback.specs.Cases.{isThere, isFlush}
+use Rattle.playback.specs.Cases.{isPictureReady, isFlush}
 use Rattle.decoder.specs.declared.record.Decoder.{Decoder}
 use Rattle.decoder.specs.Record.{fresh, position, startCode, storeBytes}
 use Rattle.decoder.specs.Possible.{possible, possibleWith}
@@ -76,7 +75,7 @@ openingChecks s l = isShort s ∷ hasCode s fresh ∷ hasBits s fresh ∷ hasSiz
 
 -- RULES Q7: is there a picture to decode, or one to flush?
 abbrev pub hasPicture : List ℕ → State → Check
-hasPicture s x = check 7 (isThere s x || isFlush s x)
+hasPicture s x = check 7 (isPictureReady s x || isFlush s x)
 
 -- the number with which a picture leaves early, 0 where it does not
 abbrev pub errorCodeOf : Result PictureState → ℕ
@@ -95,7 +94,7 @@ isInside n w = check n (not (eqb (errorCodeOf w) n))
 unfoldable pub stepChecks : List ℕ → Sizes → Matrices → DecodingState → List Check
 stepChecks s z m x =
     hasPicture s (x .state) ∷
-    (if isThere s (x .state) then isInside 8 (pictureEnd s z m x) ∷ isInside 9 (pictureEnd s z m x) ∷ [] else [])
+    (if isPictureReady s (x .state) then isInside 8 (pictureEnd s z m x) ∷ isInside 9 (pictureEnd s z m x) ∷ [] else [])
 
 -- RULES 8.7: one turn, or two
 unfoldable pub picturesChecks : List ℕ → Sizes → Matrices → DecodingState → List Check

@@ -9,13 +9,12 @@ use lib.ListN.{length}
 use Rattle.laws.specs.Loops.{continue, finish}
 use Rattle.bits.specs.Bounds.{longestStream}
 use Rattle.bits.specs.Programs.{run, if_then_else_}
-use Rattle.picture_state.specs.declared.types.Matrices.{Matrices}
-use Rattle.picture_state.specs.declared.types.Sizes.{Sizes}
+use Rattle.picture_state.specs.declared.types.{Matrices.Matrices, Sizes.Sizes}
 use Rattle.picture_state.specs.Result.{Result, ok, error}
 use Rattle.picture.specs.Pictures.{PictureState, pictureHeader, isDecoded}
 use Rattle.playback.specs.State.{position}
 use Rattle.playback.specs.Steps.{DecodingState, atPicture, pictureRun, pictureStep}
-use Rattle.playback.specs.Cases.{isThere, isB}
+use Rattle.playback.specs.Cases.{isPictureReady, isB}
 use Rattle.decoder.specs.declared.record.Decoder.{Decoder}
 use Rattle.playback.specs.declared.outcome.Outcome.{Outcome}
 use Rattle.playback.specs.declared.outcome.Outcome.the-variants as H
@@ -69,7 +68,7 @@ codedPictureBy s z x (error n m) = []
 
 -- RULES 8.2, 8.3: the picture that a turn reads, behind its search
 unfoldable pub stepReads : List ℕ → Sizes → Matrices → DecodingState → List CodedPicture
-stepReads s z m x = if isThere s (x .state) then codedPictureBy s z x (pictureRun s z m x .value) else []
+stepReads s z m x = if isPictureReady s (x .state) then codedPictureBy s z x (pictureRun s z m x .value) else []
 
 -- RULES 8.7: in one turn, or two
 unfoldable pub picturesRead : List ℕ → Sizes → Matrices → DecodingState → List CodedPicture

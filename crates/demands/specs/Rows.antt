@@ -10,7 +10,7 @@ use Rattle.bits.specs.Bits.{bitsAt}
 use Rattle.picture_state.specs.Result.{error}
 use Rattle.decoder.specs.declared.record.Decoder.{Decoder}
 use Rattle.playback.specs.Steps.{DecodingState, atPicture}
-use Rattle.playback.specs.Cases.{isThere, isFlush}
+use Rattle.playback.specs.Cases.{isPictureReady, isFlush}
 use Rattle.decoder.specs.Record.{position, searchedAs, stopAs, withDecodingState}
 use Rattle.decoder.specs.Record as R
 use Rattle.demands.specs.Codes.{NoneFound}
@@ -41,7 +41,7 @@ pub record Row5 (s : List ℕ) (d x : Decoder) : Type 0 where
 pub record Row7 (d : Decoder) (s l : List ℕ) (x : Decoder) (m : List ℕ) : Type 0 where
   pub given : DecodingState
   pub step : InCall d s l given
-  pub none : isThere s (atPicture s given .state) ≡ false
+  pub none : isPictureReady s (atPicture s given .state) ≡ false
   pub kept : isFlush s (atPicture s given .state) ≡ false
   pub decoder : x ≡ withDecodingState (withHeaderRead s d) (atPicture s given)
   pub store : m ≡ given .store

@@ -1,23 +1,21 @@
 -- The text of the listing while the calls go on.
 use mathlib.Core.Path.{_≡_, refl, sym, ap, subst, _∙_}
-use mathlib.Core.Bool.{Bool, cond}
 use mathlib.Core.List.{List, [], _∷_, _++_, append-assoc, append-nil}
-use Prim.Native.Nat.{ℕ, suc, _+_, _-_, _*_, _/_, _≤_, _<_}
+use Prim.Native.Nat.{ℕ, suc, _+_, _-_, _*_, _≤_, _<_}
 use native.Mathlib.Omega.{arith}
 use borrow.Author.Tests.{le-leb, lt-leb}
 use lib.ListN.{length, getD, take, replicate}
 use Rattle.io.specs.Counts.{Counts}
 use Rattle.bits.specs.Programs.{many}
 use Rattle.decoder.specs.declared.record.Decoder.{Decoder}
-use Rattle.playback.specs.declared.outcome.Shown.{Shown}
+use Rattle.playback.specs.declared.outcome.{Shown.Shown, Outcome.Outcome}
 use Rattle.decoder.specs.declared.answers.Opening.{Opening}
 use Rattle.decoder.specs.declared.answers.Opening.the-variants as O
-use Rattle.playback.specs.declared.outcome.Outcome.{Outcome}
 use Rattle.playback.specs.declared.outcome.Outcome.the-variants as H
 use Rattle.decoder.specs.Record.{CallResult, callResult}
 use Rattle.decoder.specs.Opening.{opening}
 use Rattle.decoder.specs.Decode.{decode}
-use Rattle.decoder.specs.Run.{CallState, callState, stateAfterOpening, stateAfter, pictureIn}
+use Rattle.decoder.specs.Run.{callState, stateAfter, pictureIn}
 use Rattle.decoder.specs.Listing.{Line, line, linesFrom, linesOf, listing}
 use Rattle.demands.proofs.RunCall.{Between, call-on, few}
 use Rattle.demands.proofs.Run.{opening-begins}

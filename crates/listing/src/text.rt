@@ -1,5 +1,4 @@
 // Writes numbers and lines of the listing to a page.
-ghost use mathlib.Core.Path.{_≡_};
 ghost use Prim.Native.Nat.{_+_, _≤_};
 ghost use lib.ListN.{length};
 ghost use Rattle.decoder.specs.Listing.{line};

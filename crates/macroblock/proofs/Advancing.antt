@@ -1,5 +1,5 @@
 -- On to a later macroblock, as the code goes. Assumes nothing.
-use mathlib.Core.Path.{_≡_, refl, ap}
+use mathlib.Core.Path.{_≡_, refl}
 use mathlib.Core.Bool.{false}
 use mathlib.Core.List.{List}
 use Prim.Native.Nat.{ℕ, _+_, _-_, _*_, _≤_, _<_}
@@ -15,8 +15,7 @@ use Rattle.laws.proofs.Ints.{Dif, up, dn, v, lit, neg, _⊕_, le-no, yes-le, fi
 use Rattle.laws.proofs.Tests.{by-case}
 use Rattle.prediction.specs.declared.predict.Predicted.{Predicted}
 use Rattle.prediction.specs.declared.predict.Predicted.the-variants.{Done, Refused}
-use Rattle.picture_state.specs.declared.types.Context.{Context}
-use Rattle.picture_state.specs.declared.types.Slice.{Slice}
+use Rattle.picture_state.specs.declared.types.{Context.Context, Slice.Slice}
 use Rattle.picture_state.specs.Possible.{PossibleSlice}
 use Rattle.picture_state.specs.Result.{andThen}
 use Rattle.macroblock_head.specs.Predictions.{predictSkipped}

@@ -12,10 +12,7 @@ use Rattle.bits.proofs.Gives.{Gives, given-by, g-done, g-any, g-bind, g-if}
 use Rattle.bits.proofs.Rules.{r-done}
 use Rattle.prediction.specs.declared.predict.Predicted.{Predicted}
 use Rattle.prediction.specs.declared.predict.Predicted.the-variants.{Done, Refused}
-use Rattle.picture_state.specs.declared.types.Context.{Context}
-use Rattle.picture_state.specs.declared.types.Matrices.{Matrices}
-use Rattle.picture_state.specs.declared.types.Slice.{Slice}
-use Rattle.picture_state.specs.declared.types.Progress.{Progress}
+use Rattle.picture_state.specs.declared.types.{Context.Context, Matrices.Matrices, Slice.Slice, Progress.Progress}
 use Rattle.picture_state.specs.Possible.{PossibleSlice}
 use Rattle.picture_state.specs.State.{sliceState}
 use Rattle.picture_state.specs.Flags.{flag, isIntra}

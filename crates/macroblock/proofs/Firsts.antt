@@ -10,10 +10,7 @@ use mir.Syntax.{w64}
 use Rattle.laws.proofs.Ints.{up, dn, v, lit, neg, _⊕_, lt-no, le-no, le-yes, cast-by, cast-is}
 use Rattle.bits.specs.declared.reader.Reader.{Reader}
 use Rattle.bits.proofs.Rules.{r-yes, r-no, r-done}
-use Rattle.picture_state.specs.declared.types.Context.{Context}
-use Rattle.picture_state.specs.declared.types.Matrices.{Matrices}
-use Rattle.picture_state.specs.declared.types.Slice.{Slice}
-use Rattle.picture_state.specs.declared.types.Progress.{Progress}
+use Rattle.picture_state.specs.declared.types.{Context.Context, Matrices.Matrices, Slice.Slice, Progress.Progress}
 use Rattle.picture_state.specs.Possible.{PossibleSlice}
 use Rattle.macroblock.specs.Macroblocks.{body, firstMacroblock}
 use Rattle.picture_state.specs.State.{sliceState, addressAs}

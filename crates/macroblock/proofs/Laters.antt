@@ -13,10 +13,7 @@ use Rattle.bits.specs.declared.reader.Reader.{Reader}
 use Rattle.bits.specs.Runs.{Reading}
 use Rattle.bits.proofs.Gives.{given-by}
 use Rattle.bits.proofs.Rules.{r-yes, r-no, r-done}
-use Rattle.picture_state.specs.declared.types.Context.{Context}
-use Rattle.picture_state.specs.declared.types.Matrices.{Matrices}
-use Rattle.picture_state.specs.declared.types.Slice.{Slice}
-use Rattle.picture_state.specs.declared.types.Progress.{Progress}
+use Rattle.picture_state.specs.declared.types.{Context.Context, Matrices.Matrices, Slice.Slice, Progress.Progress}
 use Rattle.macroblock_head.specs.Increments.{increment}
 use Rattle.macroblock.specs.Macroblocks.{body, firstMacroblock, laterMacroblock, macroblock}
 use Rattle.picture_state.specs.State.{sliceState}

@@ -5,10 +5,8 @@ use mathlib.Core.List.{List}
 use Prim.Native.Nat.{ℕ}
 use lib.IntN.{ℤ, pos, negℤ, _+ℤ_}
 use lib.Signed.{leZ}
-use Rattle.laws.specs.Loops.{finish}
 use Rattle.bits.specs.declared.reader.Reader.{Reader}
-use Rattle.picture_state.specs.declared.types.Context.{Context}
-use Rattle.picture_state.specs.declared.types.Slice.{Slice}
+use Rattle.picture_state.specs.declared.types.{Context.Context, Slice.Slice}
 use Rattle.macroblock.specs.Macroblocks.{advance}
 use Rattle.picture_state.specs.State.{sliceState}
 use Rattle.picture_state.specs.Possible.{PossibleSlice}

@@ -6,11 +6,9 @@ use lib.Dec.{eqb, ltb}
 use lib.IntN.{pos, natAbs, _+ℤ_}
 use lib.Signed.{ltZ, leZ}
 use Rattle.bits.specs.Programs.{Prog, if_then_else_}
-use Rattle.picture_state.specs.declared.types.Context.{Context}
-use Rattle.picture_state.specs.declared.types.Matrices.{Matrices}
-use Rattle.picture_state.specs.declared.types.Slice.{Slice}
+use Rattle.picture_state.specs.declared.types.{Context.Context, Matrices.Matrices, Slice.Slice}
 use Rattle.picture_state.specs.State.{SliceState, sliceState, withSlice, zeroed, addressAs, motionsAs, dcReset}
-use Rattle.picture_state.specs.Result.{Result, ok, andThen, ifOk, bindResult, lift, fromResult, pure, _>>=_, _>>_}
+use Rattle.picture_state.specs.Result.{Result, ok, andThen, lift, fromResult, pure, _>>=_, _>>_}
 use Rattle.macroblock_head.specs.Increments.{increment}
 use Rattle.macroblock_head.specs.Predictions.{predict, predictSkipped}
 use Rattle.picture_state.specs.Flags.{isIntra}

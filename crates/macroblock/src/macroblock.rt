@@ -1,11 +1,11 @@
 // RULES 7.7 to 7.12: from one macroblock to the next.
+use crate::addresses::address_plus;
+use crate::addresses::is_outside;
+use crate::addresses::past;
 use crate::body::body;
 use crate::later::advance;
 use bits::reader::Reader;
 use codes::lent::Tables;
-use crate::addresses::address_plus;
-use crate::addresses::is_outside;
-use crate::addresses::past;
 use macroblock_head::increments::read_increment;
 use picture_state::types::Context;
 use picture_state::types::Progress;

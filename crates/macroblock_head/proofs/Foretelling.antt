@@ -17,9 +17,7 @@ use Rattle.prediction.specs.declared.predict.Predicted.the-variants.{Done, Refu
 use Rattle.prediction.specs.Planes.{After, predictedPlanes}
 use Rattle.prediction.specs.declared.position.Macroblock.{Macroblock}
 use Rattle.prediction.specs.Predict.{macroblockAt, inHalves}
-use Rattle.picture_state.specs.declared.types.Motion.{Motion}
-use Rattle.picture_state.specs.declared.types.Context.{Context}
-use Rattle.picture_state.specs.declared.types.Slice.{Slice}
+use Rattle.picture_state.specs.declared.types.{Motion.Motion, Context.Context, Slice.Slice}
 use Rattle.picture_state.specs.Result.{Result, ok, error, andThen}
 use Rattle.macroblock_head.specs.Predictions.{unlessRefused, predictFrom, predictBoth, predict}
 use Rattle.macroblock_head.specs.Contracts.{predictionResult, RefinesPrediction}

@@ -17,8 +17,7 @@ use Rattle.bits.proofs.Rules.{r-call, r-yes, r-no, r-done}
 use Rattle.motion.specs.Displacement.{InRange}
 use Rattle.motion.specs.Vector.{motionVector}
 use Rattle.motion.proofs.OneStep.{component-in}
-use Rattle.picture_state.specs.declared.types.Motion.{Motion}
-use Rattle.picture_state.specs.declared.types.Slice.{Slice}
+use Rattle.picture_state.specs.declared.types.{Motion.Motion, Slice.Slice}
 use Rattle.picture_state.specs.Possible.{PossibleMotion, PossibleSlice}
 use Rattle.picture_state.specs.State.{zeroed, vectorAs, dcReset}
 use Rattle.picture_state.specs.Flags.{isIntra}

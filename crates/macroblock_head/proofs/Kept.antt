@@ -5,8 +5,7 @@ use native.Mathlib.Omega.{arith}
 use lib.Dec.{eqb}
 use Rattle.bits.proofs.Gives.{Gives, g-done, g-bind, g-if, g-bits}
 use Rattle.motion.proofs.OneStep.{component-in}
-use Rattle.picture_state.specs.declared.types.Motion.{Motion}
-use Rattle.picture_state.specs.declared.types.Slice.{Slice}
+use Rattle.picture_state.specs.declared.types.{Motion.Motion, Slice.Slice}
 use Rattle.picture_state.specs.Flags.{flag, isIntra}
 use Rattle.macroblock_head.specs.Heads.{scale, vector, forward, backward, vectors, flagged, vectorsReset, head}
 use Rattle.picture_state.specs.Possible.{PossibleMotion, PossibleSlice}

@@ -7,9 +7,7 @@ use lib.IntN.{ℤ}
 use lib.ListN.{length}
 use borrow.Rule.Slice.PartMut.{midOf, same-len-mid}
 use Rattle.laws.proofs.Lists.{length-rows}
-use Rattle.prediction.specs.declared.position.Macroblock.{Macroblock}
-use Rattle.prediction.specs.declared.position.BlockPosition.{BlockPosition}
-use Rattle.prediction.specs.declared.position.Fetch.{Fetch}
+use Rattle.prediction.specs.declared.position.{Macroblock.Macroblock, BlockPosition.BlockPosition, Fetch.Fetch}
 use Rattle.prediction.specs.declared.position.Fetch.the-variants.{Alone, Past, Copied}
 use Rattle.prediction.specs.declared.predict.Predicted.{Predicted}
 use Rattle.prediction.specs.declared.predict.Predicted.the-variants.{Done, Refused}

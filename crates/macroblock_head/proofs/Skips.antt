@@ -8,8 +8,7 @@ use Rattle.prediction.specs.declared.predict.Predicted.{Predicted}
 use Rattle.prediction.specs.declared.predict.Predicted.the-variants.{Done, Refused}
 use Rattle.picture_state.specs.Result.{andThen}
 use Rattle.macroblock_head.specs.Predictions.{predict, predictSkipped}
-use Rattle.picture_state.specs.declared.types.Context.{Context}
-use Rattle.picture_state.specs.declared.types.Slice.{Slice}
+use Rattle.picture_state.specs.declared.types.{Context.Context, Slice.Slice}
 use Rattle.macroblock_head.specs.Contracts.{RefinesPrediction}
 
 -- before the macroblock k of the n that are skipped from this address on

@@ -4,8 +4,7 @@ use lib.Dec.{eqb}
 use Rattle.bits.specs.Programs.{Prog, done, bind, bits, _>>=_, _>>_, if_then_else_}
 use Rattle.codes.specs.Codes.{macroblockTypeIntra, macroblockTypePredictive, macroblockTypeB, codeBlockPattern}
 use Rattle.motion.specs.Vector.{motionVector}
-use Rattle.picture_state.specs.declared.types.Motion.{Motion}
-use Rattle.picture_state.specs.declared.types.Slice.{Slice}
+use Rattle.picture_state.specs.declared.types.{Motion.Motion, Slice.Slice}
 use Rattle.picture_state.specs.State.{zeroed, isSetAs, vectorAs, scaleAs, motionsAs, dcReset}
 use Rattle.picture_state.specs.Flags.{flag, isIntra}
 

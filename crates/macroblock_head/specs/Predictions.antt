@@ -7,9 +7,7 @@ use Rattle.bits.specs.Programs.{if_then_else_}
 use Rattle.prediction.specs.declared.predict.Predicted.the-variants.{Done, Refused}
 use Rattle.prediction.specs.Predict.{macroblockAt, inHalves}
 use Rattle.prediction.specs.Planes.{After, predictedPlanes}
-use Rattle.picture_state.specs.declared.types.Context.{Context}
-use Rattle.picture_state.specs.declared.types.Motion.{Motion}
-use Rattle.picture_state.specs.declared.types.Slice.{Slice}
+use Rattle.picture_state.specs.declared.types.{Context.Context, Motion.Motion, Slice.Slice}
 use Rattle.picture_state.specs.Result.{Result, ok, error, andThen}
 
 -- RULES Q9: a prediction that is refused leaves with 9

@@ -8,8 +8,7 @@ use lib.Ieee.{Float, nan}
 use lib.IntN.{ℤ, pos}
 use lib.ListN.{length, getD}
 use borrow.Rule.Slice.PartMut.{midOf}
-use Rattle.picture_state.specs.declared.types.Motion.{Motion}
-use Rattle.picture_state.specs.declared.types.Picture.{Picture}
+use Rattle.picture_state.specs.declared.types.{Motion.Motion, Picture.Picture}
 use Rattle.header.specs.declared.state.Sequence.{Sequence}
 use Rattle.playback.specs.declared.state.Clock.{Clock}
 use Rattle.playback.specs.State.{hasReferenceFrame, frames, nextTime, shownTime}

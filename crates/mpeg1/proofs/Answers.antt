@@ -7,10 +7,9 @@ use borrow.Author.Tests.{le-leb, lt-leb}
 use lib.Ieee.{Float}
 use lib.ListN.{length}
 use Rattle.decoder.specs.declared.record.Decoder.{Decoder}
-use Rattle.decoder.specs.declared.answers.Opening.{Opening}
+use Rattle.decoder.specs.declared.answers.{Opening.Opening, Converted.Converted}
 use Rattle.playback.specs.declared.outcome.Outcome.{Outcome}
 use Rattle.playback.specs.declared.outcome.Outcome.the-variants as H
-use Rattle.decoder.specs.declared.answers.Converted.{Converted}
 use Rattle.decoder.specs.Record.{callResult}
 use Rattle.decoder.specs.Opening.{opening}
 use Rattle.decoder.specs.Decode.{decode}

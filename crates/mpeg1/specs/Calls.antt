@@ -10,9 +10,8 @@ use lib.ListN.{length, replicate}
 use Rattle.bits.specs.Bounds.{longestStream}
 use Rattle.bits.specs.Programs.{if_then_else_}
 use Rattle.header.specs.State.{noTime}
-use Rattle.playback.specs.declared.outcome.Outcome.{Outcome}
+use Rattle.playback.specs.declared.outcome.{Outcome.Outcome, Shown.Shown}
 use Rattle.playback.specs.declared.outcome.Outcome.the-variants as H
-use Rattle.playback.specs.declared.outcome.Shown.{Shown}
 use Rattle.decoder.specs.Record.{CallResult}
 use Rattle.decoder.specs.Answers.{openingErrorCode, conversionErrorCode}
 use Rattle.decoder.specs.Opening.{opening}

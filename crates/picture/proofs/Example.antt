@@ -36,10 +36,7 @@ use Rattle.macroblock.specs.Macroblocks.{advance, predictUnlessIntra, body, fir
 use Rattle.slice.specs.Slices.{extraStep, extra, afterMacroblock, sliceStep, slice}
 use Rattle.picture.specs.Pictures as P
 use mathlib.Core.Bool.{false}
-use Rattle.picture_state.specs.declared.types.Motion.{Motion}
-use Rattle.picture_state.specs.declared.types.Sizes.{Sizes}
-use Rattle.picture_state.specs.declared.types.Matrices.{Matrices}
-use Rattle.picture_state.specs.declared.types.Picture.{Picture}
+use Rattle.picture_state.specs.declared.types.{Motion.Motion, Sizes.Sizes, Matrices.Matrices, Picture.Picture}
 
 abbrev still : Motion
 still = record { «full_px» = false; «is_set» = false; «r_size» = 0; h = pos 0; v = pos 0 }
@@ -106,7 +103,7 @@ unfolding bitAt bitsAt readAt afterRead codePrefix codeFrom found run bind forBe
     Codes.macroblockTypeIntra Codes.dctSizeLuminance Dcs.dcSize Dcs.added Dcs.dcDifference Syntax.intraCoded Syntax.codedBlock Block.reconstructed
     Block.block ifOk bindResult lift incrementStep increment macroblockType scale head pattern blockEnd oneBlock blocks predictUnlessIntra body
     firstMacroblock macroblock extraStep extra afterMacroblock sliceStep slice P.direction P.pictureHeader P.afterSlice P.slicesStep P.slices P.slicesInRoles
-        P.picture
+    P.picture
 eight = refl
 
 -- a P picture with f code 1 whose macroblock has the type 001, a forward vector, and the motion codes 010 and 1: (1, 0) in half samples

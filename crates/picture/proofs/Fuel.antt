@@ -15,8 +15,7 @@ use Rattle.laws.proofs.Tests.{by-case, both}
 use Rattle.bits.proofs.Programs.{run-on}
 use Rattle.bits.proofs.Rules.{Takes}
 use Rattle.bits.proofs.Start.{Searched, first, none, found-is-first}
-use Rattle.picture_state.specs.declared.types.Context.{Context}
-use Rattle.picture_state.specs.declared.types.Matrices.{Matrices}
+use Rattle.picture_state.specs.declared.types.{Context.Context, Matrices.Matrices}
 use Rattle.picture_state.specs.State.{sliceState, startCodeAs}
 use Rattle.picture_state.specs.Result.{Result, ok}
 use Rattle.slice.specs.Slices.{slice}

@@ -6,8 +6,7 @@ use native.Mathlib.Omega.{arith}
 use lib.Dec.{eqb}
 use Rattle.bits.proofs.Gives.{Gives, g-done, g-any, g-bind, g-if, g-bits}
 use Rattle.laws.proofs.Tests.{by-case}
-use Rattle.picture_state.specs.declared.types.Motion.{Motion}
-use Rattle.picture_state.specs.declared.types.Picture.{Picture}
+use Rattle.picture_state.specs.declared.types.{Motion.Motion, Picture.Picture}
 use Rattle.macroblock_head.specs.Heads.{forward, backward}
 use Rattle.picture.specs.Pictures.{Direction, absent, present, PictureHeader, direction, pictureHeader, motionBy, withPictureHeader}
 use Rattle.picture_state.specs.Possible.{PossibleMotion, PossiblePicture}

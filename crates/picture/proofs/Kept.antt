@@ -20,12 +20,7 @@ use Rattle.coefficients.proofs.Kept.{block-gives, left-bounded}
 use Rattle.prediction.specs.declared.predict.Predicted.{Predicted}
 use Rattle.prediction.specs.declared.predict.Predicted.the-variants.{Done, Refused}
 use Rattle.prediction.specs.Planes.{After}
-use Rattle.picture_state.specs.declared.types.Context.{Context}
-use Rattle.picture_state.specs.declared.types.Stores.{Stores}
-use Rattle.picture_state.specs.declared.types.Sizes.{Sizes}
-use Rattle.picture_state.specs.declared.types.Matrices.{Matrices}
-use Rattle.picture_state.specs.declared.types.Slice.{Slice}
-use Rattle.picture_state.specs.declared.types.Picture.{Picture}
+use Rattle.picture_state.specs.declared.types.{Context.Context, Stores.Stores, Sizes.Sizes, Matrices.Matrices, Slice.Slice, Picture.Picture}
 use Rattle.picture_state.specs.State.{storesAs, addressAs}
 use Rattle.picture_state.specs.Possible.{between, possiblePicture, PossibleStores, PossibleSlice, PossiblePicture}
 use Rattle.picture_state.specs.Result.{Result, ok, error}

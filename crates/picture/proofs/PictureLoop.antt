@@ -20,7 +20,7 @@ use Rattle.bits.specs.Programs.{many, done, nextStartCode, eqZ, if_then_else_}
 use Rattle.bits.specs.Runs.{Runs, Reading, bitsLeft}
 use Rattle.bits.proofs.Codes.{eqZ-yes, eqZ-no, code-fits}
 use Rattle.bits.proofs.Rules.{Loops, loop-start, loop-on, loop-end, takes-less, r-call, r-yes, r-no, r-done}
-use Rattle.picture_state.specs.declared.types.Picture.{Picture}
+use Rattle.picture_state.specs.declared.types.{Picture.Picture, Context.Context, Matrices.Matrices, Slice.Slice, Progress.Progress}
 use Rattle.picture_state.specs.Possible.{PossiblePicture}
 use Rattle.picture_state.proofs.Possible.{between-of}
 use Rattle.picture_state.specs.State.{sliceState}
@@ -28,10 +28,6 @@ use Rattle.picture_state.specs.Result.{ok}
 use Rattle.slice.specs.Slices.{slice}
 use Rattle.picture.specs.Pictures as P
 use Rattle.picture.proofs.Fuel.{slices-take}
-use Rattle.picture_state.specs.declared.types.Context.{Context}
-use Rattle.picture_state.specs.declared.types.Matrices.{Matrices}
-use Rattle.picture_state.specs.declared.types.Slice.{Slice}
-use Rattle.picture_state.specs.declared.types.Progress.{Progress}
 use Rattle.picture_state.specs.declared.types.SlicesProgress.{SlicesProgress}
 use Rattle.picture_state.specs.Contracts.{resultOf, StoreFits, ReadInvariant, RefinesInSlice}
 use Rattle.picture.specs.Contracts.{pictureStateOf, slicesStepOf, RefinesSlicesStep, RefinesSlices}

@@ -14,11 +14,7 @@ use Rattle.bits.specs.Programs.{Prog, done, bind, bits, loop, many, run, contin
 use Rattle.bits.proofs.Start.{isCode, Searched, first, none, found-is-first}
 use Rattle.bits.proofs.Programs.{run-bind, run-on, served-next}
 use Rattle.laws.proofs.Tests.{by-case}
-use Rattle.picture_state.specs.declared.types.Stores.{Stores}
-use Rattle.picture_state.specs.declared.types.Sizes.{Sizes}
-use Rattle.picture_state.specs.declared.types.Matrices.{Matrices}
-use Rattle.picture_state.specs.declared.types.Picture.{Picture}
-use Rattle.picture_state.specs.declared.types.Context.{Context}
+use Rattle.picture_state.specs.declared.types.{Stores.Stores, Sizes.Sizes, Matrices.Matrices, Picture.Picture, Context.Context}
 use Rattle.picture_state.specs.State.{SliceState, sliceState, startCodeAs, storesAs}
 use Rattle.picture_state.specs.Result.{Result, ok, error, ifOk, bindResult, pure}
 use Rattle.slice.specs.Slices.{isLast, slice}

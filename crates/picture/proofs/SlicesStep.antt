@@ -11,14 +11,10 @@ use Rattle.bits.specs.Runs.{Runs}
 use Rattle.bits.proofs.Rules.{r-yes, r-no, r-done}
 use Rattle.codes.specs.Lent.{Lent, tablesWith}
 use Rattle.tables.proofs.Made.{Bytes64, lent-with, matrix-with}
-use Rattle.picture_state.specs.declared.types.Matrices.{Matrices}
-use Rattle.picture_state.specs.declared.types.Picture.{Picture}
-use Rattle.picture_state.specs.declared.types.PictureProgress.{PictureProgress}
-use Rattle.picture_state.specs.declared.types.Sizes.{Sizes}
-use Rattle.picture_state.specs.declared.types.SlicesProgress.{SlicesProgress}
+use Rattle.picture_state.specs.declared.types.{Matrices.Matrices, Picture.Picture, PictureProgress.PictureProgress, Sizes.Sizes, SlicesProgress.SlicesProgress}
 use Rattle.picture_state.specs.declared.types.Stores.{Stores}
 use Rattle.picture_state.specs.State.{storesAs}
-use Rattle.picture_state.specs.Result.{Result, ok, bindResult, pure}
+use Rattle.picture_state.specs.Result.{Result, bindResult, pure}
 use Rattle.picture.specs.Pictures as P
 use Rattle.picture_state.specs.Contracts.{matrices, matricesIn, resultOf, StoreFits}
 use Rattle.picture.specs.Contracts.{pictureStateOf, RefinesSlices, RefinesPicture}

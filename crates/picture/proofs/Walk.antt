@@ -10,7 +10,7 @@ use lib.ListN.{getD}
 use lib.Signed.{leZ}
 use Rattle.laws.proofs.Ints.{v, lit, le-yes, abs-by}
 use Rattle.laws.proofs.Tests.{by-case, both}
-use Rattle.bits.specs.Programs.{Prog, nonZero, many, nextStartCode}
+use Rattle.bits.specs.Programs.{nonZero, many, nextStartCode}
 use Rattle.bits.proofs.Gives.{Gives, OnStep, g-done, g-any, g-bind, g-if, g-loop, g-bits}
 use Rattle.coefficients.specs.declared.quantiser.Quantiser.{Quantiser}
 use Rattle.coefficients.specs.Blocks.{Filled, BlockRead, blockDataAfter, block}
@@ -18,12 +18,8 @@ use Rattle.coefficients.specs.declared.block.BlockEnd.{BlockEnd}
 use Rattle.coefficients.specs.declared.block.BlockEnd.the-variants.{Whole, Dropped, Outside}
 use Rattle.prediction.specs.Predict.{macroblockAt}
 use Rattle.prediction.specs.Planes.{predictedPlanes}
-use Rattle.picture_state.specs.declared.types.Context.{Context}
-use Rattle.picture_state.specs.declared.types.Matrices.{Matrices}
-use Rattle.picture_state.specs.declared.types.Motion.{Motion}
-use Rattle.picture_state.specs.declared.types.Slice.{Slice}
-use Rattle.picture_state.specs.declared.types.Picture.{Picture}
-use Rattle.picture_state.specs.State.{SliceState, sliceState, withSlice, startCodeAs, sliceAs, addressAs}
+use Rattle.picture_state.specs.declared.types.{Context.Context, Matrices.Matrices, Motion.Motion, Slice.Slice, Picture.Picture}
+use Rattle.picture_state.specs.State.{SliceState, sliceState, startCodeAs, sliceAs, addressAs}
 use Rattle.picture_state.specs.Result.{Result, ok, error}
 use Rattle.macroblock_head.specs.Predictions.{unlessRefused, predictFrom, predictBoth, predict, predictSkipped}
 use Rattle.picture_state.specs.Flags.{flag, isIntra}

@@ -4,14 +4,10 @@ use lib.Dec.{eqb}
 use lib.IntN.{ℤ, pos, _+ℤ_}
 use lib.Signed.{leZ}
 use Rattle.bits.specs.Programs.{if_then_else_}
-use Rattle.picture_state.specs.declared.types.Context.{Context}
-use Rattle.picture_state.specs.declared.types.Stores.{Stores}
-use Rattle.picture_state.specs.declared.types.Progress.{Progress}
-use Rattle.picture_state.specs.declared.types.SlicesProgress.{SlicesProgress}
+use Rattle.picture_state.specs.declared.types.{Context.Context, Stores.Stores, Progress.Progress, SlicesProgress.SlicesProgress}
 use Rattle.picture_state.specs.declared.types.PictureProgress.{PictureProgress}
 use Rattle.picture.specs.Pictures as P
-use Rattle.picture.specs.declared.headers.Direction.{Direction}
-use Rattle.picture.specs.declared.headers.HeaderRead.{HeaderRead}
+use Rattle.picture.specs.declared.headers.{Direction.Direction, HeaderRead.HeaderRead}
 
 -- RULES 7.1: a direction as the code has it
 abbrev pub directionOf : Direction → P.Direction

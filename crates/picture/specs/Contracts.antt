@@ -7,11 +7,7 @@ use Rattle.laws.specs.Loops.{Step, continue, finish}
 use Rattle.bits.specs.declared.reader.Reader.{Reader}
 use Rattle.bits.specs.Programs.{Prog}
 use Rattle.bits.specs.Runs.{Runs, Inside}
-use Rattle.picture_state.specs.declared.types.Context.{Context}
-use Rattle.picture_state.specs.declared.types.Matrices.{Matrices}
-use Rattle.picture_state.specs.declared.types.PictureProgress.{PictureProgress}
-use Rattle.picture_state.specs.declared.types.Slice.{Slice}
-use Rattle.picture_state.specs.declared.types.SlicesProgress.{SlicesProgress}
+use Rattle.picture_state.specs.declared.types.{Context.Context, Matrices.Matrices, PictureProgress.PictureProgress, Slice.Slice, SlicesProgress.SlicesProgress}
 use Rattle.picture.specs.Pictures as P
 use Rattle.picture_state.specs.Result.{Result}
 use Rattle.picture_state.specs.Contracts.{resultOf, StoreFits, ReadInvariant}
@@ -45,6 +41,6 @@ pub record RefinesSlices (p : Prog (Result P.PictureState)) (g : Context) (s : L
 
 -- a picture, or its slices
 pub record RefinesPicture (p : Prog (Result P.PictureState)) (s : List ℕ) (reader : Reader) (r : PictureProgress) (left : List ℤ) (store : List ℕ) : Type 0
-    where
-  pub runs : Runs p s reader (resultOf (r .stop) (P.pictureState (r .picture) left store) store) (r .reader)
-  pub inside : Inside s (r .reader)
+  where
+    pub runs : Runs p s reader (resultOf (r .stop) (P.pictureState (r .picture) left store) store) (r .reader)
+    pub inside : Inside s (r .reader)

@@ -7,14 +7,9 @@ use lib.IntN.{ℤ, pos, natAbs}
 use lib.Signed.{leZ}
 use Rattle.laws.specs.Loops.{Step, continue, finish}
 use Rattle.bits.specs.Programs.{Prog, done, bind, bits, nextStartCode, eqZ, loop, many, _>>=_, _>>_, if_then_else_}
-use Rattle.picture_state.specs.declared.types.Context.{Context}
-use Rattle.picture_state.specs.declared.types.Motion.{Motion}
-use Rattle.picture_state.specs.declared.types.Stores.{Stores}
-use Rattle.picture_state.specs.declared.types.Sizes.{Sizes}
-use Rattle.picture_state.specs.declared.types.Matrices.{Matrices}
-use Rattle.picture_state.specs.declared.types.Picture.{Picture}
+use Rattle.picture_state.specs.declared.types.{Context.Context, Motion.Motion, Stores.Stores, Sizes.Sizes, Matrices.Matrices, Picture.Picture}
 use Rattle.picture_state.specs.State.{SliceState, sliceState, fullPxAs, rSizeAs, motionsAs, startCodeAs, typeAs, storesAs, sliceAs}
-use Rattle.picture_state.specs.Result.{Result, ok, error, ifOk, bindResult, pure}
+use Rattle.picture_state.specs.Result.{Result, ok, error, bindResult, pure}
 use Rattle.slice.specs.Slices.{isLast, slice}
 
 -- what a picture changes: its state, block_data (the left-over coefficients) and the store

@@ -1,5 +1,4 @@
 // RULES 7.3, 7.4: the slices of a picture.
-use slice::slices::read_slice;
 use bits::reader::Reader;
 use codes::lent::Tables;
 use macroblock::addresses::past;
@@ -7,6 +6,7 @@ use picture_state::types::Context;
 use picture_state::types::Progress;
 use picture_state::types::Slice;
 use picture_state::types::SlicesProgress;
+use slice::slices::read_slice;
 ghost use mathlib.Core.Path.{_≡_};
 ghost use mathlib.Core.Bool.{not, _&&_};
 ghost use Prim.Native.Nat.{_≤_};

@@ -11,8 +11,7 @@ use lib.IntN.{ℤ, pos}
 use lib.ListN.{getD, replicate, getD-replicate, length, set}
 use lib.Seq.{set-out, getD-set-same, getD-set-other}
 use Rattle.coefficients.specs.Dcs.{dcInside}
-use Rattle.picture_state.specs.declared.types.Motion.{Motion}
-use Rattle.picture_state.specs.declared.types.Slice.{Slice}
+use Rattle.picture_state.specs.declared.types.{Motion.Motion, Slice.Slice}
 use Rattle.picture_state.specs.State.{zeroed, isSetAs, scaleAs, motionsAs, dcReset, predictorsAs}
 use Rattle.picture_state.specs.Possible.{PossibleMotion, PossibleSlice}
 use Rattle.laws.proofs.Ints.{v}

@@ -2,21 +2,16 @@
 use mathlib.Core.Path.{_≡_}
 use mathlib.Core.Bool.{true}
 use mathlib.Core.List.{[], _∷_}
-use Prim.Native.Nat.{ℕ, _+_, _≤_, _<_}
+use Prim.Native.Nat.{ℕ, _+_, _≤_}
 use native.Mathlib.Omega.{arith}
 use borrow.Author.Tests.{leb-true, eqb-false, le-leb, ne-eqb, not-true}
 use lib.IntN.{ℤ, pos, negℤ}
-use lib.ListN.{getD}
 use lib.Signed.{leZ}
 use Rattle.laws.proofs.Each.{all-at, all-by}
 use Rattle.laws.proofs.Tests.{both, each}
 use Rattle.laws.proofs.Ints.{Dif, v, lit, neg, le-yes, yes-le, le-by, lt-by, le-of, lt-of}
 use Rattle.motion.specs.Displacement.{InRange}
-use Rattle.coefficients.specs.Dcs.{dcInside}
-use Rattle.picture_state.specs.declared.types.Motion.{Motion}
-use Rattle.picture_state.specs.declared.types.Stores.{Stores}
-use Rattle.picture_state.specs.declared.types.Slice.{Slice}
-use Rattle.picture_state.specs.declared.types.Picture.{Picture}
+use Rattle.picture_state.specs.declared.types.{Motion.Motion, Stores.Stores, Slice.Slice, Picture.Picture}
 use Rattle.picture_state.specs.Possible.{PossibleStores, PossibleMotion, PossibleSlice, PossiblePicture}
 use Rattle.picture_state.specs.Possible.{between, possibleStores, possibleMotion, possibleSlice, possiblePicture}
 

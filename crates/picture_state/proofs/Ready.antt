@@ -10,8 +10,7 @@ use Rattle.bits.specs.declared.reader.Reader.{Reader}
 use Rattle.bits.specs.Runs.{Inside}
 use Rattle.codes.specs.Matrices.{Bounded}
 use Rattle.picture_state.specs.Possible.{PossibleSlice}
-use Rattle.picture_state.specs.declared.types.Context.{Context}
-use Rattle.picture_state.specs.declared.types.Slice.{Slice}
+use Rattle.picture_state.specs.declared.types.{Context.Context, Slice.Slice}
 use Rattle.picture_state.specs.Contracts.{StoreFits, MacroblockInvariant}
 
 pub held-on : {g : Context} {store store₁ : List ℕ} → StoreFits g store → length store₁ ≡ length store → StoreFits g store₁

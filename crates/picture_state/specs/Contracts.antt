@@ -7,7 +7,6 @@ use lib.Dec.{T}
 use lib.IntN.{ℤ, natAbs}
 use lib.ListN.{length}
 use lib.Signed.{nonNeg}
-use Rattle.laws.specs.Loops.{finish}
 use Rattle.bits.specs.declared.reader.Reader.{Reader}
 use Rattle.bits.specs.Programs.{Prog}
 use Rattle.bits.specs.Runs.{Runs, Inside}
@@ -15,11 +14,7 @@ use Rattle.codes.specs.Lent.{matrixOf}
 use Rattle.codes.specs.Matrices.{Bounded}
 use Rattle.coefficients.specs.Blocks.{block}
 use Rattle.prediction.specs.Planes.{storesBytes}
-use Rattle.picture_state.specs.declared.types.Context.{Context}
-use Rattle.picture_state.specs.declared.types.Matrices.{Matrices}
-use Rattle.picture_state.specs.declared.types.Progress.{Progress}
-use Rattle.picture_state.specs.declared.types.Slice.{Slice}
-use Rattle.picture_state.specs.declared.types.Stores.{Stores}
+use Rattle.picture_state.specs.declared.types.{Context.Context, Matrices.Matrices, Progress.Progress, Slice.Slice, Stores.Stores}
 use Rattle.picture_state.specs.State.{SliceState, sliceState}
 use Rattle.picture_state.specs.Possible.{PossibleSlice}
 use Rattle.picture_state.specs.Result.{Result, ok, error}
@@ -78,7 +73,7 @@ pub record RefinesAtMacroblock (p : Prog (Result SliceState)) (g : Context) (s :
 
 -- the same where no macroblock need have the address in the end
 pub record RefinesInSlice (p : Prog (Result SliceState)) (g : Context) (s : List ℕ) (reader : Reader) (r : Progress) (left : List ℤ) (store : List ℕ) : Type 0
-    where
-  pub runs : Runs p s reader (resultOf (r .stop) (sliceState (r .state) left store) store) (r .reader)
-  pub reads : ReadInvariant s (r .reader) (r .state) left
-  pub storeFits : StoreFits g store
+  where
+    pub runs : Runs p s reader (resultOf (r .stop) (sliceState (r .state) left store) store) (r .reader)
+    pub reads : ReadInvariant s (r .reader) (r .state) left
+    pub storeFits : StoreFits g store

@@ -9,10 +9,7 @@ use lib.Signed.{leZ}
 use Rattle.laws.specs.Each.{allBelow}
 use Rattle.motion.specs.Displacement.{InRange}
 use Rattle.coefficients.specs.Dcs.{dcInside}
-use Rattle.picture_state.specs.declared.types.Motion.{Motion}
-use Rattle.picture_state.specs.declared.types.Stores.{Stores}
-use Rattle.picture_state.specs.declared.types.Slice.{Slice}
-use Rattle.picture_state.specs.declared.types.Picture.{Picture}
+use Rattle.picture_state.specs.declared.types.{Motion.Motion, Stores.Stores, Slice.Slice, Picture.Picture}
 
 -- is x in low..high?
 abbrev pub between : ℤ → ℤ → ℤ → Bool

@@ -4,10 +4,7 @@ use mathlib.Core.List.{List}
 use Prim.Native.Nat.{ℕ}
 use lib.IntN.{ℤ, pos, negsuc}
 use lib.ListN.{replicate}
-use Rattle.picture_state.specs.declared.types.Motion.{Motion}
-use Rattle.picture_state.specs.declared.types.Stores.{Stores}
-use Rattle.picture_state.specs.declared.types.Slice.{Slice}
-use Rattle.picture_state.specs.declared.types.Picture.{Picture}
+use Rattle.picture_state.specs.declared.types.{Motion.Motion, Stores.Stores, Slice.Slice, Picture.Picture}
 
 -- what macroblocks change: the slice's state, block_data (RULES S.7: the left-over coefficients) and the store
 pub record SliceState : Type 0 where

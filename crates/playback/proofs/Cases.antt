@@ -8,8 +8,7 @@ use borrow.Author.Tests.{not-true}
 use Rattle.laws.specs.Loops.{Step, continue, finish}
 use Rattle.laws.proofs.Tests.{both}
 use Rattle.bits.specs.Programs.{eqZ}
-use Rattle.picture_state.specs.declared.types.Matrices.{Matrices}
-use Rattle.picture_state.specs.declared.types.Sizes.{Sizes}
+use Rattle.picture_state.specs.declared.types.{Matrices.Matrices, Sizes.Sizes}
 use Rattle.picture_state.specs.Result.{Result, ok, error}
 use Rattle.picture.specs.Pictures.{PictureState}
 use Rattle.playback.specs.declared.outcome.Outcome.the-variants.{Picture, Refused}
@@ -19,11 +18,11 @@ use Rattle.playback.specs.Search.{nextPicture, isFollowed}
 use Rattle.playback.specs.Display.{OutcomeState, isWaiting, counted, outputPicture, shown, flushed}
 use Rattle.playback.specs.Steps.{DecodingState, withState, LoopEnd, finished, withStore, atPicture, pictureRun, afterPicture, decoded, searched}
 use Rattle.playback.specs.Steps.{pictureStep}
-use Rattle.playback.specs.Cases.{isThere, isFlush, isB, ReadsPicture, stateLeftBy, countedAfter, b-picture, reference-picture, flushed-picture}
+use Rattle.playback.specs.Cases.{isPictureReady, isFlush, isB, ReadsPicture, stateLeftBy, countedAfter, b-picture, reference-picture, flushed-picture}
 use Rattle.playback.specs.Cases.{StepCase, outputs, keeps-reference, aborts, is-seven}
 
 module _ (s : List ℕ) (z : Sizes) (m : Matrices) (x : DecodingState) where
-  shown-is : (f : PictureState) (a : ℕ) → isThere s (x .state) ≡ true → ReadsPicture s z m x f a
+  shown-is : (f : PictureState) (a : ℕ) → isPictureReady s (x .state) ≡ true → ReadsPicture s z m x f a
       → StepCase s z m x (withStore (f .«block_data») (f .store) (shown (stateAfterPicture f a (x .state))))
   unfolding shown outputPicture counted
   shown-is f a t r = go (isB f) refl (hasReferenceFrame (x .state)) refl
@@ -37,7 +36,7 @@ module _ (s : List ℕ) (z : Sizes) (m : Matrices) (x : DecodingState) where
       go false e true i = outputs (reference-picture t r e i)
       go false e false i = keeps-reference t r e i
 
-  past-is : (w : Result PictureState) (a : ℕ) → isThere s (x .state) ≡ true → pictureRun s z m x ≡ record { value = w; at = a }
+  past-is : (w : Result PictureState) (a : ℕ) → isPictureReady s (x .state) ≡ true → pictureRun s z m x ≡ record { value = w; at = a }
       → StepCase s z m x (afterPicture (x .state) (record { value = w; at = a }))
   unfolding afterPicture
   past-is (ok f) a t r = shown-is f a t r
@@ -51,12 +50,15 @@ module _ (s : List ℕ) (z : Sizes) (m : Matrices) (x : DecodingState) where
     where
       waiting : Bool → OutcomeState
       waiting u = cond u
-          (record { outcome = Picture (shownPicture (x .state .picture .stores .bwd) (hasReferenceFrameAs false (x .state))); state = hasReferenceFrameAs false
-          (x .state) })
+          (record {
+            outcome = Picture (shownPicture (x .state .picture .stores .bwd) (hasReferenceFrameAs false (x .state)));
+            state = hasReferenceFrameAs false
+                (x .state);
+          })
           (record { outcome = Refused 7; state = x .state })
 
       go : (t : Bool) → eqZ (startCode (x .state)) (negsuc 0) ≡ t → (f : Bool) → isFollowed s (position (x .state)) ≡ f → (u : Bool)
-          → isWaiting s (x .state) ≡ u → (isThere s (x .state) ≡ true → StepCase s z m x (decoded s z m x))
+          → isWaiting s (x .state) ≡ u → (isPictureReady s (x .state) ≡ true → StepCase s z m x (decoded s z m x))
           → StepCase s z m x (cond t (withStore (x .«block_data») (x .store) (finish (waiting u))) (cond f (decoded s z m x) (finish (finished (Refused 7) x))))
       go true a f b true c k = outputs (flushed-picture (rw a refl) (rw a c))
       go true a f b false c k = is-seven (rw a refl) (rw a c)
@@ -74,7 +76,7 @@ module _ (s : List ℕ) (z : Sizes) (m : Matrices) (x : DecodingState) (w : Stat
   from-is = subst (λ (y : State). StepCase s z m (withState y x) (pictureStep s z m x)) n (picture-step-is s z m x)
 
   -- with no picture to decode and none to flush a turn ends with 7
-  pub step-seven : isThere s w ≡ false → isFlush s w ≡ false → pictureStep s z m x ≡ finish (finished (Refused 7) (withState w x))
+  pub step-seven : isPictureReady s w ≡ false → isFlush s w ≡ false → pictureStep s z m x ≡ finish (finished (Refused 7) (withState w x))
   step-seven i u = go from-is
     where
       go : {t : Step DecodingState LoopEnd} → StepCase s z m (withState w x) t → t ≡ finish (finished (Refused 7) (withState w x))
@@ -85,7 +87,7 @@ module _ (s : List ℕ) (z : Sizes) (m : Matrices) (x : DecodingState) (w : Stat
       go (aborts j r) = absurd (true≢false (sym j ∙ i))
       go (is-seven j v) = refl
 
-  module _ {f : PictureState} {a : ℕ} (i : isThere s w ≡ true) (r : ReadsPicture s z m (withState w x) f a) where
+  module _ {f : PictureState} {a : ℕ} (i : isPictureReady s w ≡ true) (r : ReadsPicture s z m (withState w x) f a) where
     -- the state behind a picture that is read to its end
     abbrev after : State
     after = countedAfter f a (withState w x)

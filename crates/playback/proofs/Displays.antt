@@ -4,9 +4,7 @@ use mathlib.Core.Bool.{Bool, true}
 use Prim.Native.Nat.{_+_, _≤_, _<_}
 use native.Mathlib.Omega.{arith}
 use borrow.Author.Tests.{leb-true, le-leb}
-use Rattle.playback.specs.declared.state.Clock.{Clock}
-use Rattle.playback.specs.declared.state.Display.{Display}
-use Rattle.playback.specs.declared.state.State.{State}
+use Rattle.playback.specs.declared.state.{Clock.Clock, Display.Display, State.State}
 use Rattle.playback.specs.State.{mostPictures, frames, freshState, possibleDisplay, timedAs, hasReferenceFrameAs}
 use Rattle.playback.specs.Display.{counted}
 

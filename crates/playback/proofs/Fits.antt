@@ -8,10 +8,9 @@ use lib.ListN.{length, getD}
 use Rattle.laws.specs.Loops.{Step, continue, finish}
 use Rattle.laws.proofs.Tests.{by-case}
 use Rattle.bits.specs.Bounds.{longestStream, lastPosition}
-use Rattle.bits.specs.Programs.{Out, run, eqZ, findStartCode}
+use Rattle.bits.specs.Programs.{Out, eqZ, findStartCode}
 use Rattle.bits.proofs.Programs.{run-most}
-use Rattle.picture_state.specs.declared.types.Matrices.{Matrices}
-use Rattle.picture_state.specs.declared.types.Sizes.{Sizes}
+use Rattle.picture_state.specs.declared.types.{Matrices.Matrices, Sizes.Sizes}
 use Rattle.picture_state.specs.Possible.{between}
 use Rattle.picture_state.specs.Result.{Result}
 use Rattle.picture.specs.Pictures.{PictureState, picture}
@@ -22,7 +21,7 @@ use Rattle.playback.specs.State.{position, startCode, searchedAs}
 use Rattle.playback.specs.Search.{nextCode}
 use Rattle.playback.specs.Steps.{DecodingState, LoopEnd, pictureStateOf, atPicture, pictureStep}
 use Rattle.playback.specs.Fit.{FitState}
-use Rattle.playback.specs.Cases.{ReadsPicture, StepCase, outputs, keeps-reference, aborts, is-seven}
+use Rattle.playback.specs.Cases.{StepCase, outputs, keeps-reference, aborts, is-seven}
 use Rattle.playback.proofs.Displays.{held-possible}
 use Rattle.playback.proofs.Searches.{Sought, hit, miss, sought}
 use Rattle.playback.proofs.Cases.{picture-step-is}

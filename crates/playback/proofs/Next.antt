@@ -10,7 +10,6 @@ use Rattle.laws.proofs.Tests.{by-case}
 use Rattle.bits.specs.Bounds.{longestStream}
 use Rattle.bits.specs.Programs.{Out, run, eqZ, findStartCode}
 use Rattle.bits.proofs.Programs.{run-on, run-most}
-use Rattle.picture_state.specs.declared.types.Stores.{Stores}
 use Rattle.playback.specs.declared.state.State.{State}
 use Rattle.playback.specs.State.{position, startCode, frames, searchedAs}
 use Rattle.playback.specs.Search.{nextCode, nextPicture}
@@ -47,7 +46,7 @@ pub next-is : (s : List ℕ) (x : State) → length s ≤ longestStream → posi
 unfolding nextCode
 next-is s x h i =
     go (eqZ (startCode x) (pos 0)) refl (run (findStartCode (pos 0)) s (position x)) (sought (pos 0) s (position x) h)
-        (run-on (findStartCode (pos 0)) s (position x))
+    (run-on (findStartCode (pos 0)) s (position x))
     (run-most (findStartCode (pos 0)) s (position x) (length s) i (omega arith))
   where
     go : (b : Bool) → eqZ (startCode x) (pos 0) ≡ b → (o : Out ℤ) → Sought (pos 0) s (position x) o → position x ≤ o .at → o .at ≤ length s * 8

@@ -6,12 +6,10 @@ use Prim.Native.Nat.{ℕ, zero, suc}
 use lib.IntN.{ℤ, negsuc}
 use Rattle.laws.specs.Loops.{Step, continue, finish}
 use Rattle.laws.proofs.Loops.{steps-again, steps-stop}
-use Rattle.bits.specs.Programs.{run, eqZ}
+use Rattle.bits.specs.Programs.{eqZ}
 use Rattle.bits.specs.Runs.{Runs, positionOf, readerAt}
 use Rattle.bits.specs.declared.reader.Reader.{Reader}
-use Rattle.picture_state.specs.declared.types.Matrices.{Matrices}
-use Rattle.picture_state.specs.declared.types.Picture.{Picture}
-use Rattle.picture_state.specs.declared.types.Sizes.{Sizes}
+use Rattle.picture_state.specs.declared.types.{Matrices.Matrices, Picture.Picture, Sizes.Sizes}
 use Rattle.picture.specs.Pictures.{pictureState, picture}
 use Rattle.picture_state.specs.Contracts.{resultOf}
 use Rattle.playback.specs.declared.outcome.Outcome.the-variants.{Refused}

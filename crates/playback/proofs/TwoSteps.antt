@@ -7,8 +7,7 @@ use lib.IntN.{pos}
 use Rattle.laws.specs.Loops.{Step, continue, finish, iterate, finishes}
 use Rattle.laws.proofs.Tests.{by-case}
 use Rattle.bits.specs.Programs.{eqZ}
-use Rattle.picture_state.specs.declared.types.Matrices.{Matrices}
-use Rattle.picture_state.specs.declared.types.Sizes.{Sizes}
+use Rattle.picture_state.specs.declared.types.{Matrices.Matrices, Sizes.Sizes}
 use Rattle.playback.specs.declared.outcome.Outcome.the-variants.{Refused}
 use Rattle.playback.specs.declared.state.State.{State}
 use Rattle.playback.specs.State.{startCode, hasReferenceFrame}

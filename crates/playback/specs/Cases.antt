@@ -7,8 +7,7 @@ use lib.Dec.{eqb}
 use lib.IntN.{negsuc}
 use Rattle.laws.specs.Loops.{Step, continue, finish}
 use Rattle.bits.specs.Programs.{eqZ}
-use Rattle.picture_state.specs.declared.types.Matrices.{Matrices}
-use Rattle.picture_state.specs.declared.types.Sizes.{Sizes}
+use Rattle.picture_state.specs.declared.types.{Matrices.Matrices, Sizes.Sizes}
 use Rattle.picture_state.specs.Result.{ok, error}
 use Rattle.picture.specs.Pictures.{PictureState}
 use Rattle.playback.specs.declared.outcome.Shown.{Shown}
@@ -19,9 +18,9 @@ use Rattle.playback.specs.Search.{isFollowed}
 use Rattle.playback.specs.Display.{counted, isWaiting}
 use Rattle.playback.specs.Steps.{DecodingState, decodingState, withState, LoopEnd, finished, aborted, pictureRun}
 
--- RULES 8.2, 8.3: a picture start code is there, and another one behind it
-abbrev pub isThere : List ℕ → State → Bool
-isThere s x = not (eqZ (startCode x) (negsuc 0)) && isFollowed s (position x)
+-- RULES 8.2, 8.3: a picture can be decoded: its start code is there, and another one or the end of the bits behind it
+abbrev pub isPictureReady : List ℕ → State → Bool
+isPictureReady s x = not (eqZ (startCode x) (negsuc 0)) && isFollowed s (position x)
 
 -- RULES 8.8: none is there, and the held picture is handed out
 abbrev pub isFlush : List ℕ → State → Bool
@@ -45,13 +44,14 @@ isB f = eqb (f .picture .«picture_type») 3
 -- RULES 8.5, 8.8: what a turn hands out, and what it leaves
 pub data Outputs (s : List ℕ) (z : Sizes) (m : Matrices) (x : DecodingState) : Shown → DecodingState → Type 0 where
   -- a B picture, at once
-  b-picture : {f : PictureState} {a : ℕ} → isThere s (x .state) ≡ true → ReadsPicture s z m x f a → isB f ≡ true
+  b-picture : {f : PictureState} {a : ℕ} → isPictureReady s (x .state) ≡ true → ReadsPicture s z m x f a → isB f ≡ true
       → Outputs s z m x (shownPicture (f .picture .stores .cur) (countedAfter f a x)) (stateLeftBy f (countedAfter f a x))
   -- the reference picture that was held, once the next one is read
-  reference-picture : {f : PictureState} {a : ℕ} → isThere s (x .state) ≡ true → ReadsPicture s z m x f a → isB f ≡ false → hasReferenceFrame (x .state) ≡ true
+  reference-picture : {f : PictureState} {a : ℕ} → isPictureReady s (x .state) ≡ true → ReadsPicture s z m x f a → isB f ≡ false
+      → hasReferenceFrame (x .state) ≡ true
       → Outputs s z m x (shownPicture (f .picture .stores .fwd) (countedAfter f a x)) (stateLeftBy f (countedAfter f a x))
   -- the one that is held at the end of the bits, with the time shown before
-  flushed-picture : isThere s (x .state) ≡ false → isFlush s (x .state) ≡ true
+  flushed-picture : isPictureReady s (x .state) ≡ false → isFlush s (x .state) ≡ true
       → Outputs s z m x (shownPicture (x .state .picture .stores .bwd) (hasReferenceFrameAs false (x .state)))
       (withState (hasReferenceFrameAs false (x .state)) x)
 
@@ -59,10 +59,11 @@ pub data Outputs (s : List ℕ) (z : Sizes) (m : Matrices) (x : DecodingState) :
 pub data StepCase (s : List ℕ) (z : Sizes) (m : Matrices) (x : DecodingState) : Step DecodingState LoopEnd → Type 0 where
   outputs : {i : Shown} {y : DecodingState} → Outputs s z m x i y → StepCase s z m x (finish (finished (Picture i) y))
   -- the first reference picture is held
-  keeps-reference : {f : PictureState} {a : ℕ} → isThere s (x .state) ≡ true → ReadsPicture s z m x f a → isB f ≡ false → hasReferenceFrame (x .state) ≡ false
+  keeps-reference : {f : PictureState} {a : ℕ} → isPictureReady s (x .state) ≡ true → ReadsPicture s z m x f a → isB f ≡ false
+      → hasReferenceFrame (x .state) ≡ false
       → StepCase s z m x (continue (stateLeftBy f (hasReferenceFrameAs true (stateAfterPicture f a (x .state)))))
   -- RULES Q8, Q9: the picture leaves early
-  aborts : {n a : ℕ} {l : List ℕ} → isThere s (x .state) ≡ true → pictureRun s z m x ≡ record { value = error n l; at = a }
+  aborts : {n a : ℕ} {l : List ℕ} → isPictureReady s (x .state) ≡ true → pictureRun s z m x ≡ record { value = error n l; at = a }
       → StepCase s z m x (finish (aborted n l))
   -- RULES Q7: no picture to decode, and none to flush
-  is-seven : isThere s (x .state) ≡ false → isFlush s (x .state) ≡ false → StepCase s z m x (finish (finished (Refused 7) x))
+  is-seven : isPictureReady s (x .state) ≡ false → isFlush s (x .state) ≡ false → StepCase s z m x (finish (finished (Refused 7) x))

@@ -6,11 +6,9 @@ use Prim.Native.Nat.{ℕ, _*_, _≤_}
 use lib.IntN.{ℤ}
 use Rattle.bits.specs.Bounds.{lastPosition}
 use Rattle.codes.specs.Matrices.{Bounded}
-use Rattle.picture_state.specs.declared.types.Picture.{Picture}
-use Rattle.picture_state.specs.declared.types.Sizes.{Sizes}
+use Rattle.picture_state.specs.declared.types.{Picture.Picture, Sizes.Sizes}
 use Rattle.picture_state.specs.Possible.{PossiblePicture}
-use Rattle.playback.specs.declared.state.Display.{Display}
-use Rattle.playback.specs.declared.state.State.{State}
+use Rattle.playback.specs.declared.state.{Display.Display, State.State}
 use Rattle.playback.specs.State.{position, possibleDisplay}
 
 -- of the sizes, the place, the picture, the left-over coefficients and what is shown

@@ -8,9 +8,7 @@ use Rattle.picture_state.specs.State.{startCodeAs, freshPicture}
 use Rattle.picture.specs.Pictures.{PictureState}
 use Rattle.header.specs.State.{noTime}
 use Rattle.playback.specs.declared.outcome.Shown.{Shown}
-use Rattle.playback.specs.declared.state.Clock.{Clock}
-use Rattle.playback.specs.declared.state.Display.{Display}
-use Rattle.playback.specs.declared.state.State.{State}
+use Rattle.playback.specs.declared.state.{Clock.Clock, Display.Display, State.State}
 
 -- RULES Q2: the most pictures that a record can have handed out
 abbrev pub mostPictures : ℕ

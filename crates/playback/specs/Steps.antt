@@ -4,8 +4,7 @@ use Prim.Native.Nat.{ℕ}
 use lib.IntN.{ℤ, negsuc}
 use Rattle.laws.specs.Loops.{Step, continue, finish, iterate}
 use Rattle.bits.specs.Programs.{Out, run, eqZ, if_then_else_}
-use Rattle.picture_state.specs.declared.types.Matrices.{Matrices}
-use Rattle.picture_state.specs.declared.types.Sizes.{Sizes}
+use Rattle.picture_state.specs.declared.types.{Matrices.Matrices, Sizes.Sizes}
 use Rattle.picture_state.specs.Result.{Result, ok, error}
 use Rattle.picture.specs.Pictures.{PictureState, pictureState, picture}
 use Rattle.playback.specs.declared.outcome.Outcome.{Outcome}

@@ -4,7 +4,6 @@ use bits::reader::Reader;
 use picture_state::types::Picture;
 ghost use mathlib.Core.Path.{_≡_};
 ghost use Prim.Native.Nat.{_≤_};
-ghost use lib.IntN.{natAbs};
 ghost use lib.ListN.{length};
 ghost use Rattle.bits.specs.Bounds.{longestStream, lastPosition};
 ghost use Rattle.bits.specs.Programs.{eqZ};

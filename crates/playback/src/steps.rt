@@ -1,6 +1,6 @@
 // RULES 8.2 to 8.8: one turn of the loop in `decode`: the search, the picture, and what is handed out.
-use crate::display::flushed;
 use crate::display::finished;
+use crate::display::flushed;
 use crate::display::shown;
 use crate::outcome::Outcome;
 use crate::outcome::StepResult;
@@ -9,8 +9,8 @@ use crate::search::is_followed;
 use crate::search::next_code;
 use crate::state::State;
 use bits::reader::Reader;
-use picture_state::types::Sizes;
 use picture::whole::read_picture;
+use picture_state::types::Sizes;
 ghost use mathlib.Core.Path.{_≡_};
 ghost use Prim.Native.Nat.{_≤_};
 ghost use lib.ListN.{length};

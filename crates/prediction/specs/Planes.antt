@@ -5,10 +5,8 @@ use Prim.Native.Nat.{ℕ, _+_, _*_}
 use borrow.Rule.Slice.PartMut.{midOf, putMid}
 use lib.Dec.{eqb, ltb}
 use lib.IntN.{ℤ}
-use Rattle.prediction.specs.declared.position.Fetch.{Fetch}
+use Rattle.prediction.specs.declared.position.{Fetch.Fetch, Macroblock.Macroblock, BlockPosition.BlockPosition}
 use Rattle.prediction.specs.declared.position.Fetch.the-variants.{Alone, Past, Copied}
-use Rattle.prediction.specs.declared.position.Macroblock.{Macroblock}
-use Rattle.prediction.specs.declared.position.BlockPosition.{BlockPosition}
 use Rattle.prediction.specs.declared.planes.Plane.{Plane}
 use Rattle.prediction.specs.declared.planes.Plane.the-variants.{Y, Cr, Cb}
 use Rattle.prediction.specs.declared.predict.Predicted.{Predicted}

@@ -10,10 +10,8 @@ use lib.ListN.{getD}
 use lib.Signed.{ltZ, shrZ}
 use Rattle.laws.specs.Signed.{odd, half0}
 use Rattle.laws.specs.Stores.{storeRows}
-use Rattle.prediction.specs.declared.position.Fetch.{Fetch}
+use Rattle.prediction.specs.declared.position.{Fetch.Fetch, Macroblock.Macroblock, BlockPosition.BlockPosition}
 use Rattle.prediction.specs.declared.position.Fetch.the-variants.{Alone, Past, Copied}
-use Rattle.prediction.specs.declared.position.Macroblock.{Macroblock}
-use Rattle.prediction.specs.declared.position.BlockPosition.{BlockPosition}
 use Rattle.prediction.specs.Samples.{sample, storedSample}
 
 -- RULES S.7, 7.5: the macroblock with this address in a picture of so many across and down; addresses go by rows

@@ -1,12 +1,12 @@
 // Blocks of one plane predicted from another, and a macroblock's three planes from another store.
 use crate::apart::predict_apart;
-use crate::position::Fetch;
-use crate::position::Macroblock;
-use crate::position::BlockPosition;
-use crate::position::half_sample;
 use crate::planes::Plane;
 use crate::planes::block_size;
 use crate::planes::plane_start;
+use crate::position::BlockPosition;
+use crate::position::Fetch;
+use crate::position::Macroblock;
+use crate::position::half_sample;
 use laws::half;
 ghost use mathlib.Core.Path.{_≡_};
 ghost use mathlib.Core.Logic.{_⊎_};

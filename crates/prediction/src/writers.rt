@@ -1,7 +1,7 @@
 // The results of a block, and the place in its plane at which they are written (RULES 6.12, 6.13).
-use crate::position::Macroblock;
 use crate::planes::block_size;
 use crate::planes::plane_of;
+use crate::position::Macroblock;
 use crate::rows::put_eight;
 use laws::clamp_u8;
 ghost use mathlib.Core.Path.{_≡_};

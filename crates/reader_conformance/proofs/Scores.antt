@@ -9,8 +9,7 @@ use lib.ListN.{length}
 use Rattle.answer_lists.specs.declared.tally.Tally.{Tally}
 use Rattle.answer_lists.specs.Numbers.{numberAt}
 use Rattle.answer_lists.specs.Tallies.{none, counted}
-use Rattle.reader_conformance.specs.declared.reader_list.Along.{Along}
-use Rattle.reader_conformance.specs.declared.reader_list.CaseResult.{CaseResult}
+use Rattle.reader_conformance.specs.declared.reader_list.{Along.Along, CaseResult.CaseResult}
 use Rattle.reader_conformance.specs.ReaderList.{Inside, stepped, beginning, scoreFrom, scored}
 use Rattle.reader_conformance.proofs.Inside.{beginning-inside}
 use Rattle.bits.specs.Bounds.{longestStream}

@@ -8,10 +8,8 @@ use lib.ListN.{length, getD, take, drop}
 use Rattle.bits.specs.Runs.{positionOf}
 use Rattle.answer_lists.specs.Bytes.{part}
 use Rattle.answer_lists.specs.Numbers.{numberAt}
-use Rattle.reader_conformance.specs.declared.reader_operations.Operation.{Operation}
-use Rattle.reader_conformance.specs.declared.reader_operations.Outcome.{Outcome}
-use Rattle.reader_conformance.specs.declared.reader_list.Along.{Along}
-use Rattle.reader_conformance.specs.declared.reader_list.CaseResult.{CaseResult}
+use Rattle.reader_conformance.specs.declared.reader_operations.{Operation.Operation, Outcome.Outcome}
+use Rattle.reader_conformance.specs.declared.reader_list.{Along.Along, CaseResult.CaseResult}
 use Rattle.reader_conformance.specs.Operations.{operationOf, outcome}
 use Rattle.reader_conformance.specs.ReaderList.{bytesAfter, agree, bytesAgree, eightAgree, nextCase, cutOff, stepped}
 

@@ -11,11 +11,10 @@ use Rattle.bits.specs.Bits.{has, boundary, equalBytes, partAt}
 use Rattle.bits.specs.Programs.{run, bits, reads, skips, nonZero, nextStartCode, findStartCode}
 use Rattle.bits.specs.declared.bytes.Part.{Part}
 use Rattle.bits.specs.declared.bytes.Part.the-variants.{Bytes, Absent}
-use Rattle.reader_conformance.specs.declared.reader_operations.Operation.{Operation}
+use Rattle.reader_conformance.specs.declared.reader_operations.{Operation.Operation, Outcome.Outcome}
 use Rattle.reader_conformance.specs.declared.reader_operations.Operation.the-variants.{New, Read, ReadBit, Has, HasEnded, Skip, Align, Tell, Seek}
 use Rattle.reader_conformance.specs.declared.reader_operations.Operation.the-variants.{SkipBytes, NextStartCode, FindStartCode, HasStartCode}
 use Rattle.reader_conformance.specs.declared.reader_operations.Operation.the-variants.{PeekNonZero, PeekBytes, Unknown}
-use Rattle.reader_conformance.specs.declared.reader_operations.Outcome.{Outcome}
 
 -- the operations, in the order of their numbers
 abbrev pub operations : List Operation

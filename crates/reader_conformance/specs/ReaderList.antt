@@ -9,8 +9,7 @@ use Rattle.bits.specs.Bounds.{longestStream, lastPosition}
 use Rattle.bits.specs.Bits.{bitsAt, hasBytes, partAt, bytesOf}
 use Rattle.bits.specs.declared.reader.Reader.{Reader}
 use Rattle.reader_conformance.specs.declared.reader_operations.Outcome.{Outcome}
-use Rattle.reader_conformance.specs.declared.reader_list.Along.{Along}
-use Rattle.reader_conformance.specs.declared.reader_list.CaseResult.{CaseResult}
+use Rattle.reader_conformance.specs.declared.reader_list.{Along.Along, CaseResult.CaseResult}
 use Rattle.answer_lists.specs.declared.tally.Tally.{Tally}
 use Rattle.answer_lists.specs.Bytes.{part, sameBytes}
 use Rattle.answer_lists.specs.Numbers.{numberAt}

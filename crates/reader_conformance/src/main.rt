@@ -4,9 +4,9 @@ mod reader_list;
 mod reader_operations;
 mod worked;
 
-use libc::STDOUT_FILENO;
 use answer_lists::numbers::held;
 use answer_lists::tally::Tally;
+use libc::STDOUT_FILENO;
 use worked::Averages;
 use worked::Dcs;
 use worked::Levels;

@@ -5,14 +5,14 @@
 use crate::reader_operations::Outcome;
 use crate::reader_operations::operate;
 use crate::reader_operations::operation_of;
-use bits::bytes::Part;
-use bits::position::LONGEST_STREAM;
-use bits::reader::Reader;
 use answer_lists::bytes::same;
 use answer_lists::load::load;
 use answer_lists::load::space;
 use answer_lists::numbers::number_at;
 use answer_lists::tally::Tally;
+use bits::bytes::Part;
+use bits::position::LONGEST_STREAM;
+use bits::reader::Reader;
 ghost use mathlib.Core.Path.{_≡_};
 ghost use Prim.Native.Nat.{_+_, _≤_};
 ghost use lib.ListN.{length};

@@ -1,4 +1,6 @@
 // The operations of the reader, as the list reader.bin names them, and ours for each.
+use answer_lists::numbers::held;
+use answer_lists::numbers::signed;
 use bits::bytes::Part;
 use bits::bytes::SkippedBytes;
 use bits::position::BytePosition;
@@ -8,8 +10,6 @@ use bits::reader::ReadBits;
 use bits::reader::Reader;
 use bits::reader::Told;
 use bits::start_codes::StartCode;
-use answer_lists::numbers::held;
-use answer_lists::numbers::signed;
 ghost use mathlib.Core.Path.{_≡_};
 ghost use Prim.Native.Nat.{_≤_, _<_};
 ghost use lib.ListN.{length};

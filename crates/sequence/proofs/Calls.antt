@@ -4,22 +4,19 @@ use mathlib.Core.Path.{_≡_, refl, sym, ap, _∙_, subst}
 use mathlib.Core.Bool.{true, false}
 use mathlib.Core.List.{List, [], _∷_}
 use Prim.Native.Nat.{ℕ, suc, _*_, _≤_, _<_}
-use native.Mathlib.Omega.{arith}
 use lib.ListN.{length, getD}
 use Rattle.laws.specs.Loops.{iterate}
 use Rattle.laws.proofs.Loops.{steps-again, steps-stop}
 use Rattle.bits.specs.Bounds.{longestStream}
 use Rattle.bits.specs.Programs.{many}
-use Rattle.picture_state.specs.declared.types.Sizes.{Sizes}
-use Rattle.picture_state.specs.declared.types.Matrices.{Matrices}
+use Rattle.picture_state.specs.declared.types.{Sizes.Sizes, Matrices.Matrices}
 use Rattle.picture_state.specs.Result.{ok}
 use Rattle.picture_state.proofs.Possible.{stores-of}
 use Rattle.standard.specs.Standard as S
 use Rattle.standard.proofs.Related.{Rule}
 use Rattle.decoder.specs.declared.record.Decoder.{Decoder}
 use Rattle.decoder.specs.declared.answers.Opening.the-variants as O
-use Rattle.playback.specs.declared.outcome.Shown.{Shown}
-use Rattle.playback.specs.declared.outcome.Outcome.{Outcome}
+use Rattle.playback.specs.declared.outcome.{Shown.Shown, Outcome.Outcome}
 use Rattle.playback.specs.declared.outcome.Outcome.the-variants as H
 use Rattle.playback.specs.State.{frames, shownPicture}
 use Rattle.playback.specs.Steps as P
@@ -73,7 +70,7 @@ module _ (s : List ℕ) (long : length s ≤ longestStream) (bytes : (k : ℕ) �
           let turn = last-step rule s long z m x a y v c (inverted rule s z m n x a c [] h) in
           let ends = e ∙ steps-stop (pictureStep s z m) k unfinished y _ turn in
           ap (λ (r : CallResult Outcome). r .answer)
-              (keeps-call s long (withDecodingState d g) (g .store) kept ∙ ap (C.callResultOf (withDecodingState d g) (withDecodingState d g)) ends)
+          (keeps-call s long (withDecodingState d g) (g .store) kept ∙ ap (C.callResultOf (withDecodingState d g) (withDecodingState d g)) ends)
       held-calls c (c′ ∷ cs) n x a y w g k held h v i j kept e =
           let q = inverted rule s z m n x a c (c′ ∷ cs) h in
           let o = handing rule s long z m x a y v c c′ cs q area i held w j in
@@ -83,7 +80,7 @@ module _ (s : List ℕ) (long : length s ≤ longestStream) (bytes : (k : ℕ) �
           keeps-call s long (withDecodingState d g) (g .store) kept ∙ ap (C.callResultOf (withDecodingState d g) (withDecodingState d g)) ends in
           let kept′ : Keeps s (withDecodingState d (o .left)) (o .left .store) =
           hands-keep kept
-              (subst (EndsFrom s long bytes (withDecodingState d g) kept (frames (g .state))) ends (steps-end s long bytes (withDecodingState d g) kept)) in
+          (subst (EndsFrom s long bytes (withDecodingState d g) kept (frames (g .state))) ends (steps-end s long bytes (withDecodingState d g) kept)) in
           let rest = held-calls c′ cs (q .fuel) (stateAfterDecoded x c) _ (o .left) (o .next) (o .left) 1 (o .hasReferenceFrame) (q .rest) (o .waiting)
           (sound-after rule s z m area x a c (c′ ∷ cs) q i) (o .waits) kept′ refl in
           subst (OutputsInOrder (z .«mb_size») s (at g)) (sym (o .order (allButLast (c′ ∷ cs)))) (

@@ -5,8 +5,7 @@ use mathlib.Core.List.{List, [], _∷_, _++_, map}
 use Prim.Native.Nat.{ℕ}
 use borrow.Author.Tests.{eqb-true}
 use lib.Dec.{eqb}
-use Rattle.picture_state.specs.declared.types.Sizes.{Sizes}
-use Rattle.picture_state.specs.declared.types.Matrices.{Matrices}
+use Rattle.picture_state.specs.declared.types.{Sizes.Sizes, Matrices.Matrices}
 use Rattle.picture_state.specs.Result.{ok}
 use Rattle.standard.specs.Standard.{Decoded}
 use Rattle.standard.proofs.Related.{Rule}

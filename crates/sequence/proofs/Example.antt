@@ -119,5 +119,5 @@ unfolding clamp255 odd storeRow storeRows bitAt bitsAt readAt afterRead codePref
     Block.reconstructed Block.dctDc Block.written Block.intraBlock Block.nonIntraBlock Block.blocks S.codedMacroblock S.macroblock
     S.afterMacroblock S.sliceStep S.slice S.direction S.header S.afterSlice S.slicesStep S.slices S.picture
     fresh freshState cleared nextCode matrix size rest findSequence accepted checkSize checkHeader checkStore opened openingFrom opening nextPictureOrEnd
-        pictures
+    pictures
 sequence = record { ready = refl; four = refl; handed = refl }

@@ -12,10 +12,7 @@ use Rattle.laws.specs.Loops.{Step, continue, finish}
 use Rattle.bits.specs.Bounds.{longestStream}
 use Rattle.bits.specs.Programs.{eqZ, many}
 use Rattle.bits.proofs.Programs.{run-on}
-use Rattle.picture_state.specs.declared.types.Stores.{Stores}
-use Rattle.picture_state.specs.declared.types.Sizes.{Sizes}
-use Rattle.picture_state.specs.declared.types.Matrices.{Matrices}
-use Rattle.picture.specs.Pictures.{PictureState}
+use Rattle.picture_state.specs.declared.types.{Stores.Stores, Sizes.Sizes, Matrices.Matrices}
 use Rattle.standard.specs.Standard as S
 use Rattle.standard.proofs.Related.{Rule}
 use Rattle.standard.proofs.Picture.{RefinesDecoded}
@@ -26,7 +23,7 @@ use Rattle.playback.specs.State.{shownPicture, stateAfterPicture, hasReferenceF
 use Rattle.playback.specs.Search.{hasEnded, isFollowed}
 use Rattle.playback.specs.Display.{counted}
 use Rattle.playback.specs.Steps.{DecodingState, withState, LoopEnd, finished, pictureStep}
-use Rattle.playback.specs.Cases.{isB, stateLeftBy, countedAfter}
+use Rattle.playback.specs.Cases.{isB, stateLeftBy}
 use Rattle.playback.proofs.Cases.{step-b, step-held, step-holds}
 use Rattle.sequence.specs.Sequence.{SequenceState, stateAfterDecoded}
 use Rattle.sequence.specs.Display as D

@@ -7,8 +7,7 @@ use lib.Dec.{eqb}
 use lib.IntN.{pos}
 use Rattle.bits.specs.Bits.{Found}
 use Rattle.bits.specs.Programs.{Out, run, eqZ}
-use Rattle.picture_state.specs.declared.types.Sizes.{Sizes}
-use Rattle.picture_state.specs.declared.types.Matrices.{Matrices}
+use Rattle.picture_state.specs.declared.types.{Sizes.Sizes, Matrices.Matrices}
 use Rattle.picture_state.specs.Result.{Result, ok, error, andThen}
 use Rattle.standard.specs.Standard.Words.{conforms, forbidden}
 use Rattle.standard.specs.Standard as S

@@ -9,9 +9,7 @@ use Rattle.laws.specs.Loops.{finish}
 use Rattle.bits.specs.Bounds.{longestStream}
 use Rattle.bits.specs.Bits.{Found}
 use Rattle.bits.specs.Programs.{Out, run, eqZ, many, findStartCode}
-use Rattle.picture_state.specs.declared.types.Stores.{Stores}
-use Rattle.picture_state.specs.declared.types.Sizes.{Sizes}
-use Rattle.picture_state.specs.declared.types.Matrices.{Matrices}
+use Rattle.picture_state.specs.declared.types.{Stores.Stores, Sizes.Sizes, Matrices.Matrices}
 use Rattle.picture_state.specs.State.{freshBlock}
 use Rattle.picture_state.specs.Result.{Result, ok}
 use Rattle.picture.specs.Pictures.{PictureState}

@@ -9,9 +9,7 @@ use native.Mathlib.Nat.{mul-le-mul-right}
 use native.Mathlib.Omega.{arith}
 use lib.Dec.{eqb}
 use lib.ListN.{length, getD}
-use Rattle.picture_state.specs.declared.types.Stores.{Stores}
-use Rattle.picture_state.specs.declared.types.Sizes.{Sizes}
-use Rattle.picture_state.specs.declared.types.Matrices.{Matrices}
+use Rattle.picture_state.specs.declared.types.{Stores.Stores, Sizes.Sizes, Matrices.Matrices}
 use Rattle.picture_state.specs.Possible.{PossibleStores}
 use Rattle.standard.specs.Standard as S
 use Rattle.standard.proofs.Related.{Rule}

@@ -8,9 +8,7 @@ use lib.IntN.{pos, negsuc}
 use Rattle.laws.specs.Loops.{Step, continue, finish, iterate}
 use Rattle.bits.specs.Bits.{Found, readAt, found}
 use Rattle.bits.specs.Programs.{run, eqZ, many, findStartCode, if_then_else_}
-use Rattle.picture_state.specs.declared.types.Stores.{Stores}
-use Rattle.picture_state.specs.declared.types.Sizes.{Sizes}
-use Rattle.picture_state.specs.declared.types.Matrices.{Matrices}
+use Rattle.picture_state.specs.declared.types.{Stores.Stores, Sizes.Sizes, Matrices.Matrices}
 use Rattle.picture_state.specs.Result.{Result, ok, andThen}
 use Rattle.standard.specs.Standard.Words.{forbidden}
 use Rattle.standard.specs.Standard.State.{Direction, Rules}

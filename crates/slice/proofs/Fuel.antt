@@ -16,8 +16,7 @@ use Rattle.laws.proofs.Tests.{by-case, both}
 use Rattle.bits.proofs.Programs.{run-bind, run-on, bind-on, next-le, got-served}
 use Rattle.bits.proofs.Rules.{Takes}
 use Rattle.bits.proofs.Start.{first}
-use Rattle.picture_state.specs.declared.types.Context.{Context}
-use Rattle.picture_state.specs.declared.types.Matrices.{Matrices}
+use Rattle.picture_state.specs.declared.types.{Context.Context, Matrices.Matrices}
 use Rattle.picture_state.specs.State.{SliceState, sliceState}
 use Rattle.picture_state.specs.Result.{Result, ok, error, bindResult, lift}
 use Rattle.macroblock_head.specs.Increments.{increment}

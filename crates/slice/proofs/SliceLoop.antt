@@ -29,10 +29,7 @@ use Rattle.picture_state.proofs.Possible.{between-of, between-by}
 use Rattle.macroblock_head.proofs.Kept.{still-kept}
 use Rattle.picture_state.proofs.Kept.{predictors-reset}
 use Rattle.slice.proofs.Fuel.{extra-takes, slice-takes}
-use Rattle.picture_state.specs.declared.types.Context.{Context}
-use Rattle.picture_state.specs.declared.types.Matrices.{Matrices}
-use Rattle.picture_state.specs.declared.types.Slice.{Slice}
-use Rattle.picture_state.specs.declared.types.Progress.{Progress}
+use Rattle.picture_state.specs.declared.types.{Context.Context, Matrices.Matrices, Slice.Slice, Progress.Progress}
 use Rattle.slice.specs.Contracts.{sliceStepOf, macroblocks, RefinesAfterMacroblock, RefinesMacroblocks}
 use Rattle.picture_state.specs.Contracts.{StoreFits, ReadInvariant, RefinesInSlice}
 use Rattle.macroblock.specs.Contracts.{AddressAdds, IncrementInvariant}

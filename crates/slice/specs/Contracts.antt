@@ -9,10 +9,7 @@ use Rattle.laws.specs.Loops.{Step, continue, finish}
 use Rattle.bits.specs.declared.reader.Reader.{Reader}
 use Rattle.bits.specs.Programs.{Prog, loop, many}
 use Rattle.bits.specs.Runs.{Runs}
-use Rattle.picture_state.specs.declared.types.Context.{Context}
-use Rattle.picture_state.specs.declared.types.Matrices.{Matrices}
-use Rattle.picture_state.specs.declared.types.Progress.{Progress}
-use Rattle.picture_state.specs.declared.types.Slice.{Slice}
+use Rattle.picture_state.specs.declared.types.{Context.Context, Matrices.Matrices, Progress.Progress, Slice.Slice}
 use Rattle.picture_state.specs.State.{SliceState, sliceState}
 use Rattle.picture_state.specs.Result.{Result}
 use Rattle.slice.specs.Slices.{SliceLoopState, sliceLoopState, afterMacroblock, sliceStep}

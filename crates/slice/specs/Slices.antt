@@ -7,9 +7,7 @@ use lib.ListN.{replicate}
 use lib.Signed.{leZ}
 use Rattle.laws.specs.Loops.{Step, continue, finish}
 use Rattle.bits.specs.Programs.{Prog, done, bind, bits, skips, nonZero, loop, many, _>>=_, _>>_, if_then_else_}
-use Rattle.picture_state.specs.declared.types.Context.{Context}
-use Rattle.picture_state.specs.declared.types.Matrices.{Matrices}
-use Rattle.picture_state.specs.declared.types.Slice.{Slice}
+use Rattle.picture_state.specs.declared.types.{Context.Context, Matrices.Matrices, Slice.Slice}
 use Rattle.picture_state.specs.State.{SliceState, withSlice, zeroed}
 use Rattle.picture_state.specs.Result.{Result, ok, error}
 use Rattle.macroblock.specs.Macroblocks.{macroblock}

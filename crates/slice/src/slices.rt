@@ -2,8 +2,8 @@
 use bits::reader::Reader;
 use codes::lent::Tables;
 use macroblock::addresses::past;
-use macroblock_head::heads::zeroed;
 use macroblock::macroblock::macroblock;
+use macroblock_head::heads::zeroed;
 use picture_state::types::Context;
 use picture_state::types::Progress;
 use picture_state::types::Slice;

@@ -33,8 +33,7 @@ use Rattle.transform.proofs.LoneDc.{lone-dc}
 use Rattle.prediction.specs.Predict.{macroblockAt}
 use Rattle.prediction.specs.Planes.{planeOf, planeLength, planeStart}
 use Rattle.prediction.specs.Writers.{setConst, overwrite, addConst, addBlock, blockWidth, blockAddress}
-use Rattle.picture_state.specs.declared.types.Context.{Context}
-use Rattle.picture_state.specs.declared.types.Matrices.{Matrices}
+use Rattle.picture_state.specs.declared.types.{Context.Context, Matrices.Matrices}
 use Rattle.picture_state.specs.State.{SliceState, sliceState, predictorsAs, freshBlock}
 use Rattle.picture_state.specs.Result.{Result, ok, error, ifOk, bindResult, lift, fromResult, pure}
 use Rattle.picture_state.specs.Flags.{flag}

@@ -25,8 +25,7 @@ use Rattle.transform.specs.Butterfly.{butterfly}
 use Rattle.transform.specs.Idct.{columns, rows, idct}
 use Rattle.prediction.specs.Standard.{formed}
 use Rattle.prediction.specs.Writers.{overwrite, addBlock, blockAddress}
-use Rattle.picture_state.specs.declared.types.Context.{Context}
-use Rattle.picture_state.specs.declared.types.Matrices.{Matrices}
+use Rattle.picture_state.specs.declared.types.{Context.Context, Matrices.Matrices}
 use Rattle.picture_state.specs.Result.{Result, ok, error, andThen, ifOk, bindResult, lift}
 use Rattle.macroblock_head.specs.Heads.{macroblockType}
 use Rattle.slice.specs.Slices.{extraStep, extra}

@@ -5,10 +5,9 @@ use mathlib.Core.List.{List}
 use Prim.Native.Nat.{ℕ, _-_}
 use lib.Dec.{eqb}
 use borrow.Author.Tests.{eqb-true}
-use Rattle.bits.specs.Bits.{has, readAt, afterRead, found}
+use Rattle.bits.specs.Bits.{has, readAt, afterRead}
 use Rattle.bits.specs.Programs.{Prog, done, skip, run, bind, bits}
-use Rattle.picture_state.specs.declared.types.Motion.{Motion}
-use Rattle.picture_state.specs.declared.types.Picture.{Picture}
+use Rattle.picture_state.specs.declared.types.{Motion.Motion, Picture.Picture}
 use Rattle.picture_state.specs.Result.{Result, ok, ifOk, bindResult, lift, pure}
 use Rattle.picture.specs.Pictures as P
 use Rattle.standard.specs.Standard as S

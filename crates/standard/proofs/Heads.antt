@@ -16,8 +16,7 @@ use Rattle.motion.specs.Vector.{displacement, motionVector}
 use Rattle.motion.proofs.Correction.{corrected-in}
 use Rattle.motion.proofs.OneStep.{displacement-most, step-is}
 use Rattle.motion.proofs.Standard.{standard-step}
-use Rattle.picture_state.specs.declared.types.Motion.{Motion}
-use Rattle.picture_state.specs.declared.types.Slice.{Slice}
+use Rattle.picture_state.specs.declared.types.{Motion.Motion, Slice.Slice}
 use Rattle.picture_state.specs.State.{scaleAs, motionsAs, dcReset}
 use Rattle.picture_state.specs.Result.{Result, ifOk, bindResult, lift, pure}
 use Rattle.macroblock_head.specs.Heads as O
@@ -114,7 +113,7 @@ module _ {C D : Type 0} {Q : C → D → Type 0} {s : List ℕ} (g : S.Coding) (
       let F′ = O.forward (g .context .«picture_type») (u .«motion_forward») in
       let B′ = O.backward (u .«motion_backward») in
       subst (λ (z : Slice). Agree Q s e (bindResult (S.forVector g t f) (λ f. bindResult (S.backVector g t b₀) (F q f)))
-          (bindResult (lift (rest (flag t 1) z)) G))
+      (bindResult (lift (rest (flag t 1) z)) G))
       (sym w) (
       a-same (ap (λ (b : Bool). run (bindResult (lift (rest b u)) G) s e) (sym h)) (
       a-same (sym (lift-bind-on F′ (λ f. bind B′ (λ b. done (motionsAs f b (dcReset u)))) G s e)) (
@@ -137,7 +136,7 @@ module _ {C D : Type 0} {Q : C → D → Type 0} {s : List ℕ} (g : S.Coding) (
       a-same (sym (lift-bind-on (O.scale t x) (rest (flag t 1)) G s a)) (
       a-bind _ _ (scale-agrees t x a) (λ q z e w.
       subst (λ (z : Slice). Agree Q s e (bindResult (S.forVector g t f) (λ f. bindResult (S.backVector g t b₀) (F q f)))
-          (bindResult (lift (rest (flag t 1) z)) G))
+      (bindResult (lift (rest (flag t 1) z)) G))
       (sym w) (
       a-same (ap (λ (b : Bool). run (bindResult (lift (rest b (scaleAs q x))) G) s e) (sym h)) (go q e (eqb (g .context .«picture_type») 2)))))
     where

@@ -13,9 +13,7 @@ use Rattle.laws.proofs.Ints.{v, lit, _⊕_, _⊖_, le-yes, yes-le, yes-lt, no-l
 use Rattle.bits.specs.Bounds.{longestStream}
 use Rattle.bits.specs.Programs.{Prog, done, run, bind}
 use Rattle.codes.specs.Codes.{codeBlockPattern}
-use Rattle.picture_state.specs.declared.types.Context.{Context}
-use Rattle.picture_state.specs.declared.types.Matrices.{Matrices}
-use Rattle.picture_state.specs.declared.types.Slice.{Slice}
+use Rattle.picture_state.specs.declared.types.{Context.Context, Matrices.Matrices, Slice.Slice}
 use Rattle.picture_state.specs.State.{SliceState, sliceState, freshBlock}
 use Rattle.picture_state.specs.Result.{Result, ok, error, ifOk, bindResult, lift, fromResult, pure}
 use Rattle.macroblock_head.specs.Heads as H

@@ -2,21 +2,16 @@
 use mathlib.Core.Path.{_≡_, refl, sym, ap, _∙_, subst}
 use mathlib.Core.Bool.{Bool, true, false, cond, true≢false}
 use mathlib.Core.List.{List}
-use Prim.Native.Nat.{ℕ, _-_, _≤_}
+use Prim.Native.Nat.{ℕ, _≤_}
 use lib.Dec.{eqb}
 use lib.IntN.{pos}
 use lib.ListN.{length}
-use Rattle.laws.proofs.Ints.{v}
 use Rattle.bits.specs.Bounds.{longestStream}
-use Rattle.bits.specs.Bits.{afterRead}
 use Rattle.bits.specs.Programs.{Prog, run, bind, eqZ}
 use Rattle.bits.proofs.Programs.{run-bind}
-use Rattle.picture_state.specs.declared.types.Sizes.{Sizes}
-use Rattle.picture_state.specs.declared.types.Matrices.{Matrices}
-use Rattle.picture_state.specs.declared.types.Stores.{Stores}
-use Rattle.picture_state.specs.declared.types.Picture.{Picture}
+use Rattle.picture_state.specs.declared.types.{Sizes.Sizes, Matrices.Matrices, Stores.Stores, Picture.Picture}
 use Rattle.picture_state.specs.State.{storesAs, freshBlock}
-use Rattle.picture_state.specs.Result.{Result, ok, error, ifOk, bindResult, lift, pure}
+use Rattle.picture_state.specs.Result.{Result, error, bindResult, pure}
 use Rattle.picture.specs.Pictures as P
 use Rattle.standard.specs.Standard as S
 use Rattle.standard.proofs.Agreement.{Agree, run-lift, a-same, a-pure, a-bind, a-after, left-forbidden}

@@ -3,7 +3,7 @@ use mathlib.Core.Path.{_≡_, refl, sym, ap, _∙_, subst}
 use mathlib.Core.Bool.{Bool, true, false, cond, _&&_}
 use mathlib.Core.List.{List, [], _∷_}
 use mathlib.Core.Logic.{_⊎_, inl, inr}
-use Prim.Native.Nat.{ℕ, _+_, _*_, _≤_}
+use Prim.Native.Nat.{ℕ, _+_, _*_}
 use borrow.Author.Tests.{ltb-true, leb-true}
 use borrow.Rule.Slice.PartMut.{midOf, putMid}
 use lib.Dec.{ltb, leb}
@@ -13,15 +13,14 @@ use lib.Signed.{leZ, _≤ℤ_}
 use Rattle.laws.proofs.Tests.{both, each}
 use Rattle.laws.proofs.Ints.{v, le-yes, le-by}
 use Rattle.laws.proofs.Lists.{rows-alike}
-use Rattle.prediction.specs.declared.position.Macroblock.{Macroblock}
-use Rattle.prediction.specs.declared.position.BlockPosition.{BlockPosition}
+use Rattle.prediction.specs.declared.position.{Macroblock.Macroblock, BlockPosition.BlockPosition}
 use Rattle.prediction.specs.declared.planes.Plane.{Plane}
 use Rattle.prediction.specs.declared.planes.Plane.the-variants.{Y, Cr, Cb}
 use Rattle.prediction.specs.declared.predict.Predicted.{Predicted}
 use Rattle.prediction.specs.declared.predict.Predicted.the-variants.{Done, Refused}
 use Rattle.prediction.specs.Predict.{BlockInPlane, blockOf, macroblockAt, width, height, bytes, address, fetch, predicted, chroma, inHalves}
 use Rattle.prediction.specs.Planes.{After, blockSize, macroblocks, planeStart, follow, thenPlane, ofStores, predictedPlanes}
-use Rattle.prediction.specs.Samples.{sample, storedSample}
+use Rattle.prediction.specs.Samples.{storedSample}
 use Rattle.prediction.specs.Standard.{whole, chrominance, pel, interpolated, InPicture}
 use Rattle.prediction.proofs.Standard as L
 use Rattle.picture_state.specs.Result.{Result, ok, error, andThen}
@@ -64,7 +63,7 @@ averaged false a b = refl
 abbrev rest : S.Coding → Macroblock → ℕ → Bool → ℤ → ℤ → List ℕ → Result (List ℕ)
 rest g m k average right down l =
     andThen (S.predictedPlane g m k average Cr (chrominance right) (chrominance down) l)
-        (S.predictedPlane g m k average Cb (chrominance right) (chrominance down))
+    (S.predictedPlane g m k average Cb (chrominance right) (chrominance down))
 
 -- the block at p, referring to samples inside
 module _ (p : BlockPosition) (size : (p .size ≡ 8) ⊎ (p .size ≡ 16)) (right down : ℤ) (e : S.inPicture p right down ≡ true) where

@@ -11,10 +11,7 @@ use lib.Signed.{ltZ, leZ}
 use Rattle.coefficients.specs.Dequantise.{quantiser, dequantised}
 use Rattle.coefficients.specs.Standard.{dctRecon}
 use Rattle.motion.specs.Displacement.{InRange}
-use Rattle.picture_state.specs.declared.types.Context.{Context}
-use Rattle.picture_state.specs.declared.types.Matrices.{Matrices}
-use Rattle.picture_state.specs.declared.types.Motion.{Motion}
-use Rattle.picture_state.specs.declared.types.Slice.{Slice}
+use Rattle.picture_state.specs.declared.types.{Context.Context, Matrices.Matrices, Motion.Motion, Slice.Slice}
 use Rattle.picture_state.specs.State.{SliceState, sliceState, freshBlock}
 use Rattle.picture_state.specs.Flags.{flag}
 use Rattle.standard.specs.Standard as S

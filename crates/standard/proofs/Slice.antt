@@ -14,9 +14,7 @@ use Rattle.bits.specs.Bounds.{longestStream}
 use Rattle.bits.specs.Bits.{has, readAt}
 use Rattle.bits.specs.Programs.{Prog, Out, done, run, bind, bits, nonZero, many}
 use Rattle.bits.proofs.Programs.{run-bind}
-use Rattle.picture_state.specs.declared.types.Context.{Context}
-use Rattle.picture_state.specs.declared.types.Matrices.{Matrices}
-use Rattle.picture_state.specs.declared.types.Slice.{Slice}
+use Rattle.picture_state.specs.declared.types.{Context.Context, Matrices.Matrices, Slice.Slice}
 use Rattle.picture_state.specs.State.{SliceState, withSlice, freshBlock}
 use Rattle.picture_state.specs.Result.{Result, ok, error}
 use Rattle.macroblock.specs.Macroblocks as M

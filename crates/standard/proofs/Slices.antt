@@ -2,7 +2,7 @@
 use mathlib.Core.Path.{_≡_, refl, sym, ap, _∙_, subst}
 use mathlib.Core.Bool.{Bool, true, false, cond, not, _&&_, false≢true}
 use mathlib.Core.List.{List}
-use Prim.Native.Nat.{ℕ, zero, suc, _-_, _≤_}
+use Prim.Native.Nat.{ℕ, zero, suc, _≤_}
 use native.Mathlib.Omega.{arith}
 use borrow.Author.Tests.{ne-eqb}
 use lib.IntN.{ℤ, pos, negsuc, natAbs, _+ℤ_}
@@ -11,15 +11,12 @@ use lib.Signed.{ltZ, leZ}
 use Rattle.laws.specs.Loops.{Step, continue, finish}
 use Rattle.laws.proofs.Ints.{v, lit, _⊕_, le-yes, le-no, lt-yes, lt-no}
 use Rattle.bits.specs.Bounds.{longestStream}
-use Rattle.bits.specs.Bits.{has, found}
+use Rattle.bits.specs.Bits.{found}
 use Rattle.bits.specs.Programs.{Out, done, run, bind, many, eqZ}
 use Rattle.bits.proofs.Programs.{run-bind}
-use Rattle.picture_state.specs.declared.types.Context.{Context}
-use Rattle.picture_state.specs.declared.types.Matrices.{Matrices}
-use Rattle.picture_state.specs.declared.types.Stores.{Stores}
-use Rattle.picture_state.specs.declared.types.Picture.{Picture}
+use Rattle.picture_state.specs.declared.types.{Context.Context, Matrices.Matrices, Stores.Stores, Picture.Picture}
 use Rattle.picture_state.specs.State.{SliceState, sliceState, startCodeAs, sliceAs, freshBlock}
-use Rattle.picture_state.specs.Result.{Result, ok, error, ifOk}
+use Rattle.picture_state.specs.Result.{Result, ok, error}
 use Rattle.slice.specs.Slices as O
 use Rattle.picture.specs.Pictures as P
 use Rattle.standard.specs.Standard as S

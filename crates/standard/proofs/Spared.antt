@@ -3,7 +3,7 @@ use mathlib.Core.Path.{_≡_, refl, ap, _∙_}
 use mathlib.Core.Bool.{Bool, true, false, cond, not, _&&_, _||_}
 use mathlib.Core.List.{List}
 use mathlib.Core.Logic.{_⊎_, ⊎-elim}
-use Prim.Native.Nat.{ℕ, zero, suc, _+_, _-_, _*_, _≤_, _<_}
+use Prim.Native.Nat.{ℕ, zero, suc, _+_, _*_, _≤_, _<_}
 use native.Mathlib.Omega.{arith}
 use borrow.Rule.Slice.PartMut.{midOf, putMid, same-len-mid}
 use lib.Dec.{eqb, ltb}
@@ -16,16 +16,13 @@ use Rattle.laws.proofs.Tests.{by-case}
 use Rattle.bits.specs.Bits.{has, readAt}
 use Rattle.bits.specs.Programs.{Prog, done, run, nextStartCode, many, eqZ}
 use Rattle.bits.proofs.Gives.{Gives, OnStep, g-done, g-bind, g-if, g-for, g-loop, g-any}
-use Rattle.prediction.specs.declared.position.Macroblock.{Macroblock}
-use Rattle.prediction.specs.declared.position.BlockPosition.{BlockPosition}
+use Rattle.prediction.specs.declared.position.{Macroblock.Macroblock, BlockPosition.BlockPosition}
 use Rattle.prediction.specs.declared.planes.Plane.{Plane}
 use Rattle.prediction.specs.declared.planes.Plane.the-variants.{Y, Cr, Cb}
 use Rattle.prediction.specs.Predict.{macroblockAt, blockOf, bytes, address, width}
 use Rattle.prediction.specs.Planes.{blockSize, macroblocks, planeOf, planeLength, planeStart}
 use Rattle.prediction.specs.Writers.{overwrite, addBlock, blockAddress, blockWidth}
-use Rattle.picture_state.specs.declared.types.Stores.{Stores}
-use Rattle.picture_state.specs.declared.types.Sizes.{Sizes}
-use Rattle.picture_state.specs.declared.types.Matrices.{Matrices}
+use Rattle.picture_state.specs.declared.types.{Stores.Stores, Sizes.Sizes, Matrices.Matrices}
 use Rattle.picture_state.specs.Result.{Result, ok, error, andThen, ifOk, bindResult, forBelow}
 use Rattle.standard.specs.Standard as S
 use Rattle.standard.proofs.Agreement.{ResultIs}
@@ -210,7 +207,7 @@ module _ (g : S.Coding) (l : List ℕ) (three : g .context .stores .cur * (384 *
     coded-spared first k u v x h =
         g-then _ _ (λ t. g-then _ _ (λ u. g-then _ _ (λ scale. g-then _ _ (λ f. g-then _ _ (λ b.
         g-onward {P = Same} _ (g-done (by-case (ResultIs Same) (S.«macroblock_intra» t) (λ e. h) (λ e. predicted-spared t _ f b x h)))
-            (λ x h. g-then _ _ (λ cbp.
+        (λ x h. g-then _ _ (λ cbp.
         g-onward {P = Blocks} _ (blocks-spared _ _ cbp scale _ _ h) (λ b h. g-done h))))))))
 
     macroblock-spared : (first : Bool) (v : S.Variables) → Variables v → Gives s (ResultIs Variables) (S.macroblock g first v)

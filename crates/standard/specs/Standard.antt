@@ -136,7 +136,7 @@ unfoldable pub slicesStep : Coding → SlicesLoopState → Prog (Step SlicesLoop
 slicesStep g x = bind nextStartCode λ c.
     if leZ (pos 1) c && leZ c (pos 0xaf) then bind (slice g (natAbs c) (x .pels)) (afterSlice g)
     else if (eqZ c (pos 0xb2) || eqZ c (pos 0xb5))
-        && not (x .begun) then done (continue (record { begun = false; pels = x .pels })) else done (finish forbidden)
+    && not (x .begun) then done (continue (record { begun = false; pels = x .pels })) else done (finish forbidden)
 
 unfoldable pub slices : Coding → List ℕ → Prog (Result (List ℕ))
 slices g l = loop many (slicesStep g) forbidden (record { begun = false; pels = l })

@@ -1,13 +1,12 @@
 -- RULES 4.4: no sum or product of the transform leaves 32 bits.
 use mathlib.Core.Bool.{Bool, _&&_}
 use mathlib.Core.List.{List}
-use Prim.Native.Nat.{ℕ, _+_, _*_, _≤_, _<_}
+use Prim.Native.Nat.{ℕ, _+_, _*_}
 use lib.Dec.{T, ltb, ltb→lt}
-use lib.IntN.{ℤ, pos, _+ℤ_}
+use lib.IntN.{ℤ}
 use mir.Facts.{and-yes}
 use Rattle.laws.specs.Sizes.{AtMost}
 use Rattle.laws.proofs.Nums.{Num, num, con, negate, shift-right, _⊞_, _⊟_, _⊠_}
-use Rattle.laws.proofs.Tables.{every}
 use Rattle.laws.proofs.Tables as Tables
 use Rattle.codes.specs.Matrices.{Bounded}
 use Rattle.transform.specs.Steps.{Expression, input, _⊕_, _⊖_, neg, _⊗_, nearest, value, outputs, output}

@@ -6,7 +6,6 @@ use Prim.Native.Nat.{ℕ, _≤_, _<_}
 use native.Mathlib.Nat.{le-trans}
 use lib.Dec.{T, leb, leb→le, lit<}
 use lib.IntN.{ℤ, natAbs}
-use lib.ListN.{getD}
 use mir.Facts.{and-yes}
 use mir.Syntax.{w32}
 use Rattle.laws.proofs.Exprs.{Exp, var, cst, _⊹_, _∸_, _×̇_, neg, shr, Input, signed, eval, bound, ok, within}

@@ -1,4 +1,3 @@
-use borrow.Author.Needs.{needs}
 use Rattle.codes.specs.Walk.{walk}
 use Rattle.codes.proofs.walk.walk.Statement.{statement}
 use Rattle.codes.proofs.walk.walk.Tie as tie

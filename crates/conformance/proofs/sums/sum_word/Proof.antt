@@ -1,6 +1,5 @@
 use mathlib.Core.Path.{ap, _∙_}
 use Prim.Native.Nat.{_%_}
-use native.Mathlib.Omega.{arith}
 use borrow.Author.Needs.{needs}
 use Rattle.conformance.specs.Sums.{mixed, summed}
 use Rattle.conformance.proofs.sums.sum_word.Statement.{statement}

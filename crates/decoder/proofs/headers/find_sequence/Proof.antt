@@ -1,4 +1,3 @@
-use borrow.Author.Needs.{needs}
 use Rattle.decoder.specs.Headers.{findSequence}
 use Rattle.decoder.proofs.headers.find_sequence.Statement.{statement}
 use Rattle.decoder.proofs.headers.find_sequence.Tie as tie

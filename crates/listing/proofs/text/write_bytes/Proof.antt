@@ -1,6 +1,6 @@
 use Prim.Native.Nat.{_-_}
 use native.Mathlib.Omega.{arith}
-use lib.ListN.{length, length-set}
+use lib.ListN.{length}
 use Rattle.listing.proofs.Writing.{Copied, copied-none, copied-one, copied-all}
 use Rattle.listing.proofs.text.write_bytes.Statement.{statement}
 use Rattle.listing.proofs.text.write_bytes.Tie as tie

@@ -1,7 +1,6 @@
 -- `body::body` meets its contract: type, head, prediction, pattern and blocks are the definition's steps, in this order.
 use denote.Ref.{now}
 use borrow.Author.Needs.{needs}
-use Rattle.picture_state.specs.Possible.{PossibleSlice}
 use Rattle.picture_state.specs.Contracts.{matricesIn}
 use Rattle.macroblock.proofs.Bodies.{headed-possible, headed-here, body-refused, blocks-ready, body-on}
 use Rattle.macroblock.proofs.body.body.Statement.{statement}

@@ -1,11 +1,9 @@
 use mathlib.Core.Path.{sym, _∙_}
 use mathlib.Core.List.{List}
 use Prim.Native.Nat.{ℕ}
-use denote.Ref.{now}
 use Rattle.bits.proofs.Gives.{given-by}
 use Rattle.bits.proofs.Rules.{r-call, r-yes, r-no, r-done}
-use Rattle.picture_state.specs.declared.types.Picture.{Picture}
-use Rattle.picture_state.specs.declared.types.Sizes.{Sizes}
+use Rattle.picture_state.specs.declared.types.{Picture.Picture, Sizes.Sizes}
 use Rattle.picture_state.specs.Possible.{PossiblePicture}
 use Rattle.picture.specs.Pictures.{contextOf, picture}
 use Rattle.picture_state.specs.Contracts.{StoreFits}

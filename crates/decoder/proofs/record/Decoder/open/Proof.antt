@@ -17,7 +17,7 @@ check-header-requires c κs = (rw (c .before .fresh .ensures) fit-fresh, c .if1 
 -- the answer to all four questions
 asks : (a : tie.After-check-store) → let f = a .before .before .before in let s = f .before .before .before in
     checkResult (a .check-store .result .answer) (a .check-store .result .decoder)
-        ≡ checkStore fresh (s .args .store .now) (checkHeader (s .args .stream .now) fresh)
+    ≡ checkStore fresh (s .args .store .now) (checkHeader (s .args .stream .now) fresh)
 asks a =
     let h = a .before in
     let f = h .before .before in
