@@ -11,7 +11,8 @@ use Rattle.prediction.proofs.apart.four_at.Tie as tie
 returns : tie.Need-returns
 unfolding sample
 returns c =
-    let s = c .before .before .before .before .before .before .before .before in
+    let average = c .before .before .before .before in
+    let s = average .before .before .before .before in
     let a = s .args in
     c .stored-sample .ensures ∙ ap (storedSample (a .interpolate) (getD (now (a .store)) (a .o) 0)) (rw (s .pre .1) at (c .before .average4 .ensures))
 

@@ -10,7 +10,8 @@ use Rattle.prediction.proofs.apart.pair_at.Tie as tie
 
 returns : tie.Need-returns
 returns c =
-    let a = c .before .before .before .before .before .before .args in
+    let average = c .before .before .before in
+    let a = average .before .before .before .args in
     c .stored-sample .ensures ∙ ap (storedSample (a .interpolate) (getD (now (a .store)) (a .o) 0)) (c .before .average2 .ensures)
 
 pub pair-at-spec : {M : Type 1} → statement M

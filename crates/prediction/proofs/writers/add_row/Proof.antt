@@ -25,8 +25,8 @@ add-row-spec =
     tie.close
     (tie.spec (λ c κs. asked (c .before .before) (omega arith)) (λ c κs. asked (c .before .before .before) (omega arith))
     (λ c κs. asked (c .before .before .before .before) (omega arith)) (λ c κs. asked (c .before .before .before .before .before) (omega arith))
-    (λ c κs. asked (c .before .before .before .before .before .before) (omega arith))
-    (λ c κs. asked (c .before .before .before .before .before .before .before) (omega arith))
-    (λ c κs. asked (c .before .before .before .before .before .before .before .before) (omega arith))
-    (λ c κs. asked (c .before .before .before .before .before .before .before .before .before) (omega arith))
+    (λ c κs. let fourth = c .before .before .before .before in asked (fourth .before .before) (omega arith))
+    (λ c κs. let fourth = c .before .before .before .before in asked (fourth .before .before .before) (omega arith))
+    (λ c κs. let fourth = c .before .before .before .before in asked (fourth .before .before .before .before) (omega arith))
+    (λ c κs. let fourth = c .before .before .before .before in asked (fourth .before .before .before .before .before) (omega arith))
     (λ c κs. omega arith) (λ c. omega arith) returns)
