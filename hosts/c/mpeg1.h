@@ -35,7 +35,7 @@ size_t mpeg1_store_bytes(size_t width, size_t height);
 
 /* Opens a stream and writes its record, in every case but 2.
    0: ready, and the store is cleared. Else: 1 the stream has more than 16777216 bytes; 2 a part of the record is too short, and nothing is
-   written; 3 no sequence header; 4 the stream ends within the header; 5 width or height is 0; 6 the store is too short. */
+   written; 3 no sequence header; 4 fewer than 136 bytes are left behind its start code; 5 width or height is 0; 6 the store is too short. */
 uint32_t mpeg1_open(const uint8_t *stream, size_t stream_bytes, uint8_t *store, size_t store_bytes,
                     size_t *numbers, size_t numbers_count, int32_t *integers, size_t integers_count,
                     uint8_t *matrices, size_t matrices_count, double *clock, size_t clock_count);
@@ -44,7 +44,8 @@ uint32_t mpeg1_open(const uint8_t *stream, size_t stream_bytes, uint8_t *store, 
    0: a picture. picture[MPEG1_STORE] is the number of its store, for mpeg1_plane_start and mpeg1_write_rgb_scaled, and *time its time in
    seconds; both hold until the next call. Else picture and *time are left as they are: 1 the stream has more than 16777216 bytes; 2 a part of
    the record or picture is too short, or they hold no record; 3 to 6 as in mpeg1_open, while no header is accepted; 7 no further picture; 8 a
-   DC value and 9 a prediction that no decoder can follow: the record is stopped for good. 1 and 2 write nothing. */
+   DC value outside -256..255, with which the Rust goes on, and 9 a prediction that reaches out of its plane: the record is stopped for good. 1 and 2
+   write nothing. */
 uint32_t mpeg1_decode(const uint8_t *stream, size_t stream_bytes, uint8_t *store, size_t store_bytes,
                       size_t *numbers, size_t numbers_count, int32_t *integers, size_t integers_count,
                       uint8_t *matrices, size_t matrices_count, double *clock, size_t clock_count,
