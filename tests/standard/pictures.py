@@ -8,7 +8,6 @@ LEFT_OUT = ["ipb2_176x144.m1v"]
 # of these streams, whose pictures have up to 2,700 bytes, the first three pictures
 FIRST_THREE = ["m2e_nob_96x80.m1v", "mat_both_64x48.m1v", "q10_64x48.m1v", "slices3_64x48.m1v"]
 
-CRATES = "laws bits look codes motion coefficients transform prediction picture standard".split()
 RULES = ["rust", "printed"]
 # directions of which a picture's header says nothing are not used
 HEAD = """use mathlib.Core.Path.{_≡_, refl}
@@ -79,15 +78,21 @@ def refused(house):
     return path.read_text().split() if path.exists() else []
 
 
+# `standard` and the crates below it
+def crates(root):
+    below = re.search(r"^standard:(.*)$", pathlib.Path(root, "crates.txt").read_text(), re.M)
+    return [*below[1].split(), "standard"]
+
+
 # uses of the modules that have definitions which unfold where they are named, and the names
 def unfoldable(root):
     uses, names = "", []
-    for crate in CRATES:
+    for crate in crates(root):
         folder = pathlib.Path(root, "crates", crate, "specs")
         for file in sorted(folder.rglob("*.antt")):
             found = re.findall(r"^unfoldable pub (\S+) :", file.read_text(), re.M)
             module = ".".join(file.relative_to(folder).with_suffix("").parts)
-            alias = f"{crate}-{module.replace('.', '-')}"
+            alias = f"{crate}-{module}".replace(".", "-").replace("_", "-")
             uses += f"use Rattle.{crate}.specs.{module} as {alias}\n" if found else ""
             names += [f"{alias}.{name}" for name in found]
     return uses, " ".join(names)
