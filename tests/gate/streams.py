@@ -655,6 +655,15 @@ for x in range(4):
     end_cases('eight_bits_%d' % x, 2, 1, LAST, format(x, '08b'), [0])
 end_cases('later_1', 2, 1, LAST + '10', '111', all_cuts('111'))
 end_cases('end_of_block', 2, 1, LAST + '10', '10', all_cuts('10'))
+# a byte of extra information that is cut: it is not passed over, and its first two bits are the next flag and an increment
+@case('1.6-7.5_extra_cut', 16, 16, key=False, tail=False)
+def _(c):
+    c.data(b'\xff' * (124 - c.n // 8))
+    c.picture(1, (0, 2), delay=0x5A40)
+    c.data(b'\x00\x01\x00')
+    c.start(3)
+    c.put(9, 5)
+    c.raw('101')
 
 # ---- writing
 def make(name, w, h, key, tail, more, function):
