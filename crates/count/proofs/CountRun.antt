@@ -10,22 +10,26 @@ use lib.ListN.{length, getD}
 use Rattle.bits.specs.Bounds.{longestStream}
 use Rattle.bits.specs.Programs.{many}
 use Rattle.decoder.specs.declared.record.Decoder.{Decoder}
+use Rattle.decoder.specs.declared.answers.{Opening.Opening, Opened.Opened}
 use Rattle.decoder.specs.declared.answers.Opening.the-variants as O
 use Rattle.playback.specs.declared.outcome.Outcome.{Outcome}
 use Rattle.playback.specs.declared.outcome.Outcome.the-variants as H
-use Rattle.decoder.specs.Record.{CallResult}
+use Rattle.decoder.specs.Record.{CallResult, callResult}
 use Rattle.decoder.specs.Headers.{accepted}
+use Rattle.decoder.specs.Answers.{result, number, decodeAnswer}
 use Rattle.decoder.specs.Opening.{opening}
 use Rattle.playback.specs.Steps.{LoopEnd, finished, aborted}
 use Rattle.decoder.specs.Decode.{callResultOf}
-use Rattle.decoder.specs.Run.{CallState, call, stateAfterOpening, before, answer, pictureIn, picturesOutput}
+use Rattle.decoder.specs.Calls.{Opens}
+use Rattle.decoder.specs.Run.{CallState, callState, call, stateAfterOpening, before, answer, pictureIn, picturesOutput}
 use Rattle.demands.specs.ErrorCodes.{member}
 use Rattle.demands.proofs.After.{opening-ready}
 use Rattle.demands.proofs.Keeps.{Keeps}
 use Rattle.demands.proofs.RunSteps.{seven, stops}
 use Rattle.demands.proofs.RunCall.{EndsFrom, steps-end, Between, waiting, live, stuck, marked, keeps-call, stuck-call, marked-call, few}
+use Rattle.demands.proofs.DemandRun.{decodes-call, calls-before, calls-output}
 use Rattle.demands.proofs.Run.{run-on, opening-begins, seven-for-good}
-use Rattle.count.specs.Count.{counts, countFrom, countOf, countsIn, CountsRun}
+use Rattle.count.specs.Count.{Counts, counts, countFrom, countOf, countsIn, CountsRun, CountsCalls}
 use Rattle.count.proofs.Counting.{ready-short}
 
 -- the calls 0 .. n - 1 handed out a picture each
@@ -89,7 +93,7 @@ module _ (s : List ℕ) (short : length s ≤ longestStream) (bytes : (k : ℕ) 
       first q = rw q header
 
       go : (o : Outcome) → answer s x n ≡ o → (Handed s x (suc n) → CountsRun s x (countFrom j s (suc n) (next .decoder) (next .store)))
-          → CountsRun s x (elim o [ H.Picture i ↦ countFrom j s (n + 1) (next .decoder) (next .store) | H.Refused a ↦ counts a n (next .store) ])
+          → CountsRun s x (elim (decodeAnswer o) [ result i ↦ countFrom j s (n + 1) (next .decoder) (next .store) | number a ↦ counts a n (next .store) ])
       go (H.Picture i) e r =
           subst (λ (k : ℕ). CountsRun s x (countFrom j s k (next .decoder) (next .store))) (omega arith)
           (r (one-more s x n h (ap pictureIn e)))
@@ -112,6 +116,18 @@ ready-header : (s l : List ℕ) → opening s l .answer ≡ O.Ready → opening 
 unfolding accepted
 ready-header s l e = ap (λ (d : Decoder). d .sequence .«has_sequence_header») (opening-ready s l e .decoder)
 
+-- a run of calls is the run that the definitions give
+run-calls : {s : List ℕ} {x : CallState} {c : Counts} → CountsRun s x c → CountsCalls s x c
+unfolding before answer
+run-calls {s} {x} {c} k = record {
+  pictures = λ rs y h e. calls-output h ∙ ap (picturesOutput s x) e ∙ k .output ∙ sym e;
+  ends = λ rs y h e r m gave.
+      let at : y ≡ before s x (c .pictures) = calls-before h ∙ ap (before s x) e in
+      let is : callResult (r .outcome) (r .decoder) m ≡ call s (before s x (c .pictures)) = decodes-call s y r m gave ∙ ap (call s) at in
+      (ap (λ (q : CallResult Outcome). q .answer) is ∙ k .ends, ap (λ (q : CallResult Outcome). q .store) is ∙ k .stored);
+  number = k .number;
+}
+
 module _ (s l : List ℕ) (bytes : (k : ℕ) → getD s k 0 < 256) (ready : opening s l .answer ≡ O.Ready) where
   -- RULES R: the count is that of the run
   pub count-runs : CountsRun s (stateAfterOpening s l) (countsIn s l)
@@ -125,3 +141,10 @@ module _ (s l : List ℕ) (bytes : (k : ℕ) → getD s k 0 < 256) (ready : open
   -- RULES R.2: behind 7 no call hands out a picture
   pub count-all : countsIn s l .answer ≡ 7 → (k : ℕ) → answer s (stateAfterOpening s l) (countsIn s l .pictures + k) ≡ H.Refused 7
   count-all e k = seven-for-good s l bytes (countsIn s l .pictures) k (count-runs .ends ∙ ap H.Refused e)
+
+-- behind a call of `open` that was ready
+pub count-calls : (s l : List ℕ) → ((k : ℕ) → getD s k 0 < 256) → (r : Opened) (m : List ℕ) → Opens s l r m → r .answer ≡ O.Ready
+    → CountsCalls s (callState (r .decoder) m) (countsIn s l)
+count-calls s l bytes r m gave ready =
+    subst (λ (q : CallResult Opening). CountsCalls s (callState (q .decoder) (q .store)) (countsIn s l)) (sym gave)
+    (run-calls (count-runs s l bytes (ap (λ (q : CallResult Opening). q .answer) (sym gave) ∙ ready)))

@@ -14,7 +14,7 @@ use Rattle.decoder.specs.declared.answers.Opening.{Opening}
 use Rattle.decoder.specs.declared.answers.Opening.the-variants as O
 use Rattle.playback.specs.declared.outcome.Outcome.the-variants as H
 use Rattle.decoder.specs.Record.{CallResult, callResult}
-use Rattle.decoder.specs.Answers.{openingErrorCode}
+use Rattle.decoder.specs.Answers.{result, number, decodeAnswer, openingErrorCode}
 use Rattle.decoder.specs.Opening.{opening}
 use Rattle.decoder.specs.Decode.{decode}
 use Rattle.decoder.specs.Run.{callState, stateAfter, pictureIn}
@@ -47,7 +47,7 @@ module _ (s l : List ℕ) (d : Decoder) (m : List ℕ) where
 -- the count from a call on, which left x
 abbrev onward : ℕ → ℕ → List ℕ → CallResult Outcome → Counts
 onward k n s x =
-    elim (x .answer) [ H.Picture p ↦ countFrom k s (n + 1) (x .decoder) (x .store) | H.Refused answer ↦ counts answer n (x .store) ]
+    elim (decodeAnswer (x .answer)) [ result p ↦ countFrom k s (n + 1) (x .decoder) (x .store) | number answer ↦ counts answer n (x .store) ]
 
 onward-is : (k n : ℕ) (s l : List ℕ) (d : Decoder) (x : CallResult Outcome) → x ≡ decode d s l → countFrom (suc k) s n d l ≡ onward k n s x
 unfolding countFrom

@@ -1,3 +1,4 @@
+pub mod OwnNumbers
 pub mod Checking
 pub mod Openings
 pub mod Converting

@@ -1,36 +1,38 @@
--- RULES C.3, Q: what each answer says: a result with its values, or a number; and the number alone.
+-- RULES C.3, Q: what each answer says: a result with its values, or a number. The enums of the answers are taken apart here only.
 use Prim.Native.Nat.{ℕ}
-use lib.Ieee.{Float}
 use Rattle.decoder.specs.declared.answers.{Opening.Opening, Converted.Converted}
 use Rattle.decoder.specs.declared.answers.Opening.the-variants as O
-use Rattle.playback.specs.declared.outcome.Outcome.{Outcome}
+use Rattle.playback.specs.declared.outcome.{Shown.Shown, Outcome.Outcome}
 use Rattle.playback.specs.declared.outcome.Outcome.the-variants as H
 use Rattle.decoder.specs.declared.answers.Converted.the-variants as C
 
 -- RULES C.3: an answer
-pub data Answer : Type 0 where
-  success : Answer  -- a result that has no values
-  picture : ℕ → Float → Answer  -- the number of the store, and the time shown
-  number : ℕ → Answer  -- the number of the question answered "no"
+pub data Answer (A : Type 0) : Type 0 where
+  result : A → Answer A  -- a result with its values
+  number : ℕ → Answer A  -- the number of the question answered "no"
 
 -- RULES O.2: of opening
-abbrev pub openingAnswer : Opening → Answer
-openingAnswer x = elim x [ O.Ready ↦ success | O.Refused n ↦ number n ]
+abbrev pub openingAnswer : Opening → Answer (Unit {0})
+openingAnswer x = elim x [ O.Ready ↦ result tt | O.Refused n ↦ number n ]
 
--- RULES Q, 8.9: of a hand-out
-abbrev pub decodeAnswer : Outcome → Answer
-decodeAnswer x = elim x [ H.Picture p ↦ picture (p .store) (p .time) | H.Refused n ↦ number n ]
+-- RULES Q, 8.9: of a hand-out: the number of the store, and the time shown
+abbrev pub decodeAnswer : Outcome → Answer Shown
+decodeAnswer x = elim x [ H.Picture p ↦ result p | H.Refused n ↦ number n ]
 
--- RULES Q: of the conversion (C.3 asks for it of each answer that is an enum)
-abbrev pub conversionAnswer : Converted → Answer
-conversionAnswer x = elim x [ C.Written ↦ success | C.Refused n ↦ number n ]
+-- RULES Q: of the conversion
+abbrev pub conversionAnswer : Converted → Answer (Unit {0})
+conversionAnswer x = elim x [ C.Written ↦ result tt | C.Refused n ↦ number n ]
 
 -- RULES C.3: an answer as a number, 0 for a result
+abbrev pub errorCode : {A : Type 0} → Answer A → ℕ
+errorCode (result x) = 0
+errorCode (number n) = n
+
 abbrev pub openingErrorCode : Opening → ℕ
-openingErrorCode x = elim x [ O.Ready ↦ 0 | O.Refused n ↦ n ]
+openingErrorCode x = errorCode (openingAnswer x)
 
 abbrev pub decodeErrorCode : Outcome → ℕ
-decodeErrorCode x = elim x [ H.Picture p ↦ 0 | H.Refused n ↦ n ]
+decodeErrorCode x = errorCode (decodeAnswer x)
 
 abbrev pub conversionErrorCode : Converted → ℕ
-conversionErrorCode x = elim x [ C.Written ↦ 0 | C.Refused n ↦ n ]
+conversionErrorCode x = errorCode (conversionAnswer x)

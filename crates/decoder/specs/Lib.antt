@@ -7,5 +7,6 @@ pub mod Headers
 pub mod Opening
 pub mod Decode
 pub mod Conversion
+pub mod Calls
 pub mod Listing
 pub mod Run

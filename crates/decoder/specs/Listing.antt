@@ -6,9 +6,8 @@ use lib.ListN.{length, replicate}
 use Rattle.bits.specs.Programs.{many, if_then_else_}
 use Rattle.decoder.specs.declared.record.Decoder.{Decoder}
 use Rattle.decoder.specs.declared.answers.Opening.{Opening}
-use Rattle.decoder.specs.declared.answers.Opening.the-variants as O
-use Rattle.playback.specs.declared.outcome.Outcome.the-variants as H
 use Rattle.decoder.specs.Record.{CallResult}
+use Rattle.decoder.specs.Answers.{result, number, openingAnswer, decodeAnswer}
 use Rattle.decoder.specs.Opening.{opening}
 use Rattle.decoder.specs.Decode.{decode}
 
@@ -27,14 +26,14 @@ unfoldable pub linesFrom : ℕ → List ℕ → ℕ → Decoder → List ℕ →
 linesFrom zero s n d l = []
 linesFrom (suc fuel) s n d l =
     let x = decode d s l in
-    elim (x .answer) [
-      | H.Picture p ↦ line (n + 1) (p .store) (x .decoder .state .picture .«picture_type») 0 ∷ linesFrom fuel s (n + 1) (x .decoder) (x .store)
-      | H.Refused answer ↦ line n 0 0 answer ∷ []
+    elim (decodeAnswer (x .answer)) [
+      | result p ↦ line (n + 1) (p .store) (x .decoder .state .picture .«picture_type») 0 ∷ linesFrom fuel s (n + 1) (x .decoder) (x .store)
+      | number answer ↦ line n 0 0 answer ∷ []
     ]
 
 -- RULES L.3: a number from opening is the only line
 unfoldable pub linesOf : List ℕ → CallResult Opening → List Line
-linesOf s x = elim (x .answer) [ O.Ready ↦ linesFrom many s 0 (x .decoder) (x .store) | O.Refused answer ↦ line 0 0 0 answer ∷ [] ]
+linesOf s x = elim (openingAnswer (x .answer)) [ result y ↦ linesFrom many s 0 (x .decoder) (x .store) | number answer ↦ line 0 0 0 answer ∷ [] ]
 
 -- RULES L.1: at most 65,536 bytes; a store for 48 macroblocks
 unfoldable pub listing : List ℕ → List Line

@@ -2,9 +2,9 @@
 use mathlib.Core.List.{List}
 use Prim.Native.Nat.{ℕ, zero, suc, _+_}
 use Rattle.playback.specs.declared.outcome.Outcome.{Outcome}
-use Rattle.playback.specs.declared.outcome.Outcome.the-variants.{Picture, Refused}
 use Rattle.decoder.specs.declared.record.Decoder.{Decoder}
 use Rattle.decoder.specs.Record.{CallResult}
+use Rattle.decoder.specs.Answers.{result, number, decodeAnswer}
 use Rattle.decoder.specs.Opening.{opening}
 use Rattle.decoder.specs.Decode.{decode}
 
@@ -38,8 +38,7 @@ answer s x n = call s (before s x n) .answer
 
 -- RULES R.1: is it a picture?
 abbrev pub pictureIn : Outcome → ℕ
-pictureIn (Picture p) = 1
-pictureIn (Refused n) = 0
+pictureIn o = elim (decodeAnswer o) [ result p ↦ 1 | number n ↦ 0 ]
 
 -- how many pictures the calls 0 .. n - 1 output (RULES S.7: hand out)
 unfoldable pub picturesOutput : List ℕ → CallState → ℕ → ℕ

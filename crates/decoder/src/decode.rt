@@ -21,6 +21,7 @@ ghost use Rattle.playback.specs.StepResults.{endOf};
 ghost use Rattle.decoder.specs.Record as Record;
 ghost use Rattle.decoder.specs.Fit.{Fit};
 ghost use Rattle.decoder.specs.Decode as Out;
+ghost use Rattle.decoder.specs.Calls.{Decodes};
 ghost use Rattle.bits.specs.Bounds.{longestStream};
 
 fn refused(decoder: Decoder, number: u32) -> DecodeResult
@@ -89,7 +90,7 @@ fn with_header(s: &[u8], store: &mut [u8], before: Decoder) -> DecodeResult
 impl Decoder {
     // RULES Q, QA: the questions 1 and 2, the stop mark, the questions 3 to 6, and the pictures.
     pub fn decode(self, stream: &[u8], store: &mut [u8]) -> DecodeResult
-        ensures { λ r. ⌜ Record.callResult (r .outcome) (r .decoder) (now (store .exit)) ≡ Out.decode self (now (stream .entry)) (now (store .entry)) ⌝ }
+        ensures { λ r. ⌜ Decodes self (now (stream .entry)) (now (store .entry)) r (now (store .exit)) ⌝ }
     {
         if LONGEST_STREAM < stream.len() {
             return refused(self, 1);

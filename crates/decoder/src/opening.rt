@@ -8,14 +8,12 @@ use crate::record::fresh;
 use crate::record::store_bytes;
 use bits::position::LONGEST_STREAM;
 use header::store::clear;
-ghost use mathlib.Core.Path.{_≡_};
-ghost use Rattle.decoder.specs.Record.{callResult};
-ghost use Rattle.decoder.specs.Opening.{opening};
+ghost use Rattle.decoder.specs.Calls.{Opens};
 
 impl Decoder {
     // RULES O.2: the questions 1, 3, 4, 5, 6, and the store of an accepted header becomes 0.
     pub fn open(stream: &[u8], store: &mut [u8]) -> Opened
-        ensures { λ r. ⌜ callResult (r .answer) (r .decoder) (now (store .exit)) ≡ opening (now (stream .entry)) (now (store .entry)) ⌝ }
+        ensures { λ r. ⌜ Opens (now (stream .entry)) (now (store .entry)) r (now (store .exit)) ⌝ }
     {
         let d = fresh();
         if LONGEST_STREAM < stream.len() {

@@ -5,8 +5,7 @@ use crate::record::Decoder;
 use crate::record::store_bytes;
 use conversion::pictures::fits;
 use conversion::pictures::write_picture;
-ghost use mathlib.Core.Path.{_≡_};
-ghost use Rattle.decoder.specs.Conversion as Conversion;
+ghost use Rattle.decoder.specs.Calls.{Converts};
 
 impl Decoder {
     // RULES Q: the questions 2, 6, 10, 11.
@@ -18,7 +17,7 @@ impl Decoder {
         w: usize,
         h: usize,
     ) -> Converted
-        ensures { λ r. ⌜ Conversion.area r (now (area .exit)) ≡ Conversion.converted self (now (store .entry)) index (now (area .entry)) w h ⌝ }
+        ensures { λ r. ⌜ Converts self (now (store .entry)) index (now (area .entry)) w h r (now (area .exit)) ⌝ }
     {
         if !possible(self) {
             return Converted::Refused(2);

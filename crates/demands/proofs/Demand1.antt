@@ -20,7 +20,7 @@ use Rattle.decoder.specs.Record.{CallResult, fresh, storeBytes}
 use Rattle.decoder.specs.Possible.{possible}
 use Rattle.decoder.specs.Conversion.{Area}
 use Rattle.decoder.specs.Answers.{openingErrorCode, decodeErrorCode, conversionErrorCode}
-use Rattle.demands.specs.Calls.{Opens, Decodes, Converts}
+use Rattle.decoder.specs.Calls.{Opens, Decodes, Converts}
 use Rattle.demands.specs.Checks.{firstFailing, IsFirstFailing, withHeader, withHeaderRead, openingChecks, decodeChecks, conversionChecks}
 use Rattle.demands.specs.ErrorCodes.{member, openingErrorCodes, decodeErrorCodes, conversionErrorCodes}
 use Rattle.demands.specs.After.{AfterHeader, AfterOpening, AfterDecode}

@@ -27,7 +27,7 @@ use Rattle.decoder.specs.Record.{CallResult, fresh, storeBytes}
 use Rattle.decoder.specs.Possible.{possible}
 use Rattle.decoder.specs.Conversion.{Area}
 use Rattle.decoder.specs.Answers.{openingErrorCode, decodeErrorCode, conversionErrorCode}
-use Rattle.demands.specs.Calls.{Opens, Decodes, Converts}
+use Rattle.decoder.specs.Calls.{Opens, Decodes, Converts}
 use Rattle.demands.specs.Checks.{check, firstFailing, this-one, withHeader, withHeaderRead, openingChecks, decodeChecks, conversionChecks}
 use Rattle.demands.specs.Stores.{SameFrom}
 use Rattle.demands.specs.Outputs.{OpeningLeaves, DecodeOutputs}

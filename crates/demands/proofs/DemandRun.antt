@@ -1,24 +1,61 @@
 -- RULES D2.5, R.1 to R.3: of the calls that follow an opening, whatever it answered. By their contracts the calls gave r and rs (Calls.antt); a stream is
 -- one of bytes, as every slice that is lent is.
-use mathlib.Core.Path.{_≡_, refl, sym, ap, subst, _∙_}
+use mathlib.Core.Path.{_≡_, refl, sym, ap, ap₂, subst, _∙_}
 use mathlib.Core.Bool.{true, false}
 use mathlib.Core.List.{List, []}
-use Prim.Native.Nat.{ℕ, _+_, _*_, _/_, _≤_, _<_}
+use Prim.Native.Nat.{ℕ, zero, suc, _+_, _*_, _/_, _≤_, _<_}
 use native.Mathlib.Omega.{arith}
 use lib.Dec.{leb}
 use lib.ListN.{length, getD}
 use Rattle.decoder.specs.declared.answers.{Opening.Opening, Opened.Opened, DecodeResult.DecodeResult}
 use Rattle.playback.specs.declared.outcome.Outcome.{Outcome}
 use Rattle.playback.specs.declared.outcome.Outcome.the-variants as H
-use Rattle.decoder.specs.Record.{CallResult}
+use Rattle.decoder.specs.Record.{CallResult, callResult}
 use Rattle.decoder.specs.Possible.{possible}
-use Rattle.decoder.specs.Run.{CallState, callState, stateAfter, stateAfterOpening, pictureIn}
+use Rattle.decoder.specs.Run.{CallState, callState, call, stateAfter, stateAfterOpening, before, answer, pictureIn, picturesOutput}
 use Rattle.decoder.specs.Answers.{decodeErrorCode}
-use Rattle.demands.specs.Calls.{Opens, Calls, none, and-then, picturesIn, AllSeven, StaySeven}
+use Rattle.decoder.specs.Calls.{Opens, Decodes}
+use Rattle.demands.specs.Calls.{Calls, none, and-then, picturesIn, AllSeven, StaySeven}
 use Rattle.demands.proofs.Waiting.{fresh-waits}
 use Rattle.demands.proofs.RunCall.{Between, Resting, waits-possible, stuck-call, call-on, few, admitted}
 use Rattle.demands.proofs.Run.{by-length, opening-begins, long-call, long-begin}
 use Rattle.bits.specs.Bounds.{longestStream}
+
+-- ---- a run of calls is the run of `call` (decoder, Run.antt)
+
+before-suc : (s : List ℕ) (x : CallState) (n : ℕ) → before s x (suc n) ≡ before s (stateAfter (call s x)) n
+unfolding before
+before-suc s x zero = refl
+before-suc s x (suc n) = ap (λ (y : CallState). stateAfter (call s y)) (before-suc s x n)
+
+answer-suc : (s : List ℕ) (x : CallState) (n : ℕ) → answer s x (suc n) ≡ answer s (stateAfter (call s x)) n
+unfolding answer
+answer-suc s x n = ap (λ (y : CallState). call s y .answer) (before-suc s x n)
+
+output-suc : (s : List ℕ) (x : CallState) (n : ℕ) → picturesOutput s x (suc n) ≡ pictureIn (call s x .answer) + picturesOutput s (stateAfter (call s x)) n
+unfolding picturesOutput answer before
+output-suc s x zero = omega arith
+output-suc s x (suc n) = omega (arith, output-suc s x n, ap pictureIn (answer-suc s x n))
+
+-- a call that decodes is `call`
+pub decodes-call : (s : List ℕ) (x : CallState) (r : DecodeResult) (m : List ℕ) → Decodes (x .decoder) s (x .store) r m
+    → callResult (r .outcome) (r .decoder) m ≡ call s x
+decodes-call s x r m gave = gave
+
+pub calls-before : {s : List ℕ} {x : CallState} {rs : List DecodeResult} {y : CallState} → Calls s x rs y → y ≡ before s x (length rs)
+unfolding before
+calls-before none = refl
+calls-before {s} {x} (and-then {r = r} {m = m} {rs = rs} gave k) =
+    calls-before k ∙ ap (λ (q : CallResult Outcome). before s (stateAfter q) (length rs)) (decodes-call s x r m gave) ∙ sym (before-suc s x (length rs))
+
+pub calls-output : {s : List ℕ} {x : CallState} {rs : List DecodeResult} {y : CallState} → Calls s x rs y → picturesIn rs ≡ picturesOutput s x (length rs)
+unfolding picturesIn picturesOutput
+calls-output none = refl
+calls-output {s} {x} (and-then {r = r} {m = m} {rs = rs} gave k) =
+    let e = decodes-call s x r m gave in
+    ap₂ _+_ (ap (λ (q : CallResult Outcome). pictureIn (q .answer)) e)
+    (calls-output k ∙ ap (λ (q : CallResult Outcome). picturesOutput s (stateAfter q) (length rs)) e)
+    ∙ sym (output-suc s x (length rs))
 
 module _ (s : List ℕ) (short : length s ≤ longestStream) (bytes : (k : ℕ) → getD s k 0 < 256) where
   calls-on : {x : CallState} {n : ℕ} {rs : List DecodeResult} {y : CallState} → Between s x n → Calls s x rs y → Between s y (n + picturesIn rs)

@@ -13,7 +13,7 @@ use Rattle.playback.specs.declared.outcome.Outcome.{Outcome}
 use Rattle.decoder.specs.Record.{CallResult, callResult}
 use Rattle.decoder.specs.Opening.{opening}
 use Rattle.decoder.specs.Run.{CallState, callState, stateAfter}
-use Rattle.demands.specs.Calls.{Opens}
+use Rattle.decoder.specs.Calls.{Opens}
 use Rattle.demands.specs.Display.{CodedPicture, displayed, waiting, displayOrder, AllDecoded, decodeReads, shownBy, CallsOutput, none, and-then}
 use Rattle.demands.proofs.RunCall.{accepted-keeps}
 use Rattle.demands.proofs.Run.{by-length, opening-leaves, long-call}

@@ -24,7 +24,7 @@ use Rattle.playback.specs.Steps.{DecodingState, LoopEnd, atPicture, pictureStep
 use Rattle.playback.specs.Cases.{isPictureReady}
 use Rattle.decoder.specs.Record.{fresh, decodingStateOf, position, startCode, storeBytes}
 use Rattle.decoder.specs.Possible.{possible}
-use Rattle.demands.specs.Calls.{Opens, Decodes}
+use Rattle.decoder.specs.Calls.{Opens, Decodes}
 use Rattle.demands.specs.Codes.{SequenceAt}
 use Rattle.demands.specs.Checks as Q
 use Rattle.demands.specs.Checks.{Check, check, IsFirstFailing, this-one, a-later, withHeader, pictureEnd, stepChecks, picturesChecks, openingChecks}

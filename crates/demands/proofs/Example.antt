@@ -39,7 +39,7 @@ use Rattle.picture.specs.Pictures as P
 use Rattle.header.specs.Store.{cleared}
 use Rattle.header.specs.Sequences.{matrix, size, rest}
 use Rattle.decoder.specs.Record.{CallResult, fresh}
-use Rattle.decoder.specs.Answers.{picture, number, decodeAnswer}
+use Rattle.decoder.specs.Answers.{result, number, decodeAnswer}
 use Rattle.laws.specs.Each.{allBelow}
 use Rattle.decoder.specs.Possible.{possible}
 use Rattle.decoder.specs.Headers.{findSequence, accepted, checkSize, checkHeader, checkStore}
@@ -141,13 +141,13 @@ behindFlush = decode (flush .decoder) flushing (flush .store)
 -- what the hand-outs give
 pub record Pictures : Type 0 where
   -- the I picture, out of store 0
-  pub hands : decodeAnswer (second .answer) ≡ picture 0 (ofInt binary64 (pos 0))
+  pub hands : decodeAnswer (second .answer) ≡ result (record { store = 0; time = ofInt binary64 (pos 0) })
   -- the first row of its plane Y
   pub intra-row : take 32 (second .store) ≡ replicate 16 133 ++ replicate 16 128
   -- and of that of the P picture in store 1, where one sample is the average of 133 and 128
   pub predictive-row : take 32 (drop 768 (second .store)) ≡ replicate 16 133 ++ (131 ∷ replicate 15 128)
   -- the B picture, out of store 2, a 25th of a second later (RULES 8.9)
-  pub hands-next : decodeAnswer (third .answer) ≡ picture 2 (div binary64 (ofInt binary64 (pos 1)) (ofInt binary64 (pos 25)))
+  pub hands-next : decodeAnswer (third .answer) ≡ result (record { store = 2; time = div binary64 (ofInt binary64 (pos 1)) (ofInt binary64 (pos 25)) })
   -- its first row, where 132 is the average of 131, by which the I picture predicts, and of 133, by which the P picture does
   pub both-ways-row : take 32 (drop 1536 (third .store)) ≡ replicate 15 133 ++ (132 ∷ 132 ∷ 130 ∷ replicate 14 128)
   -- RULES 7.19: a skip in a P picture sets the vector to 0
@@ -155,7 +155,7 @@ pub record Pictures : Type 0 where
   -- and one in a B picture does not: the last of its samples is the average of 128 and 138
   pub skipped-both-row : take 48 (drop 2304 (skips .store)) ≡ replicate 15 133 ++ (131 ∷ replicate 15 128) ++ (133 ∷ 131 ∷ 136 ∷ replicate 14 138)
   -- RULES 8.8, 8.11: the picture that is held at the exact end is flushed, with the time shown before
-  pub flushes : decodeAnswer (flush .answer) ≡ picture 0 (ofInt binary64 (pos 0))
+  pub flushes : decodeAnswer (flush .answer) ≡ result (record { store = 0; time = ofInt binary64 (pos 0) })
   -- once
   pub flushes-once : decodeAnswer (behindFlush .answer) ≡ number 7
 

@@ -14,6 +14,7 @@ use Rattle.decoder.specs.declared.answers.Opening.{Opening}
 use Rattle.decoder.specs.declared.answers.Opening.the-variants as O
 use Rattle.playback.specs.declared.outcome.Outcome.{Outcome}
 use Rattle.playback.specs.declared.outcome.Outcome.the-variants as H
+use Rattle.decoder.specs.Answers.{result, number, openingAnswer, decodeAnswer}
 use Rattle.decoder.specs.Opening.{opening}
 use Rattle.decoder.specs.Run.{CallState, callState, call, pictureIn}
 use Rattle.decoder.specs.Listing.{Line, line, linesFrom, linesOf, listing}
@@ -25,7 +26,7 @@ use Rattle.demands.proofs.Run.{opening-begins}
 
 -- the line of an answer, and those behind it
 abbrev lines : ℕ → Outcome → Decoder → List Line → List Line
-lines n o d t = elim o [ H.Picture p ↦ line (n + 1) (p .store) (d .state .picture .«picture_type») 0 ∷ t | H.Refused a ↦ line n 0 0 a ∷ [] ]
+lines n o d t = elim (decodeAnswer o) [ result p ↦ line (n + 1) (p .store) (d .state .picture .«picture_type») 0 ∷ t | number a ↦ line n 0 0 a ∷ [] ]
 
 module _ (s : List ℕ) (most : length s ≤ longestStream) (bytes : (k : ℕ) → getD s k 0 < 256) where
   lines-from : (j n : ℕ) (x : CallState) → Between s x n → 8 * length s / 29 + 1 < n + j → Lines n (linesFrom j s n (x .decoder) (x .store))
@@ -48,7 +49,7 @@ module _ (s : List ℕ) (most : length s ≤ longestStream) (bytes : (k : ℕ) �
       (λ a e. opening-positive a (opening-named (opening-after s l a e .0)))
     where
       go : (o : Opening) (d : Decoder) (m : List ℕ) → Between s (callState d m) 0 → ((a : ℕ) → o ≡ O.Refused a → 1 ≤ a)
-          → Lines 0 (elim o [ O.Ready ↦ linesFrom many s 0 d m | O.Refused a ↦ line 0 0 0 a ∷ [] ])
+          → Lines 0 (elim (openingAnswer o) [ result y ↦ linesFrom many s 0 d m | number a ↦ line 0 0 0 a ∷ [] ])
       go O.Ready d m b q = lines-from many 0 (callState d m) b (omega arith)
       go (O.Refused a) d m b q = the-number a (q a refl)
 

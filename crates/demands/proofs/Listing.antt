@@ -14,7 +14,7 @@ use Rattle.picture.specs.Pictures as P
 use Rattle.header.specs.Store.{cleared}
 use Rattle.header.specs.Sequences.{matrix, size, rest}
 use Rattle.decoder.specs.Record.{CallResult, fresh}
-use Rattle.decoder.specs.Answers.{success, picture, number, openingAnswer, decodeAnswer}
+use Rattle.decoder.specs.Answers.{result, number, openingAnswer, decodeAnswer}
 use Rattle.laws.specs.Each.{allBelow}
 use Rattle.decoder.specs.Possible.{possible}
 use Rattle.decoder.specs.Headers.{findSequence, accepted, checkSize, checkHeader, checkStore}
@@ -50,10 +50,10 @@ third = decode (second .decoder) example (second .store)
 
 -- what they give, and what the listing prints
 pub record Listed : Type 0 where
-  pub opens : openingAnswer (first .answer) ≡ success
+  pub opens : openingAnswer (first .answer) ≡ result tt
   pub clears : first .store ≡ replicate 1152 0
   -- the first picture is handed out of store 0, at the time 0
-  pub hands : decodeAnswer (second .answer) ≡ picture 0 (ofInt binary64 (pos 0))
+  pub hands : decodeAnswer (second .answer) ≡ result (record { store = 0; time = ofInt binary64 (pos 0) })
   -- the third picture is the last of the stream, and is never decoded (RULES 8.3)
   pub ends : decodeAnswer (third .answer) ≡ number 7
   -- RULES L.5

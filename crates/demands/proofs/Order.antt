@@ -20,7 +20,7 @@ use Rattle.decoder.specs.Possible.{possible}
 use Rattle.playback.specs.Steps.{atPicture}
 use Rattle.playback.specs.Cases.{isPictureReady, isFlush}
 use Rattle.decoder.specs.Decode.{startState}
-use Rattle.demands.specs.Calls.{Decodes}
+use Rattle.decoder.specs.Calls.{Decodes}
 use Rattle.demands.specs.Checks as Q
 use Rattle.demands.specs.Checks.{Check, check, firstFailing, withHeader, pictureEnd, stepChecks, picturesChecks, decodeChecks}
 use Rattle.demands.proofs.Checks.{is-first}

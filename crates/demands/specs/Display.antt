@@ -17,13 +17,13 @@ use Rattle.playback.specs.Steps.{DecodingState, atPicture, pictureRun, pictureS
 use Rattle.playback.specs.Cases.{isPictureReady, isB}
 use Rattle.decoder.specs.declared.record.Decoder.{Decoder}
 use Rattle.playback.specs.declared.outcome.Outcome.{Outcome}
-use Rattle.playback.specs.declared.outcome.Outcome.the-variants as H
 use Rattle.decoder.specs.declared.answers.DecodeResult.{DecodeResult}
+use Rattle.decoder.specs.Answers.{result, number, decodeAnswer}
+use Rattle.decoder.specs.Calls.{Decodes}
 use Rattle.decoder.specs.Possible.{possibleWith}
 use Rattle.decoder.specs.Headers.{CheckResult, refused, passed}
 use Rattle.decoder.specs.Decode.{checkHeaderAndStore, startState}
 use Rattle.decoder.specs.Run.{CallState, callState}
-use Rattle.demands.specs.Calls.{Decodes}
 
 -- ---- the rule
 
@@ -85,7 +85,7 @@ decodeReads d s l = if leb (length s) longestStream && possibleWith s d && eqb (
 
 -- the picture that it hands out: the samples of the store that it names
 abbrev pub shownBy : Outcome → Decoder → List ℕ → List (List ℕ)
-shownBy o x m = elim o [ H.Picture i ↦ samplesOf (x .sequence .sizes .«mb_size») (i .store) m ∷ [] | H.Refused n ↦ [] ]
+shownBy o x m = elim (decodeAnswer o) [ result i ↦ samplesOf (x .sequence .sizes .«mb_size») (i .store) m ∷ [] | number n ↦ [] ]
 
 -- calls with one stream, each given what the one before it left: what they show, and what they read
 pub data CallsOutput (s : List ℕ) : CallState → List (List ℕ) → List CodedPicture → CallState → Type 0 where

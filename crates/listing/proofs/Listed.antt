@@ -13,6 +13,7 @@ use Rattle.decoder.specs.declared.answers.Opening.{Opening}
 use Rattle.decoder.specs.declared.answers.Opening.the-variants as O
 use Rattle.playback.specs.declared.outcome.Outcome.the-variants as H
 use Rattle.decoder.specs.Record.{CallResult, callResult}
+use Rattle.decoder.specs.Answers.{result, number, decodeAnswer}
 use Rattle.decoder.specs.Opening.{opening}
 use Rattle.decoder.specs.Decode.{decode}
 use Rattle.decoder.specs.Run.{callState, stateAfter, pictureIn}
@@ -62,9 +63,9 @@ refused-listed s d l a h e = opened-lines s (callResult (O.Refused a) d l) h e
 
 -- the lines from a call on, which left x
 abbrev lines : ℕ → ℕ → List ℕ → CallResult Outcome → List Line
-lines k n s x = elim (x .answer) [
-  | H.Picture p ↦ line (n + 1) (p .store) (x .decoder .state .picture .«picture_type») 0 ∷ linesFrom k s (n + 1) (x .decoder) (x .store)
-  | H.Refused answer ↦ line n 0 0 answer ∷ []
+lines k n s x = elim (decodeAnswer (x .answer)) [
+  | result p ↦ line (n + 1) (p .store) (x .decoder .state .picture .«picture_type») 0 ∷ linesFrom k s (n + 1) (x .decoder) (x .store)
+  | number answer ↦ line n 0 0 answer ∷ []
 ]
 
 lines-are : (k n : ℕ) (s l : List ℕ) (d : Decoder) (x : CallResult Outcome) → x ≡ decode d s l → linesFrom (suc k) s n d l ≡ lines k n s x

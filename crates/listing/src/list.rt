@@ -8,12 +8,13 @@ ghost use mathlib.Core.Path.{_≡_};
 ghost use Prim.Native.Nat.{_≤_};
 ghost use lib.ListN.{length, replicate, take};
 ghost use Rattle.io.specs.Counts.{Counts};
+ghost use Rattle.decoder.specs.Answers.{decodeErrorCode};
 ghost use Rattle.decoder.specs.Listing.{listing};
-ghost use Rattle.listing.specs.Text.{numberIn, Opens, linesText, listingText, Wrote};
+ghost use Rattle.listing.specs.Text.{Opens, linesText, listingText, Wrote};
 
 // The number of an answer that is no picture.
 fn number(outcome: Outcome) -> u64
-    ensures { λ r. ⌜ r ≡ numberIn outcome ⌝ }
+    ensures { λ r. ⌜ r ≡ decodeErrorCode outcome ⌝ }
 {
     match outcome {
         Outcome::Picture(_) => 0,

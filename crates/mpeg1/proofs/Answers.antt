@@ -9,13 +9,12 @@ use lib.ListN.{length}
 use Rattle.decoder.specs.declared.record.Decoder.{Decoder}
 use Rattle.decoder.specs.declared.answers.{Opening.Opening, Converted.Converted}
 use Rattle.playback.specs.declared.outcome.Outcome.{Outcome}
-use Rattle.playback.specs.declared.outcome.Outcome.the-variants as H
 use Rattle.decoder.specs.Record.{callResult}
 use Rattle.decoder.specs.Opening.{opening}
 use Rattle.decoder.specs.Decode.{decode}
 use Rattle.decoder.specs.Conversion as Conversion
 use Rattle.memory.specs.Memory.{Memory, over, written, recordOf, hasRoom, isRecord}
-use Rattle.decoder.specs.Answers.{openingErrorCode, conversionErrorCode}
+use Rattle.decoder.specs.Answers.{result, number, decodeAnswer, openingErrorCode, conversionErrorCode}
 use Rattle.mpeg1.specs.Calls.{hostResult, HostOutput, hostOutput, pictureNumbers, pictureCount, opensIn, RefinesDecode, decodesIn, converts, convertsIn}
 use Rattle.bits.specs.Bounds.{longestStream}
 
@@ -35,9 +34,9 @@ module _ (s l : List ℕ) (x : Memory) where
 
 -- what is left and shown of an answer
 abbrev pub told : Outcome → List ℕ → Memory → List ℕ → Float → HostOutput
-told a store z k t = elim a [
-  | H.Picture p ↦ hostOutput (hostResult 0 store z) (over (pictureNumbers p) k) (p .time)
-  | H.Refused n ↦ hostOutput (hostResult n store z) k t
+told a store z k t = elim (decodeAnswer a) [
+  | result p ↦ hostOutput (hostResult 0 store z) (over (pictureNumbers p) k) (p .time)
+  | number n ↦ hostOutput (hostResult n store z) k t
 ]
 
 module _ (s l : List ℕ) (x : Memory) (k : List ℕ) (time : Float) where

@@ -11,9 +11,8 @@ use Rattle.bits.specs.Bounds.{longestStream}
 use Rattle.bits.specs.Programs.{if_then_else_}
 use Rattle.header.specs.State.{noTime}
 use Rattle.playback.specs.declared.outcome.{Outcome.Outcome, Shown.Shown}
-use Rattle.playback.specs.declared.outcome.Outcome.the-variants as H
 use Rattle.decoder.specs.Record.{CallResult}
-use Rattle.decoder.specs.Answers.{openingErrorCode, conversionErrorCode}
+use Rattle.decoder.specs.Answers.{result, number, decodeAnswer, openingErrorCode, conversionErrorCode}
 use Rattle.decoder.specs.Opening.{opening}
 use Rattle.decoder.specs.Decode.{decode}
 use Rattle.decoder.specs.Conversion as Conversion
@@ -62,9 +61,9 @@ pub record RefinesDecode (answer : Outcome) (store : List ℕ) (z : Memory) (y :
 
 -- RULES 8.9: a picture's numbers, over the beginning of what is lent, and its time; or those from before
 abbrev pub decodeOutput : CallResult Outcome → Memory → List ℕ → Float → HostOutput
-decodeOutput y x k t = elim (y .answer) [
-  | H.Picture p ↦ hostOutput (saved 0 y x) (over (pictureNumbers p) k) (p .time)
-  | H.Refused m ↦ hostOutput (saved m y x) k t
+decodeOutput y x k t = elim (decodeAnswer (y .answer)) [
+  | result p ↦ hostOutput (saved 0 y x) (over (pictureNumbers p) k) (p .time)
+  | number m ↦ hostOutput (saved m y x) k t
 ]
 
 -- RULES Q: question 1, then whether the memory holds a record and there is room for a picture's numbers, which is part of question 2, and the

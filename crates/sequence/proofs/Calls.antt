@@ -15,6 +15,7 @@ use Rattle.picture_state.proofs.Possible.{stores-of}
 use Rattle.standard.specs.Standard as S
 use Rattle.standard.proofs.Related.{Rule}
 use Rattle.decoder.specs.declared.record.Decoder.{Decoder}
+use Rattle.decoder.specs.declared.answers.{Opening.Opening, Opened.Opened}
 use Rattle.decoder.specs.declared.answers.Opening.the-variants as O
 use Rattle.playback.specs.declared.outcome.{Shown.Shown, Outcome.Outcome}
 use Rattle.playback.specs.declared.outcome.Outcome.the-variants as H
@@ -24,7 +25,8 @@ use Rattle.playback.specs.Steps.{DecodingState, LoopEnd, finished, pictureStep}
 use Rattle.decoder.specs.Record.{CallResult, callResult, decodingStateOf, withDecodingState, position}
 use Rattle.decoder.specs.Opening.{opening}
 use Rattle.decoder.specs.Decode as C
-use Rattle.decoder.specs.Run.{CallState, callState, call, stateAfter, stateAfterOpening}
+use Rattle.decoder.specs.Calls.{Opens}
+use Rattle.decoder.specs.Run.{CallState, callState, call, stateAfter}
 use Rattle.demands.proofs.Keeps.{Keeps, keeps-resumed}
 use Rattle.demands.proofs.RunSteps.{hands, flushes}
 use Rattle.demands.proofs.RunCall.{EndsFrom, steps-end, keeps-call}
@@ -69,8 +71,8 @@ module _ (s : List ℕ) (long : length s ≤ longestStream) (bytes : (k : ℕ) �
       held-calls c [] n x a y w g k held h v i j kept e =
           let turn = last-step rule s long z m x a y v c (inverted rule s z m n x a c [] h) in
           let ends = e ∙ steps-stop (pictureStep s z m) k unfinished y _ turn in
-          ap (λ (r : CallResult Outcome). r .answer)
-          (keeps-call s long (withDecodingState d g) (g .store) kept ∙ ap (C.callResultOf (withDecodingState d g) (withDecodingState d g)) ends)
+          λ r l gave. ap (λ (r : CallResult Outcome). r .answer)
+          (gave ∙ keeps-call s long (withDecodingState d g) (g .store) kept ∙ ap (C.callResultOf (withDecodingState d g) (withDecodingState d g)) ends)
       held-calls c (c′ ∷ cs) n x a y w g k held h v i j kept e =
           let q = inverted rule s z m n x a c (c′ ∷ cs) h in
           let o = handing rule s long z m x a y v c c′ cs q area i held w j in
@@ -83,12 +85,11 @@ module _ (s : List ℕ) (long : length s ≤ longestStream) (bytes : (k : ℕ) �
           (subst (EndsFrom s long bytes (withDecodingState d g) kept (frames (g .state))) ends (steps-end s long bytes (withDecodingState d g) kept)) in
           let rest = held-calls c′ cs (q .fuel) (stateAfterDecoded x c) _ (o .left) (o .next) (o .left) 1 (o .hasReferenceFrame) (q .rest) (o .waiting)
           (sound-after rule s z m area x a c (c′ ∷ cs) q i) (o .waits) kept′ refl in
-          subst (OutputsInOrder (z .«mb_size») s (at g)) (sym (o .order (allButLast (c′ ∷ cs)))) (
-            ap (λ (r : CallResult Outcome). r .answer) left-is
-                ∙ ap (λ (r : CallResult Outcome). H.Picture (shownPicture (storeOf (o .picture)) (r .decoder .state))) (sym left-is),
-            subst (λ (l : List ℕ). StoreHolds (z .«mb_size») l (o .picture)) (sym (ap (λ (r : CallResult Outcome). r .store) left-is ∙ o .pels)) (o .holds),
-            subst (λ (g : CallState). OutputsInOrder (z .«mb_size») s g (displayed (o .next) (allButLast (c′ ∷ cs)))) (sym (ap stateAfter left-is)) rest,
-          )
+          subst (OutputsInOrder (z .«mb_size») s (at g)) (sym (o .order (allButLast (c′ ∷ cs)))) (λ r l gave.
+          subst (λ (q : CallResult Outcome). (q .answer ≡ H.Picture (shownPicture (storeOf (o .picture)) (q .decoder .state)))
+          × StoreHolds (z .«mb_size») (q .store) (o .picture)
+          × OutputsInOrder (z .«mb_size») s (stateAfter q) (displayed (o .next) (allButLast (c′ ∷ cs)))) (sym (gave ∙ left-is))
+          (refl, subst (λ (l : List ℕ). StoreHolds (z .«mb_size») l (o .picture)) (sym (o .pels)) (o .holds), rest))
 
       -- from the first on
       first-calls : (ds : List S.Decoded) (n : ℕ) (x : SequenceState) (a : ℕ) (y : DecodingState) → x .hasReferenceFrame ≡ false
@@ -98,7 +99,7 @@ module _ (s : List ℕ) (long : length s ≤ longestStream) (bytes : (k : ℕ) �
       first-calls [] n x a y held h w i kept = no-pictures rule s z m n x a held h
       first-calls (c ∷ []) n x a y held h w i kept =
           let turn = last-step rule s long z m x a y w c (inverted rule s z m n x a c [] h) in
-          ap (λ (r : CallResult Outcome). r .answer) (keeps-call s long (withDecodingState d y) (y .store) kept
+          λ r l gave. ap (λ (r : CallResult Outcome). r .answer) (gave ∙ keeps-call s long (withDecodingState d y) (y .store) kept
           ∙ ap (C.callResultOf (withDecodingState d y) (withDecodingState d y)) (steps-stop (pictureStep s z m) 1 unfinished y _ turn))
       first-calls (c ∷ c′ ∷ cs) n x a y held h w i kept =
           let q = inverted rule s z m n x a c (c′ ∷ cs) h in
@@ -109,15 +110,23 @@ module _ (s : List ℕ) (long : length s ≤ longestStream) (bytes : (k : ℕ) �
 
 -- ---- the whole
 
-module _ (rule : Rule) (s l : List ℕ) (bytes : (k : ℕ) → getD s k 0 < 256) (ready : opening s l .answer ≡ O.Ready) where
-  abbrev first : Decoder
-  first = opening s l .decoder
+module _ (rule : Rule) (s : List ℕ) (bytes : (k : ℕ) → getD s k 0 < 256) where
+  -- the calls behind an opening that left this
+  abbrev Shows : CallResult Opening → Type 0
+  Shows q = let d = q .decoder in (ds : List S.Decoded)
+      → pictures (rule .rules) (d .sequence .sizes) (d .sequence .matrices) s many (initialState (q .store)) (position d) ≡ ok ds
+      → OutputsInOrder (d .sequence .sizes .«mb_size») s (callState d (q .store)) (shown (allButLast ds))
 
-  -- from an opening that accepts the first header on: where the pictures behind it conform, the calls hand them out as they are shown
-  pub pictures-output : (ds : List S.Decoded)
-      → pictures (rule .rules) (first .sequence .sizes) (first .sequence .matrices) s many (initialState (opening s l .store)) (position first) ≡ ok ds
-      → OutputsInOrder (first .sequence .sizes .«mb_size») s (stateAfterOpening s l) (shown (allButLast ds))
-  pictures-output ds h =
+  opened-shows : (l : List ℕ) → opening s l .answer ≡ O.Ready → Shows (opening s l)
+  opened-shows l ready ds h =
       let r = readied s l ready in
-      first-calls s (r .short) bytes rule first (r .starting .1) ds many (initialState (opening s l .store)) (position first)
-      (decodingStateOf first (opening s l .store)) refl h (r .starting .0) (record { three = stores-of _ refl; long = r .keeps .step .long }) (r .keeps)
+      let d = opening s l .decoder in
+      first-calls s (r .short) bytes rule d (r .starting .1) ds many (initialState (opening s l .store)) (position d)
+      (decodingStateOf d (opening s l .store)) refl h (r .starting .0) (record { three = stores-of _ refl; long = r .keeps .step .long }) (r .keeps)
+
+  -- from a call of `open` that accepts the first header on: where the pictures behind it conform, the calls hand them out as they are shown
+  pub pictures-output : (l : List ℕ) (r : Opened) (m : List ℕ) → Opens s l r m → r .answer ≡ O.Ready → (ds : List S.Decoded)
+      → pictures (rule .rules) (r .decoder .sequence .sizes) (r .decoder .sequence .matrices) s many (initialState m) (position (r .decoder)) ≡ ok ds
+      → OutputsInOrder (r .decoder .sequence .sizes .«mb_size») s (callState (r .decoder) m) (shown (allButLast ds))
+  pictures-output l r m gave ready =
+      subst Shows (sym gave) (opened-shows l (ap (λ (q : CallResult Opening). q .answer) (sym gave) ∙ ready))

@@ -8,7 +8,9 @@ use Rattle.bits.specs.Programs.{if_then_else_}
 use Rattle.standard.specs.Standard.{Decoded}
 use Rattle.playback.specs.declared.outcome.Outcome.the-variants.{Picture, Refused}
 use Rattle.playback.specs.State.{shownPicture}
-use Rattle.decoder.specs.Run.{CallState, call, stateAfter}
+use Rattle.decoder.specs.declared.answers.DecodeResult.{DecodeResult}
+use Rattle.decoder.specs.Calls.{Decodes}
+use Rattle.decoder.specs.Run.{CallState, callState}
 
 -- 2.4.1: a B picture is shown at once; an I or P picture waits for the next one, so that the B pictures between them come first. w is the one that waits
 abbrev pub displayed : Decoded → List Decoded → List Decoded
@@ -34,9 +36,9 @@ storeOf d = if eqb (d .header .«picture_coding_type») 3 then d .stores .cur el
 abbrev pub StoreHolds : ℕ → List ℕ → Decoded → Type 0
 StoreHolds n l d = (i : ℕ) → i < 384 * n → getD l (storeOf d * (384 * n) + i) 0 ≡ getD (d .pels) (storeOf d * (384 * n) + i) 0
 
--- the calls from y on hand out these pictures, one after the other, and leave their samples in the store; then the answer is 7
+-- the calls of `decode` from y on, whatever they give by their contract, hand out these pictures, one after the other, and leave their samples in the
+-- store; then the answer is 7
 abbrev pub OutputsInOrder : ℕ → List ℕ → CallState → List Decoded → Type 0
-OutputsInOrder n s y [] = call s y .answer ≡ Refused 7
-OutputsInOrder n s y (d ∷ ds) =
-    (call s y .answer ≡ Picture (shownPicture (storeOf d) (call s y .decoder .state))) × StoreHolds n (call s y .store) d
-    × OutputsInOrder n s (stateAfter (call s y)) ds
+OutputsInOrder n s y [] = (r : DecodeResult) (m : List ℕ) → Decodes (y .decoder) s (y .store) r m → r .outcome ≡ Refused 7
+OutputsInOrder n s y (d ∷ ds) = (r : DecodeResult) (m : List ℕ) → Decodes (y .decoder) s (y .store) r m
+    → (r .outcome ≡ Picture (shownPicture (storeOf d) (r .decoder .state))) × StoreHolds n m d × OutputsInOrder n s (callState (r .decoder) m) ds

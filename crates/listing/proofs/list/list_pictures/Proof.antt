@@ -10,7 +10,8 @@ use Rattle.playback.specs.declared.outcome.Outcome.the-variants as H
 use Rattle.decoder.specs.Record.{callResult}
 use Rattle.decoder.specs.Decode.{decode}
 use Rattle.decoder.specs.Listing.{line}
-use Rattle.listing.specs.Text.{Wrote, lineText, numberIn}
+use Rattle.decoder.specs.Answers.{decodeErrorCode}
+use Rattle.listing.specs.Text.{Wrote, lineText}
 use Rattle.listing.proofs.Writing.{wrote-length}
 use Rattle.listing.proofs.Listed.{Listed, listed-few, listed-end, listed-one, listed-first}
 use Rattle.listing.proofs.list.list_pictures.Statement.{statement}
@@ -71,7 +72,7 @@ returns c =
     let d = number n in
     let l = turn d .loop in
     let a = o .enum-told .given .0 .0 in
-    let e : n .number .result ≡ a = n .number .ensures ∙ ap numberIn (o .enum-told .given .1) in
+    let e : n .number .result ≡ a = n .number .ensures ∙ ap decodeErrorCode (o .enum-told .given .1) in
     let w = subst (λ (k : ℕ). Wrote (l .page) (l .at) (lineText (line (l .handed) 0 0 k)) (x .write-line .last .0) (x .write-line .result)) e
     (x .write-line .ensures .0) in (
       listed-end (l .inv .0) a (d .decode .result .decoder) (d .decode .last .1 .1 .0) (answered d (H.Refused a) (o .enum-told .given .1)) w,
