@@ -42,8 +42,8 @@ fn left(stream: &Value, calls: usize, lent: &Value) -> Value {
     let run = hand_outs(&stream.bytes(), calls);
     let answer = match run.handed.last() {
         _ if run.number != 0 => made("number", [number(run.number)]),
-        Some(last) => made("picture", [number(last.store), float(last.time)]),
-        None => made("success", []),
+        Some(last) => made("result", [record([("store", number(last.store)), ("time", float(last.time))])]),
+        None => made("result", [made("tt", [])]),
     };
     let store = [bytes(&run.stores).list(), &lent.list()[run.stores.len()..]].concat();
     record([("answer", answer), ("decoder", made("calls", [number(calls)])), ("store", Value::List(store))])
@@ -116,13 +116,13 @@ fn meaning(name: &str, given: Vec<Value>) -> Value {
         ("decode", [Value::Made(_, calls), stream, store]) => hand_out(&calls[0], stream, store),
         ("openingAnswer" | "decodeAnswer", [answer]) => answer.clone(),
         ("listing", [stream]) => listing(stream),
-        ("Ready", []) => made("success", []),
+        ("Ready", []) => made("result", [made("tt", [])]),
         ("types", [Value::Made(_, given)]) => types(&given[0]),
         ("rows", [Value::Made(_, given)]) => rows(&given[0]),
         ("run", [Value::Made(_, given), stream, Value::Number(0)]) => run(given, stream),
         ("storeOf", [way]) => store_of(way),
         ("P.pictureState", [picture, left, store]) => record([("picture", picture.clone()), ("block_data", left.clone()), ("store", store.clone())]),
-        ("binary64" | "true" | "false" | "success" | "picture" | "number" | "line" | "error" | "P.picture" | "decoded", _) => made(name, given),
+        ("binary64" | "true" | "false" | "tt" | "result" | "number" | "line" | "error" | "P.picture" | "decoded", _) => made(name, given),
         _ => panic!("no meaning is known of {name}, applied to {} values", given.len()),
     }
 }

@@ -29,7 +29,7 @@ use Rattle.decoder.proofs.Fits.{possible-parts}
 use Rattle.demands.specs.Checks.{withHeader, withHeaderRead}
 use Rattle.demands.specs.Stores.{SameFrom}
 use Rattle.demands.specs.After as A
-use Rattle.demands.specs.After.{AfterOpening, AfterDecode}
+use Rattle.demands.specs.After.{LeftByOpening, LeftByDecode}
 use Rattle.demands.specs.Outputs.{OpeningLeaves, DecodeOutputs}
 use Rattle.demands.proofs.AfterHeader.{CheckAfter, IsHeaded, header-after, header-passed}
 use Rattle.demands.proofs.Reached.{same-from, then-same, RoomFor, CallEnd, hands, seven, stops, pictures-end}
@@ -39,7 +39,7 @@ use Rattle.bits.specs.Bounds.{longestStream}
 -- ---- opening
 
 abbrev OpeningRow : List ℕ → List ℕ → Opening → Decoder → List ℕ → Type 0
-OpeningRow s l o x m = elim o [ O.Ready ↦ OpeningLeaves s l x m | O.Refused n ↦ AfterOpening s l n x × (m ≡ l) ]
+OpeningRow s l o x m = elim o [ O.Ready ↦ OpeningLeaves s l x m | O.Refused n ↦ LeftByOpening s l n x × (m ≡ l) ]
 
 abbrev OpenedRow : List ℕ → List ℕ → CallResult Opening → Type 0
 OpenedRow s l r = OpeningRow s l (r .answer) (r .decoder) (r .store)
@@ -59,7 +59,7 @@ opening-row s l =
     (λ e. opened-row s l (checkHeader s fresh) (header-after s fresh (leb-true (length s) longestStream e)) (header-passed s fresh))
     (λ e. (A.after-1 (leb-false (length s) longestStream e), refl))
 
-pub opening-after : (s l : List ℕ) (n : ℕ) → opening s l .answer ≡ O.Refused n → AfterOpening s l n (opening s l .decoder) × (opening s l .store ≡ l)
+pub opening-after : (s l : List ℕ) (n : ℕ) → opening s l .answer ≡ O.Refused n → LeftByOpening s l n (opening s l .decoder) × (opening s l .store ≡ l)
 opening-after s l n e = subst (λ (o : Opening). OpeningRow s l o (opening s l .decoder) (opening s l .store)) e (opening-row s l)
 
 pub opening-ready : (s l : List ℕ) → opening s l .answer ≡ O.Ready → OpeningLeaves s l (opening s l .decoder) (opening s l .store)
@@ -113,7 +113,7 @@ module _ (d : Decoder) (s l : List ℕ) where
   -- ---- a hand-out
 
   abbrev Answered : Outcome → Decoder → List ℕ → Type 0
-  Answered o x m = elim o [ H.Picture i ↦ DecodeOutputs d s l i x m | H.Refused n ↦ AfterDecode d s l n x m ]
+  Answered o x m = elim o [ H.Picture i ↦ DecodeOutputs d s l i x m | H.Refused n ↦ LeftByDecode d s l n x m ]
 
   record Row (r : CallResult Outcome) : Type 0 where
     after : Answered (r .answer) (r .decoder) (r .store)
@@ -126,7 +126,7 @@ module _ (d : Decoder) (s l : List ℕ) where
   abbrev matrices : Matrices
   matrices = withHeaderRead s d .sequence .matrices
 
-  module _ (long : storeBytes (withHeaderRead s d) ≤ length l) where
+  module _ (long : storeBytes (withHeaderRead s d) ≤ length l) (mark : d .stop ≡ 0) where
     on-to : {m : List ℕ} → SameFrom (storeBytes (withHeaderRead s d)) (startState d (withHeaderRead s d) l .store) m
         → SameFrom (storeBytes (withHeaderRead s d)) l m
     on-to h = then-same (begun-same (withHeaderRead s d) long) h
@@ -136,33 +136,33 @@ module _ (d : Decoder) (s l : List ℕ) where
     ended-row (hands k i h) =
         record { after = record { given = _; step = k .step; left = _; outputs = i; decoder = refl; store = refl }; same = on-to h }
     ended-row (seven k t u) = record { after = A.after-7 (k .step) t u; same = on-to (k .same) }
-    ended-row (stops k e c h) = record { after = A.after-8-9 (k .step) e c; same = on-to h }
+    ended-row (stops k t e c h) = record { after = A.after-8-9 mark t (k .step) e c; same = on-to h }
 
-  store-row : possible d ≡ true → Row (afterChecks s d l (checkStore d l (passed (withHeaderRead s d))))
+  store-row : possible d ≡ true → d .stop ≡ 0 → Row (afterChecks s d l (checkStore d l (passed (withHeaderRead s d))))
   unfolding afterChecks checkStore
-  store-row p =
+  store-row p mark =
       by-case (λ a. Row (afterChecks s d l a)) (leb (storeBytes (withHeaderRead s d)) (length l))
       (λ e. let h = leb-true (storeBytes (withHeaderRead s d)) (length l) e in
-      ended-row h (pictures-end s sizes matrices (startState d (withHeaderRead s d) l) (begun-room p h)))
+      ended-row h mark (pictures-end s sizes matrices (startState d (withHeaderRead s d) l) (begun-room p h)))
       (λ e. record { after = A.after-6 (leb-false (storeBytes (withHeaderRead s d)) (length l) e); same = same-from })
 
-  header-row : possible d ≡ true → d .sequence .«has_sequence_header» ≡ false → (a : CheckResult) → CheckAfter s d a → IsHeaded s d a
+  header-row : possible d ≡ true → d .stop ≡ 0 → d .sequence .«has_sequence_header» ≡ false → (a : CheckResult) → CheckAfter s d a → IsHeaded s d a
       → Row (afterChecks s d l (checkStore d l a))
   unfolding afterChecks checkStore
-  header-row p f (refused n x) h e = record { after = A.after-header f h; same = same-from }
-  header-row p f (passed x) h e =
+  header-row p mark f (refused n x) h e = record { after = A.after-header f h; same = same-from }
+  header-row p mark f (passed x) h e =
       let is : x ≡ withHeaderRead s d = e ∙ sym (rw f refl) in
-      subst (λ (y : Decoder). Row (afterChecks s d l (checkStore d l (passed y)))) (sym is) (store-row p)
+      subst (λ (y : Decoder). Row (afterChecks s d l (checkStore d l (passed y)))) (sym is) (store-row p mark)
 
-  first-row : length s ≤ longestStream → possible d ≡ true → Row (afterChecks s d l (checkHeaderAndStore s d l))
+  first-row : length s ≤ longestStream → possible d ≡ true → d .stop ≡ 0 → Row (afterChecks s d l (checkHeaderAndStore s d l))
   unfolding checkHeaderAndStore
-  first-row h p = go (d .sequence .«has_sequence_header») refl
+  first-row h p mark = go (d .sequence .«has_sequence_header») refl
     where
       go : (b : Bool) → d .sequence .«has_sequence_header» ≡ b → Row (afterChecks s d l (checkStore d l (cond b (passed d) (checkHeader s d))))
       go true e =
           let is : withHeaderRead s d ≡ d = rw e refl in
-          subst (λ (y : Decoder). Row (afterChecks s d l (checkStore d l (passed y)))) is (store-row p)
-      go false e = header-row p e (checkHeader s d) (header-after s d h) (header-passed s d)
+          subst (λ (y : Decoder). Row (afterChecks s d l (checkStore d l (passed y)))) is (store-row p mark)
+      go false e = header-row p mark e (checkHeader s d) (header-after s d h) (header-passed s d)
 
   decode-row : Row (decode d s l)
   unfolding decode
@@ -173,9 +173,10 @@ module _ (d : Decoder) (s l : List ℕ) where
       by-case Row (not (eqb (d .stop) 0))
       (λ g. let mark = possible-parts d (not-false (possible d) f) .mark in
       record { after = A.after-mark (marks (d .stop) mark (not-true (eqb (d .stop) 0) g)); same = same-from })
-      (λ g. first-row (leb-true (length s) longestStream (not-false (leb (length s) longestStream) e)) (not-false (possible d) f))))
+      (λ g. first-row (leb-true (length s) longestStream (not-false (leb (length s) longestStream) e)) (not-false (possible d) f)
+      (eqb-true (d .stop) 0 (not-false (eqb (d .stop) 0) g)))))
 
-  pub decode-after : (n : ℕ) → decode d s l .answer ≡ H.Refused n → AfterDecode d s l n (decode d s l .decoder) (decode d s l .store)
+  pub decode-after : (n : ℕ) → decode d s l .answer ≡ H.Refused n → LeftByDecode d s l n (decode d s l .decoder) (decode d s l .store)
   decode-after n e = subst (λ (o : Outcome). Answered o (decode d s l .decoder) (decode d s l .store)) e (decode-row .after)
 
   pub hand-picture : (i : Shown) → decode d s l .answer ≡ H.Picture i → DecodeOutputs d s l i (decode d s l .decoder) (decode d s l .store)

@@ -1,6 +1,6 @@
 -- RULES Q3, Q4, Q5, QG: what the questions on the sequence header leave, whole.
-use mathlib.Core.Path.{_≡_, refl, ap}
-use mathlib.Core.Bool.{Bool, true, false, cond, not, _||_}
+use mathlib.Core.Path.{_≡_, refl, sym, ap, _∙_}
+use mathlib.Core.Bool.{Bool, true, false, cond, not, _||_, true≢false}
 use mathlib.Core.List.{List}
 use mathlib.Core.Logic.{_⊎_, inl, inr}
 use Prim.Native.Nat.{ℕ, _+_, _-_, _*_, _≤_}
@@ -30,25 +30,28 @@ use Rattle.demands.proofs.Codes.{SearchEnd, with-code, with-none, searc
 
 pub data Finds (s : List ℕ) (d : Decoder) : Decoder → Type 0 where
   a-code : {x : Decoder} → AtCode s d x → Finds s d x
-  no-code : {e : ℕ} → NoneFound s (position d) e → Finds s d (searchedAs (negsuc 0) e d)
+  no-code : {e : ℕ} → (startCode d ≡ pos 0xb3 → ⊥) → NoneFound s 0xb3 (position d) e → Finds s d (searchedAs (negsuc 0) e d)
 
 pub find-sequence : (s : List ℕ) (d : Decoder) → length s ≤ longestStream → Finds s d (findSequence s d)
 unfolding findSequence nextCode
 find-sequence s d h = go (eqZ (startCode d) (pos 0xb3)) refl (run (findStartCode (pos 0xb3)) s (position d)) (search-end s 0xb3 (position d) h)
   where
+    searches : eqZ (startCode d) (pos 0xb3) ≡ false → startCode d ≡ pos 0xb3 → ⊥
+    searches e c = true≢false (sym (ap (λ (k : ℤ). eqZ k (pos 0xb3)) c) ∙ e)
+
     go : (b : Bool) → eqZ (startCode d) (pos 0xb3) ≡ b → (o : Out ℤ) → SearchEnd s 0xb3 (position d) o
         → Finds s d (stateAs (cond b (d .state) (S.searchedAs (o .value) (o .at) (d .state))) d)
     go true e o k = a-code (had-it (eqZ-is (startCode d) (pos 0xb3) e))
-    go false e o (with-code v k) = rw v (a-code (found-it k))
-    go false e o (with-none v k) = rw v (no-code k)
+    go false e o (with-code v k) = rw v (a-code (found-it (searches e) k))
+    go false e o (with-none v k) = rw v (no-code (searches e) k)
 
 pub at-code : {s : List ℕ} {d x : Decoder} → AtCode s d x → startCode x ≡ pos 0xb3
 at-code (had-it e) = e
-at-code (found-it k) = refl
+at-code (found-it n k) = refl
 
 -- ---- width and height
 
-size-read : (s : List ℕ) (a : ℕ) → a + 24 ≤ length s * 8
+pub size-read : (s : List ℕ) (a : ℕ) → a + 24 ≤ length s * 8
     → run size s a ≡ record { value = record { width = bitsAt s a 12; height = bitsAt s (a + 12) 12 }; at = a + 24 }
 unfolding size run bind
 size-read s a h =
@@ -92,7 +95,7 @@ header-after s d h = go (findSequence s d) (find-sequence s d h)
     go : (x : Decoder) → Finds s d x
         → CheckAfter s d (cond (eqZ (startCode x) (negsuc 0)) (refused 3 x) (cond (not (has s (position x) 1088)) (refused 4 x) (checkSize s x)))
     go x (a-code k) = code k
-    go x (no-code k) = after-3 k
+    go x (no-code n k) = after-3 n k
 
 -- the record of a header that is accepted
 abbrev pub IsHeaded : List ℕ → Decoder → CheckResult → Type 0

@@ -1,6 +1,6 @@
 -- RULES D1.3 to D1.5: demand 1, of what the calls gave. Each theorem is of any call: by its contract it gave r (Calls.antt), and nothing else is assumed.
 -- D1.1 and D1.2 are that the calls' code is proved, with no `requires`.
-use mathlib.Core.Path.{_≡_, refl, sym, ap, subst, _∙_}
+use mathlib.Core.Path.{_≡_, refl, sym, ap, ap₂, subst, _∙_}
 use mathlib.Core.Bool.{true, false, _&&_}
 use mathlib.Core.List.{List}
 use mathlib.Core.Logic.{_⊎_}
@@ -16,19 +16,22 @@ use Rattle.decoder.specs.declared.answers.Opening.the-variants as O
 use Rattle.playback.specs.declared.outcome.Outcome.{Outcome}
 use Rattle.playback.specs.declared.outcome.Outcome.the-variants as H
 use Rattle.decoder.specs.declared.answers.Converted.the-variants as C
-use Rattle.decoder.specs.Record.{CallResult, fresh, storeBytes}
+use Rattle.decoder.specs.Record.{CallResult, callResult, fresh, storeBytes}
 use Rattle.decoder.specs.Possible.{possible}
+use Rattle.decoder.specs.Opening.{opening}
+use Rattle.decoder.specs.Decode.{decode}
 use Rattle.decoder.specs.Conversion.{Area}
 use Rattle.decoder.specs.Answers.{openingErrorCode, decodeErrorCode, conversionErrorCode}
 use Rattle.decoder.specs.Calls.{Opens, Decodes, Converts}
-use Rattle.demands.specs.Checks.{firstFailing, IsFirstFailing, withHeader, withHeaderRead, openingChecks, decodeChecks, conversionChecks}
+use Rattle.demands.specs.Checks.{firstFailing, IsFirstFailing, withHeader, openingChecks, decodeChecks, conversionChecks}
 use Rattle.demands.specs.ErrorCodes.{member, openingErrorCodes, decodeErrorCodes, conversionErrorCodes}
-use Rattle.demands.specs.After.{AfterHeader, AfterOpening, AfterDecode}
-use Rattle.demands.specs.Rows.{Row3, Row4, Row5, Row7, Row89}
+use Rattle.demands.specs.After.{AfterHeader, LeftByOpening, LeftByDecode, AfterOpening, AfterDecode}
+use Rattle.demands.specs.Rows.{Row3, Row4, Row5, TriesAgain, Row6, Row7, Row89}
 use Rattle.demands.proofs.Checks.{first-is, is-first, opening-checks, decode-checks, conversion-checks}
 use Rattle.demands.proofs.After.{opening-after, decode-after}
 use Rattle.demands.proofs.ErrorCodes.{opening-named, opening-positive, hand-named, positive, conversion-after, conversion-positive}
 use Rattle.demands.proofs.Rows as Rows
+use Rattle.demands.proofs.OneResult.{tries-again, opening-one, decode-one}
 use Rattle.bits.specs.Bounds.{longestStream}
 
 -- ---- open
@@ -38,14 +41,13 @@ module _ (s l : List ℕ) (r : Opened) (m : List ℕ) (gave : Opens s l r m) whe
   pub open-number : openingErrorCode (r .answer) ≡ firstFailing (openingChecks s l)
   open-number = ap (λ (x : CallResult Opening). openingErrorCode (x .answer)) gave ∙ opening-checks s l
 
-  -- D1.5: what is left behind each number
-  pub open-left : (n : ℕ) → r .answer ≡ O.Refused n → AfterOpening s l n (r .decoder) × (m ≡ l)
-  open-left n e =
-      subst (λ (x : CallResult Opening). x .answer ≡ O.Refused n → AfterOpening s l n (x .decoder) × (x .store ≡ l)) (sym gave) (opening-after s l n) e
+  opened-left : (n : ℕ) → r .answer ≡ O.Refused n → LeftByOpening s l n (r .decoder) × (m ≡ l)
+  opened-left n e =
+      subst (λ (x : CallResult Opening). x .answer ≡ O.Refused n → LeftByOpening s l n (x .decoder) × (x .store ≡ l)) (sym gave) (opening-after s l n) e
 
   -- D1.3
   pub open-named : (n : ℕ) → r .answer ≡ O.Refused n → member n openingErrorCodes ≡ true
-  open-named n e = opening-named (open-left n e .0)
+  open-named n e = opening-named (opened-left n e .0)
 
   -- D1.4, both ways
   pub open-says : (n : ℕ) → 0 < n → IsFirstFailing n (openingChecks s l) → r .answer ≡ O.Refused n
@@ -58,25 +60,44 @@ module _ (s l : List ℕ) (r : Opened) (m : List ℕ) (gave : Opens s l r m) whe
   pub open-means : (n : ℕ) → r .answer ≡ O.Refused n → IsFirstFailing n (openingChecks s l)
   open-means n e = is-first (openingChecks s l) n (opening-positive n (open-named n e)) (sym open-number ∙ ap openingErrorCode e)
 
+  -- D1.5: what is left behind each number
+  pub open-left : (n : ℕ) → r .answer ≡ O.Refused n → AfterOpening s l n (r .decoder) × (m ≡ l)
+  open-left n e = let k = opened-left n e in (record { first = open-means n e; left = k .0 }, k .1)
+
   -- the rows of the table
   pub open-1 : r .answer ≡ O.Refused 1 → (longestStream < length s) × (r .decoder ≡ fresh)
-  open-1 e = Rows.opening-1 (open-left 1 e .0) refl
+  open-1 e = Rows.opening-1 (opened-left 1 e .0) refl
 
   pub open-3 : r .answer ≡ O.Refused 3 → Row3 s fresh (r .decoder)
-  open-3 e = Rows.header-3 (Rows.opening-header (open-left 3 e .0) (omega arith) (omega arith)) refl
+  open-3 e = Rows.header-3 (Rows.opening-header (opened-left 3 e .0) (omega arith) (omega arith)) refl
 
   pub open-4 : r .answer ≡ O.Refused 4 → Row4 s fresh (r .decoder)
-  open-4 e = Rows.header-4 (Rows.opening-header (open-left 4 e .0) (omega arith) (omega arith)) refl
+  open-4 e = Rows.header-4 (Rows.opening-header (opened-left 4 e .0) (omega arith) (omega arith)) refl
 
   pub open-5 : r .answer ≡ O.Refused 5 → Row5 s fresh (r .decoder)
-  open-5 e = Rows.header-5 (Rows.opening-header (open-left 5 e .0) (omega arith) (omega arith)) refl
+  open-5 e = Rows.header-5 (Rows.opening-header (opened-left 5 e .0) (omega arith) (omega arith)) refl
 
-  pub open-6 : r .answer ≡ O.Refused 6 → (length l < storeBytes (withHeader s fresh)) × (r .decoder ≡ fresh)
-  open-6 e = Rows.opening-6 (open-left 6 e .0) refl
+  pub open-6 : r .answer ≡ O.Refused 6 → IsFirstFailing 6 (openingChecks s l) × (length l < storeBytes (withHeader s fresh)) × (r .decoder ≡ fresh)
+  open-6 e = let k = Rows.opening-6 (opened-left 6 e .0) refl in (open-means 6 e, k .0, k .1)
+
+  -- Q5, O.5
+  pub open-5-next : r .answer ≡ O.Refused 5 → TriesAgain s (r .decoder)
+  unfolding fresh
+  open-5-next e = tries-again (open-5 e) refl
 
   -- QC: whatever the number, the store is as it was
   pub open-store : (n : ℕ) → r .answer ≡ O.Refused n → m ≡ l
-  open-store n e = open-left n e .1
+  open-store n e = opened-left n e .1
+
+-- D1.5, the other way: what a row admits is what `open` gives
+pub open-only : (s l : List ℕ) (n : ℕ) (x : Decoder) → AfterOpening s l n x → Opens s l (record { decoder = x; answer = O.Refused n }) l
+open-only s l n x a =
+    let o = opening s l in
+    let r : Opened = record { decoder = o .decoder; answer = o .answer } in
+    let e : o .answer ≡ O.Refused n = open-says s l r (o .store) refl n (opening-positive n (opening-named (a .left))) (a .first) in
+    let k = open-left s l r (o .store) refl n e in
+    ap₂ (λ (y : Decoder) (m : List ℕ). callResult (O.Refused n) y m) (opening-one a (k .0)) (sym (k .1))
+    ∙ ap (λ (v : Opening). callResult v (o .decoder) (o .store)) (sym e)
 
 -- ---- decode
 
@@ -85,14 +106,13 @@ module _ (d : Decoder) (s l : List ℕ) (r : DecodeResult) (m : List ℕ) (gave 
   pub decode-number : decodeErrorCode (r .outcome) ≡ firstFailing (decodeChecks d s l)
   decode-number = ap (λ (x : CallResult Outcome). decodeErrorCode (x .answer)) gave ∙ decode-checks d s l
 
-  -- D1.5
-  pub decode-left : (n : ℕ) → r .outcome ≡ H.Refused n → AfterDecode d s l n (r .decoder) m
-  decode-left n e =
-      subst (λ (x : CallResult Outcome). x .answer ≡ H.Refused n → AfterDecode d s l n (x .decoder) (x .store)) (sym gave) (decode-after d s l n) e
+  decoded-left : (n : ℕ) → r .outcome ≡ H.Refused n → LeftByDecode d s l n (r .decoder) m
+  decoded-left n e =
+      subst (λ (x : CallResult Outcome). x .answer ≡ H.Refused n → LeftByDecode d s l n (x .decoder) (x .store)) (sym gave) (decode-after d s l n) e
 
   -- D1.3
   pub decode-named : (n : ℕ) → r .outcome ≡ H.Refused n → member n decodeErrorCodes ≡ true
-  decode-named n e = hand-named (decode-left n e)
+  decode-named n e = hand-named (decoded-left n e)
 
   -- D1.4, both ways
   pub decode-says : (n : ℕ) → 0 < n → IsFirstFailing n (decodeChecks d s l) → r .outcome ≡ H.Refused n
@@ -105,16 +125,20 @@ module _ (d : Decoder) (s l : List ℕ) (r : DecodeResult) (m : List ℕ) (gave 
   pub decode-means : (n : ℕ) → r .outcome ≡ H.Refused n → IsFirstFailing n (decodeChecks d s l)
   decode-means n e = is-first (decodeChecks d s l) n (positive n (decode-named n e)) (sym decode-number ∙ ap decodeErrorCode e)
 
+  -- D1.5
+  pub decode-left : (n : ℕ) → r .outcome ≡ H.Refused n → AfterDecode d s l n (r .decoder) m
+  decode-left n e = record { first = decode-means n e; left = decoded-left n e }
+
   -- the rows of the table
   pub decode-1 : r .outcome ≡ H.Refused 1 → (longestStream < length s) × (r .decoder ≡ d) × (m ≡ l)
-  decode-1 e = Rows.hand-1 (decode-left 1 e) refl
+  decode-1 e = Rows.hand-1 (decoded-left 1 e) refl
 
   pub decode-2 : r .outcome ≡ H.Refused 2 → (possible d ≡ false) × (r .decoder ≡ d) × (m ≡ l)
-  decode-2 e = Rows.hand-2 (decode-left 2 e) refl
+  decode-2 e = Rows.hand-2 (decoded-left 2 e) refl
 
   header-left : (n : ℕ) → r .outcome ≡ H.Refused n → 2 < n → n < 6
       → (d .sequence .«has_sequence_header» ≡ false) × AfterHeader s d n (r .decoder) × (m ≡ l)
-  header-left n e p q = Rows.decode-header (decode-left n e) p q
+  header-left n e p q = Rows.decode-header (decoded-left n e) p q
 
   pub decode-3 : r .outcome ≡ H.Refused 3 → (d .sequence .«has_sequence_header» ≡ false) × Row3 s d (r .decoder) × (m ≡ l)
   decode-3 e = let h = header-left 3 e (omega arith) (omega arith) in (h .0, Rows.header-3 (h .1) refl, h .2)
@@ -125,18 +149,32 @@ module _ (d : Decoder) (s l : List ℕ) (r : DecodeResult) (m : List ℕ) (gave 
   pub decode-5 : r .outcome ≡ H.Refused 5 → (d .sequence .«has_sequence_header» ≡ false) × Row5 s d (r .decoder) × (m ≡ l)
   decode-5 e = let h = header-left 5 e (omega arith) (omega arith) in (h .0, Rows.header-5 (h .1) refl, h .2)
 
-  pub decode-6 : r .outcome ≡ H.Refused 6 → (length l < storeBytes (withHeaderRead s d)) × (r .decoder ≡ d) × (m ≡ l)
-  decode-6 e = Rows.hand-6 (decode-left 6 e) refl
+  pub decode-5-next : r .outcome ≡ H.Refused 5 → TriesAgain s (r .decoder)
+  decode-5-next e = let h = decode-5 e in tries-again (h .1) (h .0)
+
+  pub decode-6 : r .outcome ≡ H.Refused 6 → Row6 d s l (r .decoder) m
+  decode-6 e = Rows.hand-6 (decoded-left 6 e) refl (decode-means 6 e)
 
   pub decode-7 : r .outcome ≡ H.Refused 7 → Row7 d s l (r .decoder) m
-  decode-7 e = Rows.hand-7 (decode-left 7 e) refl
+  decode-7 e = Rows.hand-7 (decoded-left 7 e) refl (decode-means 7 e)
 
   -- QA: for the stop mark nothing is changed
   pub decode-8 : r .outcome ≡ H.Refused 8 → ((d .stop ≡ 8) × (r .decoder ≡ d) × (m ≡ l)) ⊎ Row89 d s l 8 (r .decoder) m
-  decode-8 e = Rows.decode-8-9 (decode-left 8 e) (omega arith)
+  decode-8 e = Rows.decode-8-9 (decoded-left 8 e) (omega arith) (decode-means 8 e)
 
   pub decode-9 : r .outcome ≡ H.Refused 9 → ((d .stop ≡ 9) × (r .decoder ≡ d) × (m ≡ l)) ⊎ Row89 d s l 9 (r .decoder) m
-  decode-9 e = Rows.decode-8-9 (decode-left 9 e) (omega arith)
+  decode-9 e = Rows.decode-8-9 (decoded-left 9 e) (omega arith) (decode-means 9 e)
+
+-- D1.5, the other way
+pub decode-only : (d : Decoder) (s l : List ℕ) (n : ℕ) (x : Decoder) (m : List ℕ) → AfterDecode d s l n x m
+    → Decodes d s l (record { decoder = x; outcome = H.Refused n }) m
+decode-only d s l n x m a =
+    let o = decode d s l in
+    let r : DecodeResult = record { decoder = o .decoder; outcome = o .answer } in
+    let e : o .answer ≡ H.Refused n = decode-says d s l r (o .store) refl n (positive n (hand-named (a .left))) (a .first) in
+    let k = decode-one a (decode-left d s l r (o .store) refl n e) in
+    ap₂ (λ (y : Decoder) (m : List ℕ). callResult (H.Refused n) y m) (k .0) (k .1)
+    ∙ ap (λ (v : Outcome). callResult v (o .decoder) (o .store)) (sym e)
 
 -- ---- write_rgb_scaled
 

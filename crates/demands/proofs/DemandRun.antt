@@ -10,14 +10,20 @@ use lib.ListN.{length, getD}
 use Rattle.decoder.specs.declared.answers.{Opening.Opening, Opened.Opened, DecodeResult.DecodeResult}
 use Rattle.playback.specs.declared.outcome.Outcome.{Outcome}
 use Rattle.playback.specs.declared.outcome.Outcome.the-variants as H
+use Rattle.playback.specs.State.{position}
+use Rattle.playback.specs.Steps.{DecodingState, atPicture}
+use Rattle.playback.specs.Cases.{isPictureReady}
 use Rattle.decoder.specs.Record.{CallResult, callResult}
 use Rattle.decoder.specs.Possible.{possible}
 use Rattle.decoder.specs.Run.{CallState, callState, call, stateAfter, stateAfterOpening, before, answer, pictureIn, picturesOutput}
 use Rattle.decoder.specs.Answers.{decodeErrorCode}
 use Rattle.decoder.specs.Calls.{Opens, Decodes}
+use Rattle.demands.specs.Codes.{PictureAhead}
+use Rattle.demands.specs.Checks.{ComesToPictures}
+use Rattle.demands.specs.After.{InCall}
 use Rattle.demands.specs.Calls.{Calls, none, and-then, picturesIn, AllSeven, StaySeven}
 use Rattle.demands.proofs.Waiting.{fresh-waits}
-use Rattle.demands.proofs.RunCall.{Between, Resting, waits-possible, stuck-call, call-on, few, admitted}
+use Rattle.demands.proofs.RunCall.{Between, Resting, waits-possible, stuck-call, call-on, few, admitted, turn-followed}
 use Rattle.demands.proofs.Run.{by-length, opening-begins, long-call, long-begin}
 use Rattle.bits.specs.Bounds.{longestStream}
 
@@ -117,3 +123,8 @@ module _ (s l : List ℕ) (r : Opened) (m : List ℕ) (gave : Opens s l r m) (by
       by-length s _ (λ h. admitted s h bytes (calls-on s h bytes (start h) calls))
       (λ h. ap possible (long-run s h calls .2 ∙ ap (λ (x : CallState). x .decoder) (opened ∙ long-begin s l h))
       ∙ waits-possible [] (omega arith) (fresh-waits []))
+
+  -- 8.3: a picture that a call comes to has a second picture start code behind its own; the exact end of the bits does not stand for one
+  pub run-followed : ComesToPictures (y .decoder) s (y .store) → (g : DecodingState) → InCall (y .decoder) s (y .store) g
+      → isPictureReady s (atPicture s g .state) ≡ true → PictureAhead s (position (atPicture s g .state))
+  run-followed c g i r = turn-followed s (c .short) bytes (calls-on s (c .short) bytes (start (c .short)) calls) c g i r

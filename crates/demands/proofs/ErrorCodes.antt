@@ -19,13 +19,13 @@ use Rattle.argb.specs.Scaled.{scaled}
 use Rattle.decoder.specs.Conversion.{Area, converted}
 use Rattle.demands.specs.Causes.{Cause, dc, prediction}
 use Rattle.demands.specs.After as A
-use Rattle.demands.specs.After.{AfterOpening, AfterDecode}
+use Rattle.demands.specs.After.{LeftByOpening, LeftByDecode}
 use Rattle.demands.specs.ErrorCodes.{member, openingErrorCodes, decodeErrorCodes, conversionErrorCodes}
 
-pub opening-named : {s l : List ℕ} {n : ℕ} {x : Decoder} → AfterOpening s l n x → member n openingErrorCodes ≡ true
+pub opening-named : {s l : List ℕ} {n : ℕ} {x : Decoder} → LeftByOpening s l n x → member n openingErrorCodes ≡ true
 unfolding member
 opening-named (A.after-1 h) = refl
-opening-named (A.after-header (A.after-3 e)) = refl
+opening-named (A.after-header (A.after-3 n e)) = refl
 opening-named (A.after-header (A.after-4 e h)) = refl
 opening-named (A.after-header (A.after-5 e h z)) = refl
 opening-named (A.after-6 h) = refl
@@ -40,17 +40,17 @@ unfolding member
 mark-named n (inl e) = rw e refl
 mark-named n (inr e) = rw e refl
 
-pub hand-named : {d : Decoder} {s l : List ℕ} {n : ℕ} {x : Decoder} {m : List ℕ} → AfterDecode d s l n x m → member n decodeErrorCodes ≡ true
+pub hand-named : {d : Decoder} {s l : List ℕ} {n : ℕ} {x : Decoder} {m : List ℕ} → LeftByDecode d s l n x m → member n decodeErrorCodes ≡ true
 unfolding member
 hand-named (A.after-1 h) = refl
 hand-named (A.after-2 h) = refl
 hand-named {d} (A.after-mark h) = mark-named (d .stop) h
-hand-named (A.after-header e (A.after-3 f)) = refl
+hand-named (A.after-header e (A.after-3 n f)) = refl
 hand-named (A.after-header e (A.after-4 f h)) = refl
 hand-named (A.after-header e (A.after-5 f h z)) = refl
 hand-named (A.after-6 h) = refl
 hand-named (A.after-7 i t u) = refl
-hand-named (A.after-8-9 i e c) = cause-named c
+hand-named (A.after-8-9 z t i e c) = cause-named c
 
 -- 0 is none of them
 pub positive : (n : ℕ) → member n decodeErrorCodes ≡ true → 1 ≤ n

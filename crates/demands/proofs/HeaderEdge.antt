@@ -9,7 +9,7 @@ use lib.Dec.{leb}
 use lib.IntN.{ℤ, pos}
 use lib.ListN.{length, getD}
 use borrow.Author.Tests.{le-leb, lt-leb}
-use Rattle.bits.specs.Bits.{Found, boundary, codePrefix, found, has}
+use Rattle.bits.specs.Bits.{Found, boundary, found, has}
 use Rattle.bits.specs.Programs.{Out, eqZ, findStartCode}
 use Rattle.bits.specs.Runs.{RunsAt}
 use Rattle.bits.proofs.Start.{Searched, first, none, found-is-first}
@@ -19,12 +19,8 @@ use Rattle.decoder.specs.declared.record.Decoder.{Decoder}
 use Rattle.decoder.specs.Record.{position, startCode, searchedAs}
 use Rattle.playback.specs.Search.{nextCode}
 use Rattle.decoder.specs.Headers.{findSequence}
-use Rattle.demands.specs.Codes.{CodeAt, SequenceAt}
+use Rattle.demands.specs.Codes.{SequenceAt}
 use Rattle.demands.specs.Checks.{hasCode, hasBits}
-
-prefix-is : {s : List ℕ} {c b : ℕ} → CodeAt s c b → codePrefix s b ≡ true
-unfolding codePrefix
-prefix-is k = rw (k .zeros .0, k .zeros .1, k .one)
 
 abbrev at : List ℕ → ℕ → Found
 at s p = record { code = pos (getD s (p + 3) 0); at = (p + 4) * 8 }
@@ -36,20 +32,17 @@ sequence b = record { code = pos 0xb3; at = (b + 4) * 8 }
 found-there : (s : List ℕ) (a b : ℕ) → SequenceAt s a b → found s a ≡ sequence b
 found-there s a b k = go (found s a) (found-is-first s a)
   where
-    here : codePrefix s b ≡ true
-    here = prefix-is (k .code)
-
     same : (p : ℕ) → p ≡ b → at s p ≡ sequence b
-    same p e = ap (at s) e ∙ ap (λ (v : ℕ). record { code = pos v; at = (b + 4) * 8 }) (k .code .code)
+    same p e = ap (at s) e ∙ ap (λ (v : ℕ). record { code = pos v; at = (b + 4) * 8 }) (k .code)
 
     go : (f : Found) → Searched s (boundary a) f → f ≡ sequence b
     go f (first p w q) = q ∙ place-of (decLt p b) (decLt b p)
       where
         place-of : Dec (p < b) → Dec (b < p) → at s p ≡ sequence b
-        place-of (yes l) r = absurd (true≢false (sym (w .here) ∙ k .first p (w .from) l))
-        place-of (no l) (yes r) = absurd (true≢false (sym here ∙ w .none-before b (k .from) r))
+        place-of (yes l) r = absurd (true≢false (sym (w .here) ∙ k .first .none-before p (w .from) l))
+        place-of (no l) (yes r) = absurd (true≢false (sym (k .first .here) ∙ w .none-before b (k .first .from) r))
         place-of (no l) (no r) = same p (omega arith)
-    go f (none w q) = absurd (true≢false (sym here ∙ w b (k .from) (k .code .followed)))
+    go f (none w q) = absurd (true≢false (sym (k .first .here) ∙ w b (k .first .from) (k .first .followed)))
 
 seeks : (s : List ℕ) (a b : ℕ) → SequenceAt s a b → RunsAt (findStartCode (pos 0xb3)) s a (pos 0xb3) ((b + 4) * 8)
 seeks s a b k = at-find (pos 0xb3) (found-there s a b k) refl

@@ -18,8 +18,10 @@ pub mod Converts
 pub mod After
 pub mod ErrorCodes
 pub mod Rows
+pub mod OneResult
 pub mod Demand1
 pub mod Demand2
+pub mod RowExamples
 pub mod DemandRun
 pub mod Display
 pub mod DisplayStep

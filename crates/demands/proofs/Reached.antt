@@ -105,7 +105,8 @@ module _ (s : List ℕ) (z : Sizes) (m : Matrices) where
         → SameFrom (storesBytes (z .«mb_size»)) (x .store) (left .store) → CallEnd x (finished (H.Picture i) left)
     seven : {y : DecodingState} → Reached x y → isPictureReady s (atPicture s y .state) ≡ false → isFlush s (atPicture s y .state) ≡ false
         → CallEnd x (finished (H.Refused 7) (atPicture s y))
-    stops : {y : DecodingState} {n : ℕ} {l : List ℕ} → Reached x y → pictureEnd s z m (atPicture s y) ≡ error n l → Cause s z n
+    stops : {y : DecodingState} {n : ℕ} {l : List ℕ} → Reached x y → isPictureReady s (atPicture s y .state) ≡ true
+        → pictureEnd s z m (atPicture s y) ≡ error n l → Cause s z n
         → SameFrom (storesBytes (z .«mb_size»)) (x .store) l → CallEnd x (aborted n l)
 
   -- what a turn that goes on leaves to the next
@@ -125,7 +126,7 @@ module _ (s : List ℕ) (z : Sizes) (m : Matrices) where
       go (keeps-reference t r b h) = (past-room s z m (atPicture s y) room r, past-same s z m (atPicture s y) room r)
       go (aborts t r) =
           let j = stopped-left s z m (atPicture s y) room r in
-          stops k (ap (λ (o : Out (Result P.PictureState)). o .value) r) (j .1) (then-same (k .same) (but-from (room .stores .cur) (j .0)))
+          stops k t (ap (λ (o : Out (Result P.PictureState)). o .value) r) (j .1) (then-same (k .same) (but-from (room .stores .cur) (j .0)))
       go (is-seven t u) = seven k t u
 
   -- RULES 8.7: how the turns of a hand-out end

@@ -1,5 +1,5 @@
 -- RULES "The numbers": its rows, read off what a call has left.
-use mathlib.Core.Path.{_≡_, refl}
+use mathlib.Core.Path.{_≡_, refl, subst}
 use mathlib.Core.Bool.{Bool, true, false}
 use mathlib.Core.List.{List, [], _∷_}
 use mathlib.Core.Logic.{_⊎_, inl, inr, ⊎-elim}
@@ -11,79 +11,79 @@ use Rattle.decoder.specs.declared.record.Decoder.{Decoder}
 use Rattle.decoder.specs.Record.{fresh, storeBytes}
 use Rattle.decoder.specs.Possible.{possible}
 use Rattle.demands.specs.Causes.{Cause, dc, prediction}
-use Rattle.demands.specs.Checks.{check, IsFirstFailing, this-one, a-later, withHeaderRead, withHeader}
+use Rattle.demands.specs.Checks.{check, IsFirstFailing, this-one, a-later, withHeader, decodeChecks}
 use Rattle.demands.specs.After as A
-use Rattle.demands.specs.After.{AfterHeader, AfterOpening, AfterDecode}
-use Rattle.demands.specs.Rows.{Row3, Row4, Row5, Row7, Row89}
+use Rattle.demands.specs.After.{AfterHeader, LeftByOpening, LeftByDecode}
+use Rattle.demands.specs.Rows.{Row3, Row4, Row5, Row6, Row7, Row89}
 use Rattle.bits.specs.Bounds.{longestStream}
 
 -- ---- the questions on the header
 
 module _ {s : List ℕ} {d : Decoder} where
-  header-number : {n : ℕ} {x : Decoder} → AfterHeader s d n x → (2 < n) × (n < 6)
-  header-number (A.after-3 e) = (omega arith, omega arith)
+  pub header-number : {n : ℕ} {x : Decoder} → AfterHeader s d n x → (2 < n) × (n < 6)
+  header-number (A.after-3 n e) = (omega arith, omega arith)
   header-number (A.after-4 e h) = (omega arith, omega arith)
   header-number (A.after-5 e h z) = (omega arith, omega arith)
 
   pub header-3 : {n : ℕ} {x : Decoder} → AfterHeader s d n x → n ≡ 3 → Row3 s d x
-  header-3 (A.after-3 e) q = record { position = _; ended = e; is = refl }
+  header-3 (A.after-3 n e) q = record { searched = n; position = _; ended = e; is = refl }
   header-3 (A.after-4 e h) q = let no : ⊥ = omega arith in absurd no
   header-3 (A.after-5 e h z) q = let no : ⊥ = omega arith in absurd no
 
   pub header-4 : {n : ℕ} {x : Decoder} → AfterHeader s d n x → n ≡ 4 → Row4 s d x
-  header-4 (A.after-3 e) q = let no : ⊥ = omega arith in absurd no
+  header-4 (A.after-3 n e) q = let no : ⊥ = omega arith in absurd no
   header-4 (A.after-4 e h) q = record { code = e; few = h }
   header-4 (A.after-5 e h z) q = let no : ⊥ = omega arith in absurd no
 
   pub header-5 : {n : ℕ} {x : Decoder} → AfterHeader s d n x → n ≡ 5 → Row5 s d x
-  header-5 (A.after-3 e) q = let no : ⊥ = omega arith in absurd no
+  header-5 (A.after-3 n e) q = let no : ⊥ = omega arith in absurd no
   header-5 (A.after-4 e h) q = let no : ⊥ = omega arith in absurd no
   header-5 (A.after-5 {x = b} e h z) q = record { atCode = b; code = e; bits = h; zero = z; is = refl }
 
 -- ---- opening
 
 module _ {s l : List ℕ} where
-  pub opening-1 : {n : ℕ} {x : Decoder} → AfterOpening s l n x → n ≡ 1 → (longestStream < length s) × (x ≡ fresh)
+  pub opening-1 : {n : ℕ} {x : Decoder} → LeftByOpening s l n x → n ≡ 1 → (longestStream < length s) × (x ≡ fresh)
   opening-1 (A.after-1 h) q = (h, refl)
   opening-1 (A.after-header h) q = let k = header-number h in let no : ⊥ = omega arith in absurd no
   opening-1 (A.after-6 h) q = let no : ⊥ = omega arith in absurd no
 
-  pub opening-header : {n : ℕ} {x : Decoder} → AfterOpening s l n x → 2 < n → n < 6 → AfterHeader s fresh n x
+  pub opening-header : {n : ℕ} {x : Decoder} → LeftByOpening s l n x → 2 < n → n < 6 → AfterHeader s fresh n x
   opening-header (A.after-1 h) p q = let no : ⊥ = omega arith in absurd no
   opening-header (A.after-header h) p q = h
   opening-header (A.after-6 h) p q = let no : ⊥ = omega arith in absurd no
 
-  pub opening-6 : {n : ℕ} {x : Decoder} → AfterOpening s l n x → n ≡ 6 → (length l < storeBytes (withHeader s fresh)) × (x ≡ fresh)
+  pub opening-6 : {n : ℕ} {x : Decoder} → LeftByOpening s l n x → n ≡ 6 → (length l < storeBytes (withHeader s fresh)) × (x ≡ fresh)
   opening-6 (A.after-1 h) q = let no : ⊥ = omega arith in absurd no
   opening-6 (A.after-header h) q = let k = header-number h in let no : ⊥ = omega arith in absurd no
   opening-6 (A.after-6 h) q = (h, refl)
 
 -- ---- a hand-out
 
-cause-number : {s : List ℕ} {z : Sizes} {n : ℕ} → Cause s z n → (n ≡ 8) ⊎ (n ≡ 9)
+pub cause-number : {s : List ℕ} {z : Sizes} {n : ℕ} → Cause s z n → (n ≡ 8) ⊎ (n ≡ 9)
 cause-number (dc o) = inl refl
 cause-number (prediction o) = inr refl
 
 module _ {d : Decoder} {s l : List ℕ} where
-  pub hand-1 : {n : ℕ} {x : Decoder} {m : List ℕ} → AfterDecode d s l n x m → n ≡ 1 → (longestStream < length s) × (x ≡ d) × (m ≡ l)
+  pub hand-1 : {n : ℕ} {x : Decoder} {m : List ℕ} → LeftByDecode d s l n x m → n ≡ 1 → (longestStream < length s) × (x ≡ d) × (m ≡ l)
   hand-1 (A.after-1 h) p = (h, refl, refl)
   hand-1 (A.after-2 h) p = let no : ⊥ = omega arith in absurd no
   hand-1 (A.after-mark h) p = let no : ⊥ = ⊎-elim (λ (e : d .stop ≡ 8). omega arith) (λ (e : d .stop ≡ 9). omega arith) h in absurd no
   hand-1 (A.after-header f h) p = let k = header-number h in let no : ⊥ = omega arith in absurd no
   hand-1 (A.after-6 h) p = let no : ⊥ = omega arith in absurd no
   hand-1 (A.after-7 i t u) p = let no : ⊥ = omega arith in absurd no
-  hand-1 (A.after-8-9 i e c) p = let no : ⊥ = ⊎-elim (λ g. omega arith) (λ g. omega arith) (cause-number c) in absurd no
+  hand-1 (A.after-8-9 z t i e c) p = let no : ⊥ = ⊎-elim (λ g. omega arith) (λ g. omega arith) (cause-number c) in absurd no
 
-  pub hand-2 : {n : ℕ} {x : Decoder} {m : List ℕ} → AfterDecode d s l n x m → n ≡ 2 → (possible d ≡ false) × (x ≡ d) × (m ≡ l)
+  pub hand-2 : {n : ℕ} {x : Decoder} {m : List ℕ} → LeftByDecode d s l n x m → n ≡ 2 → (possible d ≡ false) × (x ≡ d) × (m ≡ l)
   hand-2 (A.after-1 h) p = let no : ⊥ = omega arith in absurd no
   hand-2 (A.after-2 h) p = (h, refl, refl)
   hand-2 (A.after-mark h) p = let no : ⊥ = ⊎-elim (λ (e : d .stop ≡ 8). omega arith) (λ (e : d .stop ≡ 9). omega arith) h in absurd no
   hand-2 (A.after-header f h) p = let k = header-number h in let no : ⊥ = omega arith in absurd no
   hand-2 (A.after-6 h) p = let no : ⊥ = omega arith in absurd no
   hand-2 (A.after-7 i t u) p = let no : ⊥ = omega arith in absurd no
-  hand-2 (A.after-8-9 i e c) p = let no : ⊥ = ⊎-elim (λ g. omega arith) (λ g. omega arith) (cause-number c) in absurd no
+  hand-2 (A.after-8-9 z t i e c) p = let no : ⊥ = ⊎-elim (λ g. omega arith) (λ g. omega arith) (cause-number c) in absurd no
 
-  pub decode-header : {n : ℕ} {x : Decoder} {m : List ℕ} → AfterDecode d s l n x m → 2 < n → n < 6
+  pub decode-header : {n : ℕ} {x : Decoder} {m : List ℕ} → LeftByDecode d s l n x m → 2 < n → n < 6
       → (d .sequence .«has_sequence_header» ≡ false) × AfterHeader s d n x × (m ≡ l)
   decode-header (A.after-1 h) p q = let no : ⊥ = omega arith in absurd no
   decode-header (A.after-2 h) p q = let no : ⊥ = omega arith in absurd no
@@ -91,35 +91,36 @@ module _ {d : Decoder} {s l : List ℕ} where
   decode-header (A.after-header f h) p q = (f, h, refl)
   decode-header (A.after-6 h) p q = let no : ⊥ = omega arith in absurd no
   decode-header (A.after-7 i t u) p q = let no : ⊥ = omega arith in absurd no
-  decode-header (A.after-8-9 i e c) p q = let no : ⊥ = ⊎-elim (λ g. omega arith) (λ g. omega arith) (cause-number c) in absurd no
+  decode-header (A.after-8-9 z t i e c) p q = let no : ⊥ = ⊎-elim (λ g. omega arith) (λ g. omega arith) (cause-number c) in absurd no
 
-  pub hand-6 : {n : ℕ} {x : Decoder} {m : List ℕ} → AfterDecode d s l n x m → n ≡ 6 → (length l < storeBytes (withHeaderRead s d)) × (x ≡ d) × (m ≡ l)
-  hand-6 (A.after-1 h) p = let no : ⊥ = omega arith in absurd no
-  hand-6 (A.after-2 h) p = let no : ⊥ = omega arith in absurd no
-  hand-6 (A.after-mark h) p = let no : ⊥ = ⊎-elim (λ (e : d .stop ≡ 8). omega arith) (λ (e : d .stop ≡ 9). omega arith) h in absurd no
-  hand-6 (A.after-header f h) p = let k = header-number h in let no : ⊥ = omega arith in absurd no
-  hand-6 (A.after-6 h) p = (h, refl, refl)
-  hand-6 (A.after-7 i t u) p = let no : ⊥ = omega arith in absurd no
-  hand-6 (A.after-8-9 i e c) p = let no : ⊥ = ⊎-elim (λ g. omega arith) (λ g. omega arith) (cause-number c) in absurd no
+  pub hand-6 : {n : ℕ} {x : Decoder} {m : List ℕ} → LeftByDecode d s l n x m → n ≡ 6 → IsFirstFailing n (decodeChecks d s l) → Row6 d s l x m
+  hand-6 (A.after-1 h) p k = let no : ⊥ = omega arith in absurd no
+  hand-6 (A.after-2 h) p k = let no : ⊥ = omega arith in absurd no
+  hand-6 (A.after-mark h) p k = let no : ⊥ = ⊎-elim (λ (e : d .stop ≡ 8). omega arith) (λ (e : d .stop ≡ 9). omega arith) h in absurd no
+  hand-6 (A.after-header f h) p k = let j = header-number h in let no : ⊥ = omega arith in absurd no
+  hand-6 (A.after-6 h) p k = record { first = subst (λ (n : ℕ). IsFirstFailing n (decodeChecks d s l)) p k; short = h; decoder = refl; store = refl }
+  hand-6 (A.after-7 i t u) p k = let no : ⊥ = omega arith in absurd no
+  hand-6 (A.after-8-9 z t i e c) p k = let no : ⊥ = ⊎-elim (λ g. omega arith) (λ g. omega arith) (cause-number c) in absurd no
 
-  pub hand-7 : {n : ℕ} {x : Decoder} {m : List ℕ} → AfterDecode d s l n x m → n ≡ 7 → Row7 d s l x m
-  hand-7 (A.after-1 h) p = let no : ⊥ = omega arith in absurd no
-  hand-7 (A.after-2 h) p = let no : ⊥ = omega arith in absurd no
-  hand-7 (A.after-mark h) p = let no : ⊥ = ⊎-elim (λ (e : d .stop ≡ 8). omega arith) (λ (e : d .stop ≡ 9). omega arith) h in absurd no
-  hand-7 (A.after-header f h) p = let k = header-number h in let no : ⊥ = omega arith in absurd no
-  hand-7 (A.after-6 h) p = let no : ⊥ = omega arith in absurd no
-  hand-7 (A.after-7 i t u) p = record { given = _; step = i; none = t; kept = u; decoder = refl; store = refl }
-  hand-7 (A.after-8-9 i e c) p = let no : ⊥ = ⊎-elim (λ g. omega arith) (λ g. omega arith) (cause-number c) in absurd no
+  pub hand-7 : {n : ℕ} {x : Decoder} {m : List ℕ} → LeftByDecode d s l n x m → n ≡ 7 → IsFirstFailing n (decodeChecks d s l) → Row7 d s l x m
+  hand-7 (A.after-1 h) p k = let no : ⊥ = omega arith in absurd no
+  hand-7 (A.after-2 h) p k = let no : ⊥ = omega arith in absurd no
+  hand-7 (A.after-mark h) p k = let no : ⊥ = ⊎-elim (λ (e : d .stop ≡ 8). omega arith) (λ (e : d .stop ≡ 9). omega arith) h in absurd no
+  hand-7 (A.after-header f h) p k = let j = header-number h in let no : ⊥ = omega arith in absurd no
+  hand-7 (A.after-6 h) p k = let no : ⊥ = omega arith in absurd no
+  hand-7 (A.after-7 i t u) p k = record { first = k; given = _; step = i; none = t; kept = u; decoder = refl; store = refl }
+  hand-7 (A.after-8-9 z t i e c) p k = let no : ⊥ = ⊎-elim (λ g. omega arith) (λ g. omega arith) (cause-number c) in absurd no
 
   -- RULES QA: at once, for the stop mark; else for the picture
-  pub decode-8-9 : {n : ℕ} {x : Decoder} {m : List ℕ} → AfterDecode d s l n x m → 7 < n → ((d .stop ≡ n) × (x ≡ d) × (m ≡ l)) ⊎ Row89 d s l n x m
-  decode-8-9 (A.after-1 h) p = let no : ⊥ = omega arith in absurd no
-  decode-8-9 (A.after-2 h) p = let no : ⊥ = omega arith in absurd no
-  decode-8-9 (A.after-mark h) p = inl (refl, refl, refl)
-  decode-8-9 (A.after-header f h) p = let k = header-number h in let no : ⊥ = omega arith in absurd no
-  decode-8-9 (A.after-6 h) p = let no : ⊥ = omega arith in absurd no
-  decode-8-9 (A.after-7 i t u) p = let no : ⊥ = omega arith in absurd no
-  decode-8-9 (A.after-8-9 i e c) p = inr (record { given = _; step = i; left = e; cause = c; decoder = refl })
+  pub decode-8-9 : {n : ℕ} {x : Decoder} {m : List ℕ} → LeftByDecode d s l n x m → 7 < n → IsFirstFailing n (decodeChecks d s l)
+      → ((d .stop ≡ n) × (x ≡ d) × (m ≡ l)) ⊎ Row89 d s l n x m
+  decode-8-9 (A.after-1 h) p k = let no : ⊥ = omega arith in absurd no
+  decode-8-9 (A.after-2 h) p k = let no : ⊥ = omega arith in absurd no
+  decode-8-9 (A.after-mark h) p k = inl (refl, refl, refl)
+  decode-8-9 (A.after-header f h) p k = let j = header-number h in let no : ⊥ = omega arith in absurd no
+  decode-8-9 (A.after-6 h) p k = let no : ⊥ = omega arith in absurd no
+  decode-8-9 (A.after-7 i t u) p k = let no : ⊥ = omega arith in absurd no
+  decode-8-9 (A.after-8-9 z t i e c) p k = inr (record { first = k; mark = z; given = _; step = i; ready = t; left = e; cause = c; decoder = refl })
 
 -- ---- the conversion
 

@@ -1,6 +1,6 @@
 -- For RULES R: one call of a run from an opened record, and what it leaves to the next.
 use mathlib.Core.Path.{_≡_, refl, sym, ap, subst, _∙_}
-use mathlib.Core.Bool.{true, false}
+use mathlib.Core.Bool.{Bool, true, false, cond, false≢true}
 use mathlib.Core.List.{List}
 use mathlib.Core.Logic.{_⊎_, inl, inr, ⊎-elim}
 use Prim.Native.Nat.{ℕ, _+_, _*_, _/_, _≤_, _<_}
@@ -15,8 +15,10 @@ use Rattle.header.proofs.Clearing.{cleared-length}
 use Rattle.decoder.specs.declared.record.Decoder.{Decoder}
 use Rattle.playback.specs.declared.outcome.{Shown.Shown, Outcome.Outcome}
 use Rattle.playback.specs.declared.outcome.Outcome.the-variants as H
-use Rattle.playback.specs.State.{frames}
-use Rattle.playback.specs.Steps.{DecodingState, LoopEnd, finished, aborted, pictureStep, pictures}
+use Rattle.picture_state.specs.declared.types.Sizes.{Sizes}
+use Rattle.playback.specs.State.{position, frames}
+use Rattle.playback.specs.Steps.{DecodingState, LoopEnd, finished, aborted, atPicture, pictureStep, pictures}
+use Rattle.playback.specs.Cases.{isPictureReady}
 use Rattle.decoder.specs.Record.{CallResult, callResult, decodingStateOf, stopAs, storeBytes}
 use Rattle.decoder.specs.Possible.{possibleWith}
 use Rattle.decoder.specs.Headers.{CheckResult, refused, passed, checkHeader, checkStore}
@@ -24,11 +26,13 @@ use Rattle.decoder.specs.Decode.{callResultOf, checkHeaderAndStore, startState,
 use Rattle.decoder.specs.Run.{CallState, call, stateAfter, pictureIn}
 use Rattle.decoder.proofs.Cleared.{begun-clears}
 use Rattle.decoder.proofs.Fits.{possible-all, marked-possible}
-use Rattle.demands.specs.After.{AfterHeader, after-3, after-4, after-5}
+use Rattle.demands.specs.Codes.{PictureAhead}
+use Rattle.demands.specs.Checks.{ComesToPictures, withHeaderRead}
+use Rattle.demands.specs.After.{AfterHeader, after-3, after-4, after-5, InCall, in-the-first, in-the-second}
 use Rattle.decoder.specs.Answers.{decodeErrorCode}
 use Rattle.demands.proofs.AfterHeader.{CheckAfter, header-after}
-use Rattle.demands.proofs.Keeps.{Keeps, keeps-resumed, keeps-sized}
-use Rattle.demands.proofs.RunSteps.{Stuck, Ends, hands, flushes, seven, stops, pictures-row}
+use Rattle.demands.proofs.Keeps.{Keeps, KeepsAt, keeps-resumed, Sized, keeps-sized}
+use Rattle.demands.proofs.RunSteps.{Stuck, Ends, hands, flushes, seven, stops, second-code, step-row, pictures-row}
 use Rattle.demands.proofs.Waiting.{Waits, waits-sequence, Accepted, Accepts, header-accepts}
 use Rattle.bits.specs.Bounds.{longestStream}
 
@@ -136,7 +140,7 @@ not-picture : {A : Type 0} {i : Shown} → H.Picture i ≡ H.Refused 7 → A
 not-picture q = let z : _≡_ {A = ℕ} 0 7 = ap decodeErrorCode q in let no : ⊥ = omega arith in absurd no
 
 header-number : {s : List ℕ} {d x : Decoder} {n : ℕ} → AfterHeader s d n x → n ≤ 5
-header-number (after-3 e) = omega arith
+header-number (after-3 n e) = omega arith
 header-number (after-4 e f) = omega arith
 header-number (after-5 e f g) = omega arith
 
@@ -210,3 +214,59 @@ module _ (s : List ℕ) (short : length s ≤ longestStream) (bytes : (k : ℕ) 
   admitted (live k q) = keeps-possible s short k
   admitted (stuck k t q) = keeps-possible s short k
   admitted (marked p m q) = p
+
+  -- ---- the turns of a call that comes to its pictures
+
+  abbrev isPassed : CheckResult → Bool
+  isPassed (refused n x) = false
+  isPassed (passed x) = true
+
+  abbrev recordIn : Decoder → CheckResult → Decoder
+  recordIn d (refused n x) = d
+  recordIn d (passed x) = x
+
+  passed-keeps : (d y : Decoder) (l : List ℕ) (a : CheckResult) → Accepts s a → checkStore d l a ≡ passed y → Keeps s y (cleared (storeBytes y) l)
+  unfolding checkStore
+  passed-keeps d y l (refused n x) h e = absurd (false≢true (ap isPassed e))
+  passed-keeps d y l (passed x) h e = go (leb (storeBytes x) (length l)) refl e
+    where
+      go : (b : Bool) → leb (storeBytes x) (length l) ≡ b → cond b (passed x) (refused 6 d) ≡ passed y → Keeps s y (cleared (storeBytes y) l)
+      go true q i = subst (λ (z : Decoder). Keeps s z (cleared (storeBytes z) l)) (ap (recordIn d) i) (accepted-keeps s short l h q)
+      go false q i = absurd (false≢true (ap isPassed i))
+
+  checks-header : (d : Decoder) (l : List ℕ) → d .sequence .«has_sequence_header» ≡ false → checkHeaderAndStore s d l ≡ checkStore d l (checkHeader s d)
+  unfolding checkHeaderAndStore
+  checks-header d l h = rw h refl
+
+  -- what its turns are given
+  record Begun (x : CallState) (y : Decoder) : Type 0 where
+    sized : Sized (y .sequence .sizes)
+    keeps : KeepsAt s (y .sequence .sizes) (startState (x .decoder) y (x .store))
+
+  begun : {x : CallState} {n : ℕ} → Between s x n → ComesToPictures (x .decoder) s (x .store) → Begun x (withHeaderRead s (x .decoder))
+  unfolding startState
+  begun {x} (waiting k q) c =
+      let d = x .decoder in
+      let y = withHeaderRead s d in
+      let j = passed-keeps d y (x .store) (checkHeader s d) (header-accepts k short) (sym (checks-header d (x .store) (k .header)) ∙ c .header) in
+      record { sized = keeps-sized j; keeps = subst (KeepsAt s (y .sequence .sizes)) (sym (begun-clears d y (x .store) (k .header))) (j .step) }
+  begun {x} (live k q) c = rw (k .header) (record { sized = keeps-sized k; keeps = k .step })
+  begun {x} (stuck k t q) c = rw (k .header) (record { sized = keeps-sized k; keeps = k .step })
+  begun {x} (marked p m q) c =
+      let z = c .mark in
+      let no : ⊥ = ⊎-elim (λ (e : x .decoder .stop ≡ 8). omega arith) (λ (e : x .decoder .stop ≡ 9). omega arith) m in absurd no
+
+  -- RULES 8.3: the exact end of the bits stands for no second picture
+  pub turn-followed : {x : CallState} {n : ℕ} → Between s x n → ComesToPictures (x .decoder) s (x .store) → (g : DecodingState)
+      → InCall (x .decoder) s (x .store) g → isPictureReady s (atPicture s g .state) ≡ true → PictureAhead s (position (atPicture s g .state))
+  turn-followed {x} b c g i r = second-code s {z = z} g short (go i) r
+    where
+      k : Begun x (withHeaderRead s (x .decoder))
+      k = begun b c
+
+      z : Sizes
+      z = withHeaderRead s (x .decoder) .sequence .sizes
+
+      go : {g : DecodingState} → InCall (x .decoder) s (x .store) g → KeepsAt s z g
+      go in-the-first = k .keeps
+      go (in-the-second e) = step-row s z _ short bytes (k .sized) _ (k .keeps) _ refl _ e .0

@@ -34,6 +34,8 @@ use Rattle.playback.proofs.Searches.{Barren, Sought, hit, miss, sought}
 use Rattle.playback.proofs.Next.{Next, has, finds, fails, next-is, next-has, next-barren}
 use Rattle.playback.proofs.Cases.{picture-step-is, step-seven}
 use Rattle.playback.proofs.TwoSteps.{Each, by-steps}
+use Rattle.demands.specs.Codes.{PictureAhead, picture-at}
+use Rattle.demands.proofs.Codes.{SearchEnd, with-code, with-none, search-end}
 use Rattle.demands.proofs.Keeps.{KeepsAt, keeps-counted, keeps-held, keeps-searched, Sized}
 
 -- ---- 7, for good
@@ -81,6 +83,28 @@ there s x short k (at-code c) i =
     let a = position (x .state) in
     followed s a short (k .ahead c) (both (not (eqZ (startCode (x .state)) (negsuc 0))) (isFollowed s a) i .1)
 there s x short k (at-end c b) i = no-code s (x .state) c i
+
+-- RULES 8.3: before a picture start code that the search leaves bits are left, so a second one is found where the picture is ready
+pub second-code : (s : List ℕ) {z : Sizes} (x : DecodingState) → length s ≤ longestStream → KeepsAt s z x → isPictureReady s (atPicture s x .state) ≡ true
+    → PictureAhead s (position (atPicture s x .state))
+unfolding isFollowed
+second-code s {z} x short k i = go (row .1)
+  where
+    row : KeepsAt s z (atPicture s x) × Behind s (nextPicture s (x .state)) × (frames (nextPicture s (x .state)) ≡ frames (x .state))
+    row = search-row s x short k
+
+    a : ℕ
+    a = position (atPicture s x .state)
+
+    ahead : a < length s * 8 → (o : Out ℤ) → SearchEnd s 0 a o → (not (eqZ (o .value) (negsuc 0)) || hasEnded s a) ≡ true → PictureAhead s a
+    ahead h o (with-code v c) f = picture-at c
+    ahead h o (with-none v c) f = let e = leb-true (length s * 8) a (rw v at f) in let no : ⊥ = omega arith in absurd no
+
+    go : Behind s (nextPicture s (x .state)) → PictureAhead s a
+    go (at-code c) =
+        ahead (row .0 .ahead c) (run (findStartCode (pos 0)) s a) (search-end s 0 a short)
+        (both (not (eqZ (startCode (atPicture s x .state)) (negsuc 0))) (isFollowed s a) i .1)
+    go (at-end c b) = no-code s (atPicture s x .state) c i
 
 -- ---- a turn
 
@@ -161,7 +185,7 @@ module _ (s : List ℕ) (z : Sizes) (m : Matrices) (short : length s ≤ longest
     case-row (aborts i r) = stops (subst Ran r (ran i) .kept .0)
     case-row (is-seven i u) = seven k refl (seven-row i u)
 
-  step-row : (x : DecodingState) → KeepsAt s z x → (n : ℕ) → frames (x .state) ≡ n → (t : Step DecodingState LoopEnd) → pictureStep s z m x ≡ t
+  pub step-row : (x : DecodingState) → KeepsAt s z x → (n : ℕ) → frames (x .state) ≡ n → (t : Step DecodingState LoopEnd) → pictureStep s z m x ≡ t
       → Each (Goes n) (Ends n) t
   step-row x k n q t e =
       let h = search-row s x short k in

@@ -96,8 +96,8 @@ module _ {s : List ℕ} {d : Decoder} (k : Waits s d) where
 
   found-waits : {x : Decoder} → Finds s d x → position x ≤ length s * 8 → Waits s x
   found-waits (a-code (had-it e)) i = k
-  found-waits (a-code (found-it c)) i = searched-waits (pos 0xb3) _ (code-possible (pos 0xb3) (d .state .picture) refl (k .picture)) i
-  found-waits (no-code c) i = searched-waits (negsuc 0) _ (code-possible (negsuc 0) (d .state .picture) refl (k .picture)) i
+  found-waits (a-code (found-it n c)) i = searched-waits (pos 0xb3) _ (code-possible (pos 0xb3) (d .state .picture) refl (k .picture)) i
+  found-waits (no-code n c) i = searched-waits (negsuc 0) _ (code-possible (negsuc 0) (d .state .picture) refl (k .picture)) i
 
 -- ---- width and height: numbers of 12 bits (RULES O.3)
 
@@ -199,4 +199,4 @@ header-accepts {s} {d} k h = go (findSequence s d) (find-sequence s d h) (find-i
     go : (x : Decoder) → Finds s d x → position x ≤ length s * 8
         → Accepts s (cond (eqZ (startCode x) (negsuc 0)) (refused 3 x) (cond (not (has s (position x) 1088)) (refused 4 x) (checkSize s x)))
     go x (a-code c) i = code (at-code c) (found-waits k (a-code c) i)
-    go x (no-code c) i = found-waits k (no-code c) i
+    go x (no-code n c) i = found-waits k (no-code n c) i

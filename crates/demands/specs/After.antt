@@ -1,6 +1,6 @@
 -- RULES "The numbers", QA, QG: what opening and a hand-out have left behind each number: the whole record, and every byte of the store.
 use mathlib.Core.Path.{_≡_}
-use mathlib.Core.Bool.{false}
+use mathlib.Core.Bool.{true, false}
 use mathlib.Core.List.{List}
 use mathlib.Core.Logic.{_⊎_}
 use Prim.Native.Nat.{ℕ, _+_, _*_, _≤_, _<_}
@@ -18,13 +18,13 @@ use Rattle.decoder.specs.Record.{fresh, position, startCode, positionAs, sequen
 use Rattle.decoder.specs.Possible.{possible}
 use Rattle.decoder.specs.Decode.{startState}
 use Rattle.demands.specs.Codes.{CodeFound, NoneFound}
-use Rattle.demands.specs.Checks.{withHeader, withHeaderRead, pictureEnd}
+use Rattle.demands.specs.Checks.{IsFirstFailing, withHeader, withHeaderRead, pictureEnd, openingChecks, decodeChecks}
 use Rattle.demands.specs.Causes.{Cause}
 
--- RULES Q4: the record at the sequence start code: it has the code already, or has found it; nothing but place and start code differs from d
+-- RULES Q4: the record at the sequence start code: it has the code already, or else has found it; nothing but place and start code differs from d
 pub data AtCode (s : List ℕ) (d : Decoder) : Decoder → Type 0 where
   had-it : startCode d ≡ pos 0xb3 → AtCode s d d
-  found-it : {e : ℕ} → CodeFound s 0xb3 (position d) e → AtCode s d (searchedAs (pos 0xb3) e d)
+  found-it : {e : ℕ} → (startCode d ≡ pos 0xb3 → ⊥) → CodeFound s 0xb3 (position d) e → AtCode s d (searchedAs (pos 0xb3) e d)
 
 -- RULES Q5: width and height as read at the record's place, which goes 24 bits further; nothing else differs from d
 abbrev pub sizeRead : List ℕ → Decoder → Decoder
@@ -38,16 +38,16 @@ sizeRead s d = positionAs (position d + 24) (sequenceAs (record {
 
 -- RULES Q3, Q4, Q5, QG: a call that was to read a header with the record d: the number, and the record then
 pub data AfterHeader (s : List ℕ) (d : Decoder) : ℕ → Decoder → Type 0 where
-  after-3 : {e : ℕ} → NoneFound s (position d) e → AfterHeader s d 3 (searchedAs (negsuc 0) e d)
+  after-3 : {e : ℕ} → (startCode d ≡ pos 0xb3 → ⊥) → NoneFound s 0xb3 (position d) e → AfterHeader s d 3 (searchedAs (negsuc 0) e d)
   after-4 : {x : Decoder} → AtCode s d x → length s * 8 < position x + 1088 → AfterHeader s d 4 x
   after-5 : {x : Decoder} → AtCode s d x → position x + 1088 ≤ length s * 8 → (bitsAt s (position x) 12 ≡ 0) ⊎ (bitsAt s (position x + 12) 12 ≡ 0)
       → AfterHeader s d 5 (sizeRead s x)
 
 -- RULES O.2, Q: opening of the stream s with the store l, which is l still: the number, and the record then
-pub data AfterOpening (s l : List ℕ) : ℕ → Decoder → Type 0 where
-  after-1 : 16777216 < length s → AfterOpening s l 1 fresh
-  after-header : {n : ℕ} {x : Decoder} → AfterHeader s fresh n x → AfterOpening s l n x
-  after-6 : length l < storeBytes (withHeader s fresh) → AfterOpening s l 6 fresh
+pub data LeftByOpening (s l : List ℕ) : ℕ → Decoder → Type 0 where
+  after-1 : 16777216 < length s → LeftByOpening s l 1 fresh
+  after-header : {n : ℕ} {x : Decoder} → AfterHeader s fresh n x → LeftByOpening s l n x
+  after-6 : length l < storeBytes (withHeader s fresh) → LeftByOpening s l 6 fresh
 
 -- RULES 8.7: the turn of a hand-out in which it came to its number: the first, given x, or the second, given what the first left
 pub data InStep (s : List ℕ) (z : Sizes) (m : Matrices) (x : DecodingState) : DecodingState → Type 0 where
@@ -63,15 +63,26 @@ abbrev pub endIn : Decoder → List ℕ → DecodingState → Result PictureStat
 endIn d s y = let q = withHeaderRead s d .sequence in pictureEnd s (q .sizes) (q .matrices) (atPicture s y)
 
 -- RULES Q: a hand-out with the record d, the stream s and the store l: the number, and record and store then
-pub data AfterDecode (d : Decoder) (s l : List ℕ) : ℕ → Decoder → List ℕ → Type 0 where
-  after-1 : 16777216 < length s → AfterDecode d s l 1 d l
-  after-2 : possible d ≡ false → AfterDecode d s l 2 d l
-  after-mark : (d .stop ≡ 8) ⊎ (d .stop ≡ 9) → AfterDecode d s l (d .stop) d l
-  after-header : {n : ℕ} {x : Decoder} → d .sequence .«has_sequence_header» ≡ false → AfterHeader s d n x → AfterDecode d s l n x l
-  after-6 : length l < storeBytes (withHeaderRead s d) → AfterDecode d s l 6 d l
+pub data LeftByDecode (d : Decoder) (s l : List ℕ) : ℕ → Decoder → List ℕ → Type 0 where
+  after-1 : 16777216 < length s → LeftByDecode d s l 1 d l
+  after-2 : possible d ≡ false → LeftByDecode d s l 2 d l
+  after-mark : (d .stop ≡ 8) ⊎ (d .stop ≡ 9) → LeftByDecode d s l (d .stop) d l
+  after-header : {n : ℕ} {x : Decoder} → d .sequence .«has_sequence_header» ≡ false → AfterHeader s d n x → LeftByDecode d s l n x l
+  after-6 : length l < storeBytes (withHeaderRead s d) → LeftByDecode d s l 6 d l
   -- no picture is there to decode or to flush: the record is the one behind that search, and nothing is written since
   after-7 : {y : DecodingState} → InCall d s l y → isPictureReady s (atPicture s y .state) ≡ false → isFlush s (atPicture s y .state) ≡ false
-      → AfterDecode d s l 7 (withDecodingState (withHeaderRead s d) (atPicture s y)) (y .store)
-  -- the picture leaves early: the store is what it has written up to there
-  after-8-9 : {y : DecodingState} {n : ℕ} {m : List ℕ} → InCall d s l y → endIn d s y ≡ error n m → Cause s (withHeaderRead s d .sequence .sizes) n
-      → AfterDecode d s l n (stopAs n d) m
+      → LeftByDecode d s l 7 (withDecodingState (withHeaderRead s d) (atPicture s y)) (y .store)
+  -- a picture is there, in a record with no stop mark, and leaves early: the store is what it has written up to there
+  after-8-9 : {y : DecodingState} {n : ℕ} {m : List ℕ} → d .stop ≡ 0 → isPictureReady s (atPicture s y .state) ≡ true
+      → InCall d s l y → endIn d s y ≡ error n m → Cause s (withHeaderRead s d .sequence .sizes) n
+      → LeftByDecode d s l n (stopAs n d) m
+
+-- RULES D1.4, D1.5: opening answers n: the question n is the first whose answer is "no", and this is left
+pub record AfterOpening (s l : List ℕ) (n : ℕ) (x : Decoder) : Type 0 where
+  pub first : IsFirstFailing n (openingChecks s l)
+  pub left : LeftByOpening s l n x
+
+-- a hand-out does
+pub record AfterDecode (d : Decoder) (s l : List ℕ) (n : ℕ) (x : Decoder) (m : List ℕ) : Type 0 where
+  pub first : IsFirstFailing n (decodeChecks d s l)
+  pub left : LeftByDecode d s l n x m

@@ -2,7 +2,7 @@
 use mathlib.Core.Path.{_≡_}
 use mathlib.Core.Bool.{Bool, true, false, not, _&&_, _||_}
 use mathlib.Core.List.{List, [], _∷_, _++_}
-use Prim.Native.Nat.{ℕ}
+use Prim.Native.Nat.{ℕ, _≤_}
 use lib.Dec.{eqb, leb}
 use lib.IntN.{negsuc}
 use lib.ListN.{length}
@@ -20,8 +20,8 @@ use Rattle.playback.specs.Cases.{isPictureReady, isFlush}
 use Rattle.decoder.specs.declared.record.Decoder.{Decoder}
 use Rattle.decoder.specs.Record.{fresh, position, startCode, storeBytes}
 use Rattle.decoder.specs.Possible.{possible, possibleWith}
-use Rattle.decoder.specs.Headers.{findSequence, withSizeRead, accepted}
-use Rattle.decoder.specs.Decode.{startState}
+use Rattle.decoder.specs.Headers.{passed, findSequence, withSizeRead, accepted}
+use Rattle.decoder.specs.Decode.{checkHeaderAndStore, startState}
 
 -- a check (RULES Q: question): its error code (RULES: number), and whether it passes (RULES: 'yes')
 pub record Check : Type 0 where
@@ -104,6 +104,12 @@ picturesChecks s z m x =
 -- the record with which a hand-out comes to its pictures
 abbrev pub withHeaderRead : List ℕ → Decoder → Decoder
 withHeaderRead s d = if d .sequence .«has_sequence_header» then d else withHeader s d
+
+-- a hand-out comes to its pictures: the stream is not too long, there is no stop mark, and the questions 3 to 6 are answered "yes"
+pub record ComesToPictures (d : Decoder) (s l : List ℕ) : Type 0 where
+  pub short : length s ≤ 16777216
+  pub mark : d .stop ≡ 0
+  pub header : checkHeaderAndStore s d l ≡ passed (withHeaderRead s d)
 
 -- RULES "Order": a hand-out asks 1, 2, the stop mark, then 3, 4, 5 while no header is accepted, then 6, and of its pictures 7, 8 and 9
 unfoldable pub decodeChecks : Decoder → List ℕ → List ℕ → List Check

@@ -1,27 +1,29 @@
--- RULES "The numbers": its rows 3 to 9 of a call that was given the record d, the stream s and the store l, and left the record x and the store m.
+-- RULES "The numbers", D1.4: its rows 3 to 9 of a call that was given the record d, the stream s and the store l, and left the record x and the store m.
 use mathlib.Core.Path.{_≡_}
-use mathlib.Core.Bool.{false}
+use mathlib.Core.Bool.{true, false}
 use mathlib.Core.List.{List}
 use mathlib.Core.Logic.{_⊎_}
 use Prim.Native.Nat.{ℕ, _+_, _*_, _≤_, _<_}
-use lib.IntN.{negsuc}
+use lib.IntN.{pos, negsuc}
 use lib.ListN.{length}
 use Rattle.bits.specs.Bits.{bitsAt}
 use Rattle.picture_state.specs.Result.{error}
 use Rattle.decoder.specs.declared.record.Decoder.{Decoder}
 use Rattle.playback.specs.Steps.{DecodingState, atPicture}
 use Rattle.playback.specs.Cases.{isPictureReady, isFlush}
-use Rattle.decoder.specs.Record.{position, searchedAs, stopAs, withDecodingState}
+use Rattle.decoder.specs.Record.{position, startCode, searchedAs, stopAs, withDecodingState, storeBytes}
 use Rattle.decoder.specs.Record as R
+use Rattle.decoder.specs.Headers.{findSequence}
 use Rattle.demands.specs.Codes.{NoneFound}
 use Rattle.demands.specs.Causes.{Cause}
-use Rattle.demands.specs.Checks.{withHeaderRead}
+use Rattle.demands.specs.Checks.{IsFirstFailing, withSize, withHeaderRead, decodeChecks}
 use Rattle.demands.specs.After.{AtCode, sizeRead, InCall, endIn}
 
--- RULES Q3: the place where the search ended, start code -1
+-- RULES Q3: no sequence start code in the record; the place where the search ended, start code -1
 pub record Row3 (s : List ℕ) (d x : Decoder) : Type 0 where
+  pub searched : startCode d ≡ pos 0xb3 → ⊥
   pub position : ℕ
-  pub ended : NoneFound s (R.position d) position
+  pub ended : NoneFound s 0xb3 (R.position d) position
   pub is : x ≡ searchedAs (negsuc 0) position d
 
 -- RULES Q4: right behind the code, start code B3, fewer than 1,088 bits left
@@ -37,8 +39,22 @@ pub record Row5 (s : List ℕ) (d x : Decoder) : Type 0 where
   pub zero : (bitsAt s (position atCode) 12 ≡ 0) ⊎ (bitsAt s (position atCode + 12) 12 ≡ 0)
   pub is : x ≡ sizeRead s atCode
 
+-- RULES Q5, O.5: what 5 leaves to the next call with this stream: nothing is searched, and a size is read at the very place
+pub record TriesAgain (s : List ℕ) (x : Decoder) : Type 0 where
+  pub header : x .sequence .«has_sequence_header» ≡ false
+  pub still : findSequence s x ≡ x
+  pub size : position x + 24 ≤ length s * 8 → withSize s x ≡ sizeRead s x
+
+-- RULES Q6: the store is too short for the header, accepted in this call or earlier; the questions before are answered "yes", and nothing is changed
+pub record Row6 (d : Decoder) (s l : List ℕ) (x : Decoder) (m : List ℕ) : Type 0 where
+  pub first : IsFirstFailing 6 (decodeChecks d s l)
+  pub short : length l < storeBytes (withHeaderRead s d)
+  pub decoder : x ≡ d
+  pub store : m ≡ l
+
 -- RULES Q7: no picture to decode or to flush; the record behind the search of that turn, the store as the turn was given it
 pub record Row7 (d : Decoder) (s l : List ℕ) (x : Decoder) (m : List ℕ) : Type 0 where
+  pub first : IsFirstFailing 7 (decodeChecks d s l)
   pub given : DecodingState
   pub step : InCall d s l given
   pub none : isPictureReady s (atPicture s given .state) ≡ false
@@ -46,10 +62,13 @@ pub record Row7 (d : Decoder) (s l : List ℕ) (x : Decoder) (m : List ℕ) : Ty
   pub decoder : x ≡ withDecodingState (withHeaderRead s d) (atPicture s given)
   pub store : m ≡ given .store
 
--- RULES Q8, Q9: the picture left early for its cause, with what it had written; the record as passed in with the stop mark n
+-- RULES Q8, Q9: with no stop mark, a picture that was there left early for its cause, with what it had written; the record as passed in with the stop mark n
 pub record Row89 (d : Decoder) (s l : List ℕ) (n : ℕ) (x : Decoder) (m : List ℕ) : Type 0 where
+  pub first : IsFirstFailing n (decodeChecks d s l)
+  pub mark : d .stop ≡ 0
   pub given : DecodingState
   pub step : InCall d s l given
+  pub ready : isPictureReady s (atPicture s given .state) ≡ true
   pub left : endIn d s given ≡ error n m
   pub cause : Cause s (withHeaderRead s d .sequence .sizes) n
   pub decoder : x ≡ stopAs n d
