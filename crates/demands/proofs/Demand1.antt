@@ -1,4 +1,4 @@
--- RULES D1.3 to D1.5: demand 1, of what the calls gave. Each theorem is of any call: by its contract it gave r (Calls.antt), and nothing else is assumed.
+-- RULES D1.3 to D1.5: demand 1, of what the calls gave. Each theorem is of any call: by its contract it gave r, and nothing else is assumed.
 -- D1.1 and D1.2 are that the calls' code is proved, with no `requires`.
 use mathlib.Core.Path.{_≡_, refl, sym, ap, ap₂, subst, _∙_}
 use mathlib.Core.Bool.{true, false, _&&_}

@@ -1,6 +1,6 @@
--- RULES D2.1 to D2.4: demand 2, of what the calls gave. Each theorem is of any call: by its contract it gave r (Calls.antt), and nothing else is assumed.
+-- RULES D2.1 to D2.4: demand 2, of what the calls gave. Each theorem is of any call: by its contract it gave r, and nothing else is assumed.
 -- That the definitions are the Rust's is tested, not proved.
-use mathlib.Core.Path.{_≡_, refl, sym, ap, subst, _∙_}
+use mathlib.Core.Path.{_≡_, refl, sym, ap, ap₂, subst, _∙_}
 use mathlib.Core.Bool.{Bool, true, false, _&&_}
 use mathlib.Core.List.{List, [], _∷_}
 use mathlib.Core.Logic.{_⊎_, ⊎-elim}
@@ -23,8 +23,10 @@ use Rattle.decoder.specs.declared.answers.Opened as D
 use Rattle.playback.specs.declared.outcome.{Shown.Shown, Outcome.Outcome}
 use Rattle.playback.specs.declared.outcome.Outcome.the-variants as H
 use Rattle.decoder.specs.declared.answers.Converted.the-variants as C
-use Rattle.decoder.specs.Record.{CallResult, fresh, storeBytes}
+use Rattle.decoder.specs.Record.{CallResult, callResult, fresh, storeBytes}
 use Rattle.decoder.specs.Possible.{possible}
+use Rattle.decoder.specs.Opening.{opening}
+use Rattle.decoder.specs.Decode.{decode}
 use Rattle.decoder.specs.Conversion.{Area}
 use Rattle.decoder.specs.Answers.{openingErrorCode, decodeErrorCode, conversionErrorCode}
 use Rattle.decoder.specs.Calls.{Opens, Decodes, Converts}
@@ -33,6 +35,7 @@ use Rattle.demands.specs.Stores.{SameFrom}
 use Rattle.demands.specs.Outputs.{OpeningLeaves, DecodeOutputs}
 use Rattle.demands.proofs.After.{opening-ready, hand-picture, hand-same, cleared-same}
 use Rattle.demands.proofs.ErrorCodes.{opening-positive, positive, conversion-positive, conversion-written}
+use Rattle.demands.proofs.OneResult.{ready-one, output-one}
 use Rattle.demands.proofs.Demand1 as D1
 use Rattle.demands.proofs.Reached.{same-from}
 use Rattle.bits.specs.Bounds.{longestStream}
@@ -69,6 +72,15 @@ module _ (s l : List ℕ) (r : D.Opened) (m : List ℕ) (gave : Opens s l r m) w
   pub open-too-long : longestStream < length s → r .answer ≡ O.Refused 1
   open-too-long h = D1.open-says s l r m gave 1 (omega arith) (this-one refl (lt-leb (length s) longestStream h))
 
+-- D2.1, the other way: what is stated of an opening that is ready is what `open` gives
+pub open-ready-only : (s l : List ℕ) (x : Decoder) (m : List ℕ) → firstFailing (openingChecks s l) ≡ 0 → OpeningLeaves s l x m
+    → Opens s l (record { decoder = x; answer = O.Ready }) m
+open-ready-only s l x m p a =
+    let o = opening s l in
+    let e : o .answer ≡ O.Ready = open-ready s l (record { decoder = o .decoder; answer = o .answer }) (o .store) refl p in
+    let k = ready-one a (opening-ready s l e) in
+    ap₂ (λ (y : Decoder) (k : List ℕ). callResult O.Ready y k) (k .0) (k .1) ∙ ap (λ (v : Opening). callResult v (o .decoder) (o .store)) (sym e)
+
 -- ---- decode
 
 module _ (d : Decoder) (s l : List ℕ) (r : DecodeResult) (m : List ℕ) (gave : Decodes d s l r m) where
@@ -93,6 +105,22 @@ module _ (d : Decoder) (s l : List ℕ) (r : DecodeResult) (m : List ℕ) (gave 
   pub decode-too-long : longestStream < length s → r .outcome ≡ H.Refused 1
   unfolding decodeChecks
   decode-too-long h = D1.decode-says d s l r m gave 1 (omega arith) (this-one refl (lt-leb (length s) longestStream h))
+
+-- D2.1, the other way: what is stated of a picture is what `decode` gives
+pub decode-picture-only : (d : Decoder) (s l : List ℕ) (i : Shown) (x : Decoder) (m : List ℕ) → firstFailing (decodeChecks d s l) ≡ 0
+    → DecodeOutputs d s l i x m → Decodes d s l (record { decoder = x; outcome = H.Picture i }) m
+decode-picture-only d s l i x m p a = go (o .answer) refl
+  where
+    o : CallResult Outcome
+    o = decode d s l
+
+    go : (v : Outcome) → o .answer ≡ v → callResult (H.Picture i) x m ≡ decode d s l
+    go (H.Picture j) e =
+        let k = output-one a (hand-picture d s l j e) in
+        ap (λ (u : Shown). callResult (H.Picture u) x m) (k .0)
+        ∙ ap₂ (λ (y : Decoder) (k : List ℕ). callResult (H.Picture j) y k) (k .1) (k .2)
+        ∙ ap (λ (v : Outcome). callResult v (o .decoder) (o .store)) (sym e)
+    go (H.Refused n) e = absurd (decode-picture d s l (record { decoder = o .decoder; outcome = o .answer }) (o .store) refl p n e)
 
 -- ---- write_rgb_scaled
 

@@ -1,4 +1,4 @@
--- RULES D2.5, R.1 to R.3: of the calls that follow an opening, whatever it answered. By their contracts the calls gave r and rs (Calls.antt); a stream is
+-- RULES D2.5, R.1 to R.3: of the calls that follow an opening, whatever it answered. By their contracts the calls gave r and rs (specs/Calls.antt); a stream is
 -- one of bytes, as every slice that is lent is.
 use mathlib.Core.Path.{_≡_, refl, sym, ap, ap₂, subst, _∙_}
 use mathlib.Core.Bool.{true, false}

@@ -1,14 +1,13 @@
 -- RULES D1.4, D1.5: for one input and one number there is one record and one store that the row of the number admits: those of the call. Assumes nothing.
-use mathlib.Core.Path.{_≡_, refl, sym, ap, ap₂, subst, _∙_}
+use mathlib.Core.Path.{_≡_, refl, sym, ap, _∙_}
 use mathlib.Core.Bool.{true, false, not}
 use mathlib.Core.List.{List}
 use mathlib.Core.Logic.{_⊎_, inl, inr, ⊎-elim}
-use Prim.Native.Nat.{ℕ, _+_, _*_, _≤_, _<_}
+use Prim.Native.Nat.{ℕ, _<_}
 use native.Mathlib.Omega.{arith}
 use lib.IntN.{ℤ, pos, negsuc}
-use lib.ListN.{length}
 use borrow.Author.Tests.{not-true}
-use Rattle.laws.specs.Loops.{continue, finish}
+use Rattle.laws.specs.Loops.{finish}
 use Rattle.laws.proofs.Loops.{steps-again, steps-stop}
 use Rattle.laws.proofs.Tests.{both}
 use Rattle.bits.specs.Programs.{Out, run, eqZ}
@@ -22,7 +21,7 @@ use Rattle.playback.specs.State.{position, startCode}
 use Rattle.playback.specs.Search.{nextCode, isFollowed}
 use Rattle.playback.specs.Display.{isWaiting, flushed}
 use Rattle.playback.specs.Steps.{DecodingState, LoopEnd, finished, aborted, atPicture, afterPicture, decoded, searched, pictureStep, pictures}
-use Rattle.playback.specs.Cases.{isPictureReady, isFlush, Outputs, b-picture, reference-picture, flushed-picture}
+use Rattle.playback.specs.Cases.{isPictureReady, Outputs, b-picture, reference-picture, flushed-picture}
 use Rattle.playback.proofs.Cases.{step-seven, step-b, step-held}
 use Rattle.decoder.specs.declared.record.Decoder.{Decoder}
 use Rattle.decoder.specs.Record as R
@@ -72,8 +71,10 @@ code-still s x c =
 
 pub tries-again : {s : List ℕ} {d x : Decoder} → Row5 s d x → d .sequence .«has_sequence_header» ≡ false → TriesAgain s x
 tries-again {s} {d} {x} r h =
-    let still = code-still s x (ap R.startCode (r .is) ∙ at-code (r .code)) in
+    let code = ap R.startCode (r .is) ∙ at-code (r .code) in
+    let still = code-still s x code in
     record {
+      code = code;
       header = ap (λ (y : Decoder). y .sequence .«has_sequence_header») (r .is) ∙ go (r .code);
       still = still;
       size = λ b. ap (λ (y : Decoder). withSizeRead (run size s (R.position y)) y) still
@@ -83,6 +84,17 @@ tries-again {s} {d} {x} r h =
     go : {y : Decoder} → AtCode s d y → y .sequence .«has_sequence_header» ≡ false
     go (had-it e) = h
     go (found-it n k) = h
+
+-- so that call does not answer 3, 4 leaves this record, and 5 the size read from there
+module _ {s : List ℕ} {x y : Decoder} (t : TriesAgain s x) where
+  pub again-3 : Row3 s x y → ⊥
+  again-3 r = r .searched (t .code)
+
+  pub again-4 : Row4 s x y → y ≡ x
+  again-4 r = at-same (r .code) (had-it (t .code))
+
+  pub again-5 : Row5 s x y → y ≡ sizeRead s x
+  again-5 r = r .is ∙ ap (sizeRead s) (at-same (r .code) (had-it (t .code)))
 
 -- ---- opening
 

@@ -1,5 +1,5 @@
 -- RULES "Order": the questions of a hand-out with a header that was accepted earlier, and with none; and the number that a "no" gives, question by question.
--- By its contract `decode` gave r (Calls.antt). A "no" in the second turn: `decode-says` in Demand1.antt.
+-- By its contract `decode` gave r. A "no" in the second turn: `decode-says` in Demand1.antt.
 use mathlib.Core.Path.{_≡_, refl, ap, _∙_}
 use mathlib.Core.Bool.{true, false}
 use mathlib.Core.List.{List, _∷_}

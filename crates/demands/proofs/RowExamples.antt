@@ -1,11 +1,11 @@
 -- Searches and rows on given streams, by computation: a code inside another one, a 5 with its second try, and for each row an input of which it does not hold.
 use mathlib.Core.Path.{_≡_, refl, sym, ap, _∙_}
 use mathlib.Core.Bool.{true≢false}
-use mathlib.Core.List.{List, [], _∷_, _++_}
-use Prim.Native.Nat.{ℕ, _+_, _*_, _≤_}
+use mathlib.Core.List.{List, [], _∷_}
+use Prim.Native.Nat.{ℕ, _+_, _≤_}
 use native.Mathlib.Omega.{arith}
 use lib.IntN.{pos, negsuc}
-use lib.ListN.{length, replicate, drop}
+use lib.ListN.{replicate, drop}
 use Rattle.laws.specs.Loops.{iterate}
 use Rattle.laws.specs.Each.{allBelow}
 use Rattle.bits.specs.Bits.{bitAt, bitsAt, readAt, afterRead, codePrefix, codeFrom, found}
@@ -13,16 +13,16 @@ use Rattle.bits.specs.Programs.{run, bind, loop, findStep, findStartCode}
 use Rattle.codes.specs.Matrices.{intraQuantMatrix, nonIntraQuantMatrix, premultiplierMatrix, bounded}
 use Rattle.header.specs.Store.{cleared}
 use Rattle.header.specs.Sequences.{matrix, size, rest}
-use Rattle.playback.specs.declared.outcome.{Shown.Shown, Outcome.Outcome}
+use Rattle.playback.specs.declared.outcome.Shown.{Shown}
 use Rattle.playback.specs.declared.outcome.Outcome.the-variants as H
 use Rattle.playback.specs.State.{freshState, possibleDisplay}
 use Rattle.playback.specs.Search.{nextCode, isFollowed}
 use Rattle.playback.specs.Display.{flushed}
 use Rattle.playback.specs.Steps.{LoopEnd, searched, pictureStep, pictures}
 use Rattle.decoder.specs.declared.record.Decoder.{Decoder}
-use Rattle.decoder.specs.declared.answers.{Opening.Opening, Opened.Opened}
+use Rattle.decoder.specs.declared.answers.Opened.{Opened}
 use Rattle.decoder.specs.declared.answers.Opening.the-variants as O
-use Rattle.decoder.specs.Record.{CallResult, fresh, position, startCode, searchedAs, stopAs}
+use Rattle.decoder.specs.Record.{fresh, position, searchedAs, stopAs}
 use Rattle.decoder.specs.Answers.{openingErrorCode, decodeErrorCode}
 use Rattle.decoder.specs.Possible.{possible}
 use Rattle.decoder.specs.Headers.{findSequence, accepted, checkSize, checkHeader, checkStore}

@@ -42,6 +42,7 @@ pub record Row5 (s : List ℕ) (d x : Decoder) : Type 0 where
 -- RULES Q5, O.5: what 5 leaves to the next call with this stream: nothing is searched, and a size is read at the very place
 pub record TriesAgain (s : List ℕ) (x : Decoder) : Type 0 where
   pub header : x .sequence .«has_sequence_header» ≡ false
+  pub code : startCode x ≡ pos 0xb3
   pub still : findSequence s x ≡ x
   pub size : position x + 24 ≤ length s * 8 → withSize s x ≡ sizeRead s x
 

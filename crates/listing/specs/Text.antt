@@ -8,8 +8,7 @@ use lib.ListN.{length, replicate}
 use lib.Seq.{sets}
 use Rattle.decoder.specs.declared.record.Decoder.{Decoder}
 use Rattle.decoder.specs.declared.answers.Opening.the-variants as O
-use Rattle.decoder.specs.Record.{callResult}
-use Rattle.decoder.specs.Opening.{opening}
+use Rattle.decoder.specs.Calls as Calls
 use Rattle.decoder.specs.Listing.{Line, listing}
 
 -- a number in decimal digits, with no 0 in front, where n digits are enough
@@ -41,7 +40,7 @@ listingText s = names ++ linesText (listing s)
 
 -- RULES L.1: opening the stream s over an empty store leaves the record d and the store l
 abbrev pub Opens : List ℕ → Decoder → List ℕ → Type 0
-Opens s d l = callResult O.Ready d l ≡ opening s (replicate 55296 0)
+Opens s d l = Calls.Opens s (replicate 55296 0) (record { decoder = d; answer = O.Ready }) l
 
 -- the text t is written to the page from the place at on: every byte of the page, and the place behind t
 pub record Wrote (page : List ℕ) (at : ℕ) (t after : List ℕ) (next : ℕ) : Type 0 where
