@@ -4,7 +4,8 @@ use crate::terms::{File, Value};
 use crate::video::{hand_outs, intra_quant_matrix, picture, Handed};
 use std::path::Path;
 
-const FILES: [&str; 4] = [
+const FILES: [&str; 5] = [
+    "crates/clock/proofs/Example.antt",
     "crates/demands/proofs/Example.antt",
     "crates/demands/proofs/Listing.antt",
     "crates/picture/proofs/Example.antt",
@@ -86,6 +87,12 @@ fn rows(stream: &Value) -> Value {
     Value::List(run.handed.iter().map(row).collect())
 }
 
+// The bits of the times of all pictures that are handed out.
+fn time_bits(stream: &Value) -> Value {
+    let run = hand_outs(&stream.bytes(), usize::MAX);
+    Value::List(run.handed.iter().map(|picture| Value::Number(picture.time.to_bits() as i64)).collect())
+}
+
 // A run of a picture from the beginning of a stream.
 fn run(given: &[Value], stream: &Value) -> Value {
     let [sizes, matrices, frame] = given else { panic!("a picture has sizes, matrices and a frame") };
@@ -119,6 +126,7 @@ fn meaning(name: &str, given: Vec<Value>) -> Value {
         ("Ready", []) => made("result", [made("tt", [])]),
         ("types", [Value::Made(_, given)]) => types(&given[0]),
         ("rows", [Value::Made(_, given)]) => rows(&given[0]),
+        ("timeBits", [stream]) => time_bits(stream),
         ("run", [Value::Made(_, given), stream, Value::Number(0)]) => run(given, stream),
         ("storeOf", [way]) => store_of(way),
         ("P.pictureState", [picture, left, store]) => record([("picture", picture.clone()), ("block_data", left.clone()), ("store", store.clone())]),

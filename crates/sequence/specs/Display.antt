@@ -4,13 +4,14 @@ use mathlib.Core.List.{List, [], _∷_}
 use Prim.Native.Nat.{ℕ, _+_, _*_, _<_}
 use lib.Dec.{eqb}
 use lib.ListN.{getD}
+use lib.Ieee.{Float}
 use Rattle.bits.specs.Programs.{if_then_else_}
 use Rattle.standard.specs.Standard.{Decoded}
 use Rattle.playback.specs.declared.outcome.Outcome.the-variants.{Picture, Refused}
-use Rattle.playback.specs.State.{shownPicture}
 use Rattle.decoder.specs.declared.answers.DecodeResult.{DecodeResult}
 use Rattle.decoder.specs.Calls.{Decodes}
 use Rattle.decoder.specs.Run.{CallState, callState}
+use Rattle.clock.specs.Times.{timeAt}
 
 -- 2.4.1: a B picture is shown at once; an I or P picture waits for the next one, so that the B pictures between them come first. w is the one that waits
 abbrev pub displayed : Decoded → List Decoded → List Decoded
@@ -37,8 +38,9 @@ abbrev pub StoreHolds : ℕ → List ℕ → Decoded → Type 0
 StoreHolds n l d = (i : ℕ) → i < 384 * n → getD l (storeOf d * (384 * n) + i) 0 ≡ getD (d .pels) (storeOf d * (384 * n) + i) 0
 
 -- the calls of `decode` from y on, whatever they give by their contract, hand out these pictures, one after the other, and leave their samples in the
--- store; then the answer is 7
-abbrev pub OutputsInOrder : ℕ → List ℕ → CallState → List Decoded → Type 0
-OutputsInOrder n s y [] = (r : DecodeResult) (m : List ℕ) → Decodes (y .decoder) s (y .store) r m → r .outcome ≡ Refused 7
-OutputsInOrder n s y (d ∷ ds) = (r : DecodeResult) (m : List ℕ) → Decodes (y .decoder) s (y .store) r m
-    → (r .outcome ≡ Picture (shownPicture (storeOf d) (r .decoder .state))) × StoreHolds n m d × OutputsInOrder n s (callState (r .decoder) m) ds
+-- store; then the answer is 7. RULES 8.9: k pictures came before them, and the k-th, counted from 0, is shown at 0.0, or at k ÷ rate
+abbrev pub OutputsInOrder : ℕ → Float → List ℕ → ℕ → CallState → List Decoded → Type 0
+OutputsInOrder n rate s k y [] = (r : DecodeResult) (m : List ℕ) → Decodes (y .decoder) s (y .store) r m → r .outcome ≡ Refused 7
+OutputsInOrder n rate s k y (d ∷ ds) = (r : DecodeResult) (m : List ℕ) → Decodes (y .decoder) s (y .store) r m
+    → (r .outcome ≡ Picture (record { store = storeOf d; time = timeAt rate k })) × StoreHolds n m d
+    × OutputsInOrder n rate s (k + 1) (callState (r .decoder) m) ds
