@@ -44,8 +44,10 @@ uint32_t mpeg1_open(const uint8_t *stream, size_t stream_bytes, uint8_t *store, 
    0: a picture. picture[MPEG1_STORE] is the number of its store, for mpeg1_plane_start and mpeg1_write_rgb_scaled, and *time its time in
    seconds; both hold until the next call. Else picture and *time are left as they are: 1 the stream has more than 16777216 bytes; 2 a part of
    the record or picture is too short, or they hold no record; 3 to 6 as in mpeg1_open, while no header is accepted; 7 no further picture; 8 a
-   DC value outside -256..255, with which the Rust goes on, and 9 a prediction that reaches out of its plane: the record is stopped for good. 1 and 2
-   write nothing. */
+   DC value outside -256..255, with which the Rust goes on, and 9 a prediction that reaches out of its plane: the record is stopped for good.
+   1, 2, 6, and 8 or 9 of a record that was stopped before change nothing. 3 to 5 leave the store as it is. Where the memory holds numbers that are no possible
+   record (2), the store is too short (6) or the record is stopped, the record is written again with the values that it has: a float of the clock that is
+   a NaN, which only a record made by hand has, is a NaN then, and nothing is promised of its bits. */
 uint32_t mpeg1_decode(const uint8_t *stream, size_t stream_bytes, uint8_t *store, size_t store_bytes,
                       size_t *numbers, size_t numbers_count, int32_t *integers, size_t integers_count,
                       uint8_t *matrices, size_t matrices_count, double *clock, size_t clock_count,

@@ -1,5 +1,7 @@
 // How many pictures a stream hands out. The record is passed by value: it crosses no memory of the host.
 use decoder::answers::Opening;
+use decoder::answers::decode_error_code;
+use decoder::answers::opening_error_code;
 use decoder::record::Decoder;
 use playback::outcome::Outcome;
 ghost use mathlib.Core.Path.{_≡_};
@@ -16,21 +18,23 @@ fn decode_all(stream: &[u8], store: &mut [u8]) -> Count
 {
     let opened = Decoder::open(stream, store);
     let opening = opened.answer;
-    if let Opening::Refused(answer) = opening {
+    let Opening::Ready = opening else {
+        let answer = opening_error_code(opening);
         return Count {
             answer,
             pictures: 0,
         };
-    }
+    };
     let mut decoder = opened.decoder;
     let mut pictures: usize = 0;
     loop {
         let call = decoder.decode(stream, store);
         decoder = call.decoder;
         let outcome = call.outcome;
-        if let Outcome::Refused(answer) = outcome {
+        let Outcome::Picture(_) = outcome else {
+            let answer = decode_error_code(outcome);
             return Count { answer, pictures };
-        }
+        };
         pictures += 1;
     }
 }

@@ -4,7 +4,7 @@ use mathlib.Core.List.{List, [], _∷_, _++_, append-assoc, append-nil}
 use Prim.Native.Nat.{ℕ, suc, _+_, _-_, _*_, _≤_, _<_}
 use native.Mathlib.Omega.{arith}
 use borrow.Author.Tests.{le-leb, lt-leb}
-use lib.ListN.{length, getD, take, replicate}
+use lib.ListN.{length, getD, replicate}
 use Rattle.io.specs.Counts.{Counts}
 use Rattle.bits.specs.Programs.{many}
 use Rattle.decoder.specs.declared.record.Decoder.{Decoder}
@@ -27,13 +27,13 @@ use Rattle.listing.proofs.Writing.{wrote-on, wrote-length, wrote-take}
 
 -- the lines are written behind the names, and what is written is the beginning of the page
 pub wrote-listing : (s : List ℕ) {page one two : List ℕ} {at next : ℕ} → Wrote page 0 names one at → Wrote one at (linesText (listing s)) two next
-    → next ≤ length page → (take next two ≡ listingText s) × Counts next two
+    → next ≤ length page → Wrote page 0 (listingText s) two next × Counts next two
 unfolding listingText
 wrote-listing s {page} {one} {two} {at} {next} x y h =
     let w = wrote-on x y in
     let e = wrote-take h w in
     let p : next ≡ length (names ++ linesText (listing s)) = w .position ∙ omega arith in
-    (e, (omega (arith, wrote-length w), p ∙ ap length (sym e)))
+    (w, (omega (arith, wrote-length w), p ∙ ap length (sym e)))
 
 -- ---- one line
 

@@ -2,11 +2,12 @@
 use crate::text::write_bytes;
 use crate::text::write_line;
 use decoder::answers::Opening;
+use decoder::answers::opening_error_code;
 use decoder::record::Decoder;
 use playback::outcome::Outcome;
 ghost use mathlib.Core.Path.{_≡_};
 ghost use Prim.Native.Nat.{_≤_};
-ghost use lib.ListN.{length, replicate, take};
+ghost use lib.ListN.{length, replicate};
 ghost use Rattle.io.specs.Counts.{Counts};
 ghost use Rattle.decoder.specs.Answers.{decodeErrorCode};
 ghost use Rattle.decoder.specs.Listing.{listing};
@@ -71,16 +72,16 @@ fn list_lines(stream: &[u8], page: &mut [u8], at: usize) -> usize
     let mut store = empty_store();
     let opened = Decoder::open(stream, &mut store);
     let opening = opened.answer;
-    if let Opening::Refused(answer) = opening {
-        return write_line(page, at, 0, 0, 0, answer as u64);
-    }
+    let Opening::Ready = opening else {
+        return write_line(page, at, 0, 0, 0, opening_error_code(opening) as u64);
+    };
     list_pictures(stream, &mut store, opened.decoder, page, at)
 }
 
-// Writes the listing of a stream to a page, and answers how many bytes it has.
+// Writes the listing of a stream to the beginning of a page, the rest of which stays, and answers how many bytes it has.
 pub fn list(stream: &[u8], page: &mut [u8]) -> usize
     requires { ⌜ 1572864 ≤ length (now page) ⌝ }
-    ensures { λ r. ⌜ take r (now (page .exit)) ≡ listingText (now (stream .entry)) ⌝ }
+    ensures { λ r. ⌜ Wrote (now (page .entry)) 0 (listingText (now (stream .entry))) (now (page .exit)) r ⌝ }
     ensures { λ r. ⌜ Counts r (now (page .exit)) ⌝ }
 {
     let at = write_bytes(page, 0, b"handed store type answer\n");

@@ -25,6 +25,11 @@ flag-is : (x : Bool) → leb (flagNumber x) 1 ≡ true
 flag-is true = refl
 flag-is false = refl
 
+flag-forth : (x : ℕ) → leb x 1 ≡ true → flagNumber (flagOf x) ≡ x
+flag-forth zero e = refl
+flag-forth (suc zero) e = refl
+flag-forth (suc (suc x)) e = absurd (omega (arith, leb-true (suc (suc x)) 1 e))
+
 -- ---- numbers and their bounds
 
 -- the most that each number may be
@@ -57,6 +62,11 @@ within-at [] n e k = refl
 within-at (f ∷ fs) [] e k = absurd (false≢true e)
 within-at (f ∷ fs) (x ∷ n) e zero = both (fits f x) (within fs n) e .0
 within-at (f ∷ fs) (x ∷ n) e (suc k) = within-at fs n (both (fits f x) (within fs n) e .1) k
+
+-- a flag that is read is written back as the number that it was
+pub flag-at : (n : List ℕ) → inRange n ≡ true → (k : ℕ) {f : Decoder → Bool} → getD (fields .numbers) k (size position) ≡ flag f
+    → flagNumber (flagOf (number n k)) ≡ number n k
+flag-at n e k p = flag-forth (number n k) (rw p at (within-at (fields .numbers) n e k))
 
 -- a number of 32 bits
 pub short-at : (n : List ℕ) → inRange n ≡ true → (k : ℕ) {f : Decoder → ℕ} → getD (fields .numbers) k (size position) ≡ short f → number n k ≤ 4294967295

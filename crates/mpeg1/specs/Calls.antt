@@ -1,6 +1,6 @@
 -- The calls of `decoder` on memory that a host owns. An answer is 0 or the number of a refusal (RULES Q).
 use mathlib.Core.Path.{_≡_}
-use mathlib.Core.Bool.{not, _&&_}
+use mathlib.Core.Bool.{true, not, _&&_}
 use mathlib.Core.List.{List, [], _∷_}
 use Prim.Native.Nat.{ℕ}
 use lib.Dec.{leb}
@@ -52,6 +52,11 @@ saved answer y x = hostResult answer (y .store) (written (y .decoder) x)
 unfoldable pub opensIn : List ℕ → List ℕ → Memory → HostResult
 opensIn s l x = if not (hasRoom x) then hostResult 2 l x else saved (openingErrorCode (opening s l .answer)) (opening s l) x
 
+-- contract of `mpeg1_open`: given the stream s, the store l and the memory x it left y; with room for a record the memory holds that of the opening
+pub record HostOpens (s l : List ℕ) (x : Memory) (y : HostResult) : Type 0 where
+  pub left : y ≡ opensIn s l x
+  pub held : hasRoom x ≡ true → HoldsRecord (y .memory) (opening s l .decoder)
+
 -- what a hand-out leaves where the memory holds a record
 pub record RefinesDecode (answer : Outcome) (store : List ℕ) (z : Memory) (y : CallResult Outcome) (x : Memory) : Type 0 where
   pub answered : answer ≡ y .answer
@@ -74,6 +79,13 @@ decodesIn s l x k t =
     else if not (isRecord x && leb pictureCount (length k)) then hostOutput (hostResult 2 l x) k t
     else decodeOutput (decode (recordOf x) s l) x k t
 
+-- contract of `mpeg1_decode`: given the stream s, the store l, the memory x, room k for a picture's numbers and its time t it left y; where the memory
+-- held a record that was asked for, it holds the one that `decode` leaves
+pub record HostDecodes (s l : List ℕ) (x : Memory) (k : List ℕ) (t : Float) (y : HostOutput) : Type 0 where
+  pub left : y ≡ decodesIn s l x k t
+  pub held : isRecord x ≡ true → leb (length s) longestStream ≡ true → leb pictureCount (length k) ≡ true
+      → HoldsRecord (y .kept .memory) (decode (recordOf x) s l .decoder)
+
 -- a conversion reads no clock, so a host lends none: the record has one of 0.0
 abbrev pub zeroClock : List Float
 zeroClock = replicate clockCount noTime
@@ -94,3 +106,7 @@ unfoldable pub convertsIn : List ℕ → Memory → ℕ → List ℕ → ℕ →
 convertsIn l x k a w h =
     if not (isRecord x) then converts 2 a
     else let y = Conversion.converted (recordOf x) l k a w h in converts (conversionErrorCode (y .answer)) (y .area)
+
+-- contract of `mpeg1_write_rgb_scaled`: given the store l, the memory x, the store number k, the area a and the sizes w and h it left y
+abbrev pub HostConverts : List ℕ → Memory → ℕ → List ℕ → ℕ → ℕ → Converts → Type 0
+HostConverts l x k a w h y = y ≡ convertsIn l x k a w h

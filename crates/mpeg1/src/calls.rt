@@ -1,7 +1,8 @@
 // The three calls. Stream, store and record lie in the host's memory.
 use bits::position::LONGEST_STREAM;
-use decoder::answers::Converted;
-use decoder::answers::Opening;
+use decoder::answers::conversion_error_code;
+use decoder::answers::decode_error_code;
+use decoder::answers::opening_error_code;
 use decoder::record::Decoder;
 use memory::copies::copy_numbers;
 use memory::format::CLOCK;
@@ -13,15 +14,10 @@ use playback::outcome::Outcome;
 use playback::outcome::Shown;
 ghost use mathlib.Core.Path.{_≡_};
 ghost use mathlib.Core.Bool.{true};
-ghost use lib.Dec.{leb};
-ghost use lib.ListN.{length};
-ghost use Rattle.decoder.specs.Opening as Open;
 ghost use Rattle.decoder.specs.Decode as Out;
-ghost use Rattle.decoder.specs.Answers.{openingErrorCode, conversionErrorCode};
-ghost use Rattle.memory.specs.Memory.{memory, hasRoom, recordOf, isRecord, HoldsRecord};
-ghost use Rattle.mpeg1.specs.Calls.{hostResult, hostOutput, opensIn, pictureNumbers, pictureCount, RefinesDecode, decodesIn, unclocked, converts};
-ghost use Rattle.mpeg1.specs.Calls.{convertsIn};
-ghost use Rattle.bits.specs.Bounds.{longestStream};
+ghost use Rattle.memory.specs.Memory.{memory, recordOf, isRecord};
+ghost use Rattle.mpeg1.specs.Calls.{hostResult, hostOutput, pictureNumbers, RefinesDecode, unclocked, converts};
+ghost use Rattle.mpeg1.specs.Calls.{HostOpens, HostDecodes, HostConverts};
 
 // How many numbers are told of a picture.
 pub const PICTURE_NUMBERS: usize = 1;
@@ -31,24 +27,6 @@ fn picture_numbers(p: Shown) -> [usize; PICTURE_NUMBERS]
     ensures { λ r. ⌜ r ≡ pictureNumbers p ⌝ }
 {
     [p.store]
-}
-
-fn opening_error_code(x: Opening) -> u32
-    ensures { λ r. ⌜ r ≡ openingErrorCode x ⌝ }
-{
-    match x {
-        Opening::Ready => 0,
-        Opening::Refused(n) => n,
-    }
-}
-
-fn conversion_error_code(x: Converted) -> u32
-    ensures { λ r. ⌜ r ≡ conversionErrorCode x ⌝ }
-{
-    match x {
-        Converted::Written => 0,
-        Converted::Refused(n) => n,
-    }
 }
 
 // RULES O: 0, or 1 to 6.
@@ -61,12 +39,9 @@ pub extern "C" fn mpeg1_open(
     matrices: &mut [u8],
     clock: &mut [f64],
 ) -> u32
-    ensures left { λ r. ⌜ hostResult r (now (store .exit)) (memory (now (numbers .exit)) (now (integers .exit)) (now (matrices .exit)) (now (clock .exit)))
-        ≡ opensIn (now (stream .entry)) (now (store .entry))
-        (memory (now (numbers .entry)) (now (integers .entry)) (now (matrices .entry)) (now (clock .entry))) ⌝ }
-    ensures held { λ r. ⌜ (hasRoom (memory (now (numbers .entry)) (now (integers .entry)) (now (matrices .entry)) (now (clock .entry))) ≡ true
-        → HoldsRecord (memory (now (numbers .exit)) (now (integers .exit)) (now (matrices .exit)) (now (clock .exit)))
-        (Open.opening (now (stream .entry)) (now (store .entry)) .decoder)) ⌝ }
+    ensures { λ r. ⌜ HostOpens (now (stream .entry)) (now (store .entry))
+        (memory (now (numbers .entry)) (now (integers .entry)) (now (matrices .entry)) (now (clock .entry)))
+        (hostResult r (now (store .exit)) (memory (now (numbers .exit)) (now (integers .exit)) (now (matrices .exit)) (now (clock .exit)))) ⌝ }
 {
     if !has_room(numbers, integers, matrices, clock) {
         return 2;
@@ -77,7 +52,8 @@ pub extern "C" fn mpeg1_open(
     opening_error_code(answer)
 }
 
-// RULES 8: the hand-out of the record that the memory holds.
+// RULES 8: the hand-out of the record that the memory holds. A record that stays as it is (RULES Q2, Q6, QA) is written back, which changes nothing
+// (`written-back` of `memory`).
 fn decode_record(
     stream: &[u8],
     store: &mut [u8],
@@ -109,15 +85,10 @@ pub extern "C" fn mpeg1_decode(
     picture: &mut [usize],
     time: &mut f64,
 ) -> u32
-    ensures left { λ r. ⌜ hostOutput (hostResult r (now (store .exit))
-        (memory (now (numbers .exit)) (now (integers .exit)) (now (matrices .exit)) (now (clock .exit)))) (now (picture .exit)) (now (time .exit))
-        ≡ decodesIn (now (stream .entry)) (now (store .entry))
-        (memory (now (numbers .entry)) (now (integers .entry)) (now (matrices .entry)) (now (clock .entry))) (now (picture .entry)) (now (time .entry)) ⌝ }
-    ensures held { λ r. ⌜ (isRecord (memory (now (numbers .entry)) (now (integers .entry)) (now (matrices .entry)) (now (clock .entry))) ≡ true
-        → leb (length (now (stream .entry))) longestStream ≡ true → leb pictureCount (length (now (picture .entry))) ≡ true
-        → HoldsRecord (memory (now (numbers .exit)) (now (integers .exit)) (now (matrices .exit)) (now (clock .exit)))
-        (Out.decode (recordOf (memory (now (numbers .entry)) (now (integers .entry)) (now (matrices .entry)) (now (clock .entry))))
-        (now (stream .entry)) (now (store .entry)) .decoder)) ⌝ }
+    ensures { λ r. ⌜ HostDecodes (now (stream .entry)) (now (store .entry))
+        (memory (now (numbers .entry)) (now (integers .entry)) (now (matrices .entry)) (now (clock .entry))) (now (picture .entry)) (now (time .entry))
+        (hostOutput (hostResult r (now (store .exit)) (memory (now (numbers .exit)) (now (integers .exit)) (now (matrices .exit)) (now (clock .exit))))
+        (now (picture .exit)) (now (time .exit))) ⌝ }
 {
     if LONGEST_STREAM < stream.len() {
         return 1;
@@ -129,15 +100,13 @@ pub extern "C" fn mpeg1_decode(
         return 2;
     }
     let outcome = decode_record(stream, store, numbers, integers, matrices, clock);
-    match outcome {
-        Outcome::Picture(p) => {
-            let told = picture_numbers(p);
-            copy_numbers(picture, 0, &told);
-            *time = p.time;
-            0
-        }
-        Outcome::Refused(n) => n,
-    }
+    let Outcome::Picture(p) = outcome else {
+        return decode_error_code(outcome);
+    };
+    let told = picture_numbers(p);
+    copy_numbers(picture, 0, &told);
+    *time = p.time;
+    0
 }
 
 // RULES 9: 0, or 2, 6, 10, 11.
@@ -152,9 +121,8 @@ pub extern "C" fn mpeg1_write_rgb_scaled(
     width: usize,
     height: usize,
 ) -> u32
-    ensures { λ r. ⌜ converts r (now (area .exit))
-        ≡ convertsIn (now (store .entry)) (unclocked (now (numbers .entry)) (now (integers .entry)) (now (matrices .entry)))
-        index (now (area .entry)) width height ⌝ }
+    ensures { λ r. ⌜ HostConverts (now (store .entry)) (unclocked (now (numbers .entry)) (now (integers .entry)) (now (matrices .entry)))
+        index (now (area .entry)) width height (converts r (now (area .exit))) ⌝ }
 {
     let still = [0.0f64; CLOCK];
     if !is_record(numbers, integers, matrices, &still) {

@@ -1,6 +1,8 @@
 // What a host reads of a record, and the sizes that it needs, so that none counts fields or repeats the layout of a store.
 use crate::calls::PICTURE_NUMBERS;
+use bits::position::BitPosition;
 use bits::position::LAST_POSITION;
+use bits::position::byte_of;
 use header::possible::possible_sequence;
 use header::possible::sizes_of;
 use header::state::Sequence;
@@ -160,7 +162,7 @@ pub extern "C" fn mpeg1_picture_type(numbers: &[usize]) -> u32
 pub extern "C" fn mpeg1_position(numbers: &[usize]) -> usize
     ensures { λ r. ⌜ r ≡ View.bytesRead (now (numbers .entry)) ⌝ }
 {
-    number_seen(numbers, 0, LAST_POSITION) / 8
+    byte_of(BitPosition(number_seen(numbers, 0, LAST_POSITION))).0
 }
 
 #[no_mangle]

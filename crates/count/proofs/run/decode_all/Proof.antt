@@ -1,5 +1,5 @@
 use mathlib.Core.Path.{_≡_, sym, ap, _∙_}
-use Prim.Native.Nat.{_-_}
+use Prim.Native.Nat.{ℕ, _-_}
 use native.Mathlib.Omega.{arith}
 use borrow.Author.Needs.{needs}
 use denote.Ref.{now}
@@ -8,8 +8,10 @@ use Rattle.decoder.specs.declared.answers.Opening.the-variants as O
 use Rattle.playback.specs.declared.outcome.Outcome.{Outcome}
 use Rattle.playback.specs.declared.outcome.Outcome.the-variants as H
 use Rattle.decoder.specs.Record.{callResult}
+use Rattle.decoder.specs.Answers.{openingErrorCode, decodeErrorCode}
 use Rattle.decoder.specs.Decode.{decode}
 use Rattle.decoder.specs.Opening.{opening}
+use Rattle.count.specs.Count.{counts}
 use Rattle.count.proofs.Counting.{Counting, refused-counts, ready-counts, counting-few, counting-end, counting-on, counting-first}
 use Rattle.count.proofs.run.decode_all.Statement.{statement}
 use Rattle.count.proofs.run.decode_all.Tie as tie
@@ -37,9 +39,11 @@ returns c =
     let n = c .before in
     let o = n .before .before .before .before in
     let s = entry o in
-    let a = n .opening .given .0 .0 in
-    refused-counts (now (s .args .stream)) (now (s .args .store)) (o .«open» .result .decoder) (o .«open» .last .1 .0) a
-    (opened o (O.Refused a) (n .opening .given .1))
+    let a = n .enum-told2 .given .0 .0 in
+    let code : c .opening-error-code .result ≡ a = c .opening-error-code .ensures ∙ ap openingErrorCode (n .enum-told2 .given .1) in
+    ap (λ (k : ℕ). counts k 0 (o .«open» .last .1 .0)) code
+    ∙ refused-counts (now (s .args .stream)) (now (s .args .store)) (o .«open» .result .decoder) (o .«open» .last .1 .0) a
+    (opened o (O.Refused a) (n .enum-told2 .given .1))
 
 abbrev Ready : Type 0
 Ready = tie.After-decoder Inv-loop μ-loop
@@ -72,7 +76,7 @@ answered : (d : Decoded) (a : Outcome) → let x = d .decode in let l = turn d .
 answered d a e = ap (λ (y : Outcome). callResult y (d .decode .result .decoder) (d .decode .last .1 .1 .0)) (sym e) ∙ d .decode .ensures
 
 -- where a refusal is answered
-abbrev refused : tie.After-outcome Inv-loop μ-loop → Decoded
+abbrev refused : tie.After-enum-told4 Inv-loop μ-loop → Decoded
 refused n = n .before .before .before .before .before
 
 same-length-2 : tie.Need-same-length-2 Inv-loop μ-loop
@@ -88,12 +92,14 @@ returns-2 c =
     let l = turn d in
     let o = at-open (l .before) in
     let s = entry o in
-    let a = n .outcome .given .0 .0 in
-    counting-end (l .loop .inv) a (d .decode .result .decoder) (d .decode .last .1 .1 .0) (answered d (H.Refused a) (n .outcome .given .1))
+    let a = n .enum-told4 .given .0 .0 in
+    let code : c .decode-error-code .result ≡ a = c .decode-error-code .ensures ∙ ap decodeErrorCode (n .enum-told4 .given .1) in
+    ap (λ (k : ℕ). counts k (l .loop .pictures) (d .decode .last .1 .1 .0)) code
+    ∙ counting-end (l .loop .inv) a (d .decode .result .decoder) (d .decode .last .1 .1 .0) (answered d (H.Refused a) (n .enum-told4 .given .1))
     ∙ ready-counts (now (s .args .stream)) (now (s .args .store)) (o .«open» .result .decoder) (o .«open» .last .1 .0) (ready (l .before))
 
 -- where a picture is answered
-abbrev picture : tie.After-enum-told2 Inv-loop μ-loop → Decoded
+abbrev picture : tie.After-enum-told3 Inv-loop μ-loop → Decoded
 picture c = c .before .before .before .before .before
 
 add-pictures : tie.Need-add-pictures Inv-loop μ-loop
@@ -105,12 +111,12 @@ loop-less c = omega (arith, counting-few (turn (picture c) .loop .inv))
 loop-again : tie.Need-loop-again Inv-loop μ-loop
 loop-again c =
     let d = picture c in
-    let i = c .enum-told2 .given .0 .0 in
-    counting-on (turn d .loop .inv) i (d .decode .result .decoder) (d .decode .last .1 .1 .0) (answered d (H.Picture i) (c .enum-told2 .given .1))
+    let i = c .enum-told3 .given .0 .0 in
+    counting-on (turn d .loop .inv) i (d .decode .result .decoder) (d .decode .last .1 .1 .0) (answered d (H.Picture i) (c .enum-told3 .given .1))
     (d .decode .kept .1 .1 .0)
 
 pub decode-all-spec : {M : Type 1} → statement M
 decode-all-spec =
     tie.close
-    (tie.spec Inv-loop μ-loop (λ c κs. tt) (λ c. c .match .keys1) (λ c. search needs) returns (λ c. c .match .keys2) loop-holds
-    (λ c κs. tt) (λ c. c .match2 .keys1) same-length-2 returns-2 (λ c. c .match2 .keys2) add-pictures loop-less loop-again)
+    (tie.spec Inv-loop μ-loop (λ c κs. tt) (λ c. c .match .keys1) (λ c. c .match .keys2) (λ c κs. tt) (λ c. search needs) returns loop-holds
+    (λ c κs. tt) (λ c. c .match2 .keys1) (λ c. c .match2 .keys2) (λ c κs. tt) same-length-2 returns-2 add-pictures loop-less loop-again)

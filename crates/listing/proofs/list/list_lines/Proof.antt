@@ -1,5 +1,6 @@
 -- `list::list_lines` meets its contract: one line of a stream that is too long or refused, else those of its pictures.
-use mathlib.Core.Path.{_≡_, sym, ap, _∙_}
+use mathlib.Core.Path.{_≡_, sym, ap, subst, _∙_}
+use Prim.Native.Nat.{ℕ}
 use native.Mathlib.Omega.{arith}
 use borrow.Author.Needs.{needs}
 use denote.Ref.{now}
@@ -7,8 +8,10 @@ use lib.ListN.{replicate}
 use Rattle.decoder.specs.declared.answers.Opening.{Opening}
 use Rattle.decoder.specs.declared.answers.Opening.the-variants as O
 use Rattle.decoder.specs.Record.{callResult}
+use Rattle.decoder.specs.Answers.{openingErrorCode}
 use Rattle.decoder.specs.Opening.{opening}
 use Rattle.decoder.specs.Listing.{line}
+use Rattle.listing.specs.Text.{Wrote, lineText}
 use Rattle.listing.proofs.Listed.{one-line, long-listed, refused-listed}
 use Rattle.listing.proofs.list.list_lines.Statement.{statement}
 use Rattle.listing.proofs.list.list_lines.Tie as tie
@@ -41,14 +44,18 @@ opened o a e =
 returns-2 : tie.Need-returns-2
 returns-2 c =
     let x = c .before .before in
-    let n = x .before .before .before in
+    let code = x .before in
+    let n = code .before .before in
     let o = n .before .before in
     let s = now (entry o .args .stream) in
-    let a = n .opening .given .0 .0 in (
+    let a = n .enum-told2 .given .0 .0 in
+    let e : code .opening-error-code .result ≡ a = code .opening-error-code .ensures ∙ ap openingErrorCode (n .enum-told2 .given .1) in
+    let w = subst (λ (k : ℕ). Wrote (now (entry o .args .page)) (entry o .args .at) (lineText (line 0 0 0 k)) (x .write-line2 .last .0) (x .write-line2 .result)) e
+    (x .write-line2 .ensures .0) in (
       one-line s (line 0 0 0 a)
           (refused-listed s (o .before .«open» .result .decoder) (o .before .«open» .last .1 .0) a (emptied o .before .if1 .left)
-          (opened o (O.Refused a) (n .opening .given .1)))
-          (x .write-line2 .ensures .0),
+          (opened o (O.Refused a) (n .enum-told2 .given .1)))
+          w,
       omega (arith, x .write-line2 .ensures .1, entry o .pre),
     )
 
@@ -62,5 +69,5 @@ pub list-lines-spec : {M : Type 1} → statement M
 list-lines-spec =
     tie.close
     (tie.spec (λ c κs. search needs) (λ c. search needs) returns (λ c κs. search needs) (λ c. search needs) (λ c κs. search needs)
-    (λ c. search needs) (λ c. search needs) (λ c κs. search needs) (λ c. search needs) returns-2 (λ c. search needs) (λ c. search needs)
-    list-pictures-requires (λ c. search needs) (λ c. search needs))
+    (λ c. search needs) (λ c. search needs) (λ c κs. search needs) (λ c. search needs) (λ c κs. search needs) (λ c. search needs) returns-2
+    (λ c. search needs) list-pictures-requires (λ c. search needs) (λ c. search needs))

@@ -7,6 +7,7 @@ use borrow.Author.Tests.{not-true, not-false, lt-leb}
 use denote.Ref.{now}
 use lib.ListN.{length}
 use Rattle.playback.specs.declared.outcome.Outcome.{Outcome}
+use Rattle.decoder.specs.Answers.{decodeErrorCode}
 use Rattle.memory.specs.Memory.{Memory, memory, over, isRecord}
 use Rattle.mpeg1.specs.Calls.{pictureCount, decodesIn}
 use Rattle.mpeg1.proofs.Answers.{decodes-1, decodes-2, decodes-short, told, decodes}
@@ -40,25 +41,28 @@ is c = sym (c .before .is-record .ensures) ∙ not-false (c .before .is-record .
 
 returns : tie.Need-returns
 returns c =
-    let s = entry (c .before) in (
-      decodes-1 (now (s .args .stream)) (now (s .args .store)) (lent s) (now (s .args .picture)) (now (s .args .time)) (c .if1 .taken),
-      λ i h p. absurd (false≢true (sym (lt-leb (length (now (s .args .stream))) longestStream (c .if1 .taken)) ∙ h)),
-    )
+    let s = entry (c .before) in
+    record {
+      left = decodes-1 (now (s .args .stream)) (now (s .args .store)) (lent s) (now (s .args .picture)) (now (s .args .time)) (c .if1 .taken);
+      held = λ i h p. absurd (false≢true (sym (lt-leb (length (now (s .args .stream))) longestStream (c .if1 .taken)) ∙ h));
+    }
 
 returns-2 : tie.Need-returns-2
 returns-2 c =
-    let s = entry (c .before .before) in let k = now (s .args .picture) in (
-      decodes-short (now (s .args .stream)) (now (s .args .store)) (lent s) k (now (s .args .time)) (c .before .if1 .left) (c .if2 .taken),
-      λ i h p. absurd (false≢true (sym (lt-leb pictureCount (length k) (c .if2 .taken)) ∙ p)),
-    )
+    let s = entry (c .before .before) in let k = now (s .args .picture) in
+    record {
+      left = decodes-short (now (s .args .stream)) (now (s .args .store)) (lent s) k (now (s .args .time)) (c .before .if1 .left) (c .if2 .taken);
+      held = λ i h p. absurd (false≢true (sym (lt-leb pictureCount (length k) (c .if2 .taken)) ∙ p));
+    }
 
 returns-3 : tie.Need-returns-3
 returns-3 c =
     let r = roomy (c .before) in let s = begun r in
-    let e = sym (c .before .is-record .ensures) ∙ not-true (c .before .is-record .result) (c .if3 .taken) in (
-      decodes-2 (now (s .args .stream)) (now (s .args .store)) (lent s) (now (s .args .picture)) (now (s .args .time)) (r .before .if1 .left) e,
-      λ i h p. absurd (false≢true (sym e ∙ i)),
-    )
+    let e = sym (c .before .is-record .ensures) ∙ not-true (c .before .is-record .result) (c .if3 .taken) in
+    record {
+      left = decodes-2 (now (s .args .stream)) (now (s .args .store)) (lent s) (now (s .args .picture)) (now (s .args .time)) (r .before .if1 .left) e;
+      held = λ i h p. absurd (false≢true (sym e ∙ i));
+    }
 
 -- the hand-out, and what it leaves
 module _ (c : tie.After-slice-known9) where
@@ -82,6 +86,13 @@ module _ (c : tie.After-slice-known9) where
       ≡ decodesIn (now (start .args .stream)) (now (start .args .store)) (lent start) (now (start .args .picture)) (now (start .args .time))
   gives e = rw (← e) (decodes _ _ _ _ _ (roomy (ready .before) .before .if1 .left) (is ready) room (gave .decode-record .ensures))
 
+-- the outcome is a number
+returns-4 : tie.Need-returns-4
+returns-4 c =
+    let o = c .before in let p = o .before .before in
+    let code : c .decode-error-code .result ≡ o .enum-told .given .0 .0 = c .decode-error-code .ensures ∙ ap decodeErrorCode (o .enum-told .given .1) in
+    record { left = rw code (gives p (o .enum-told .given .1)); held = λ i h q. gave p .decode-record .ensures .holds }
+
 -- the outcome is a picture, whose numbers are put over the beginning of what is lent
 abbrev answered : tie.After-picture-numbers → tie.After-outcome
 answered v = v .before .before
@@ -90,18 +101,15 @@ copy-numbers-requires : tie.Need-copy-numbers-requires
 copy-numbers-requires c κs =
     let v = c .before .before in let p = answered v .before .before in omega (arith, room p, ap length (v .picture-numbers .ensures))
 
-returns-4 : tie.Need-returns-4
-returns-4 c =
+returns-5 : tie.Need-returns-5
+returns-5 c =
     let k = c .before .before in let v = k .before .before .before in let o = answered v in let p = o .before .before in
     let put = k .copy-numbers .ensures ∙ ap (λ z. over z (now (start p .args .picture))) (v .picture-numbers .ensures) in
-    (rw put (gives p (o .outcome .given .1)), λ i h q. gave p .decode-record .ensures .holds)
-
-returns-5 : tie.Need-returns-5
-returns-5 c = let p = c .before .before .before in (gives p (c .before .outcome2 .given .1), λ i h q. gave p .decode-record .ensures .holds)
+    record { left = rw put (gives p (o .outcome .given .1)); held = λ i h q. gave p .decode-record .ensures .holds }
 
 pub mpeg1-decode-spec : {M : Type 1} → statement M
 mpeg1-decode-spec =
     tie.close (tie.spec returns returns-2 (λ c κs. search needs) (λ c. search needs) (λ c. search needs) (λ c. search needs) (λ c. search needs)
-    returns-3 (λ c κs. is (asked c)) (λ c. search needs) (λ c κs. search needs) (λ c. search needs) copy-numbers-requires (λ c. search needs)
-    (λ c. search needs) (λ c. search needs) (λ c. search needs) (λ c. search needs) (λ c. search needs) (λ c. search needs) returns-4
-    (λ c. search needs) (λ c. search needs) (λ c. search needs) (λ c. search needs) (λ c. search needs) returns-5)
+    returns-3 (λ c κs. is (asked c)) (λ c. search needs) (λ c. search needs) (λ c κs. search needs) (λ c. search needs) (λ c. search needs)
+    (λ c. search needs) (λ c. search needs) (λ c. search needs) returns-4 (λ c κs. search needs) (λ c. search needs) copy-numbers-requires
+    (λ c. search needs) (λ c. search needs) (λ c. search needs) (λ c. search needs) (λ c. search needs) (λ c. search needs) returns-5)

@@ -35,7 +35,7 @@ returns : tie.Need-returns
 returns c =
     let s = entry (c .before) in
     let e = sym (c .before .has-room .ensures) ∙ not-true (c .before .has-room .result) (c .if1 .taken) in
-    (opens-2 (now (s .args .stream)) (now (s .args .store)) (lent s) e, λ h. absurd (false≢true (sym e ∙ h)))
+    record { left = opens-2 (now (s .args .stream)) (now (s .args .store)) (lent s) e; held = λ h. absurd (false≢true (sym e ∙ h)) }
 
 save-requires : tie.Need-save-requires
 save-requires c κs = roomy-is (at-open c .before .before)
@@ -43,10 +43,11 @@ save-requires c κs = roomy-is (at-open c .before .before)
 returns-2 : tie.Need-returns-2
 returns-2 c =
     let w = at-save c in let o = at-open (w .before) in let q = o .before .before in let s = entry (q .before) in
-    let x = w .save .ensures in (
-      opens (now (s .args .stream)) (now (s .args .store)) (lent s) (roomy-is q) (o .«open» .ensures) (c .opening-error-code .ensures) (x .0),
-      λ h. subst (λ (z : Decoder). HoldsRecord (saved-in w) z) (ap (λ y. y .decoder) (o .«open» .ensures)) (x .1),
-    )
+    let x = w .save .ensures in
+    record {
+      left = opens (now (s .args .stream)) (now (s .args .store)) (lent s) (roomy-is q) (o .«open» .ensures) (c .opening-error-code .ensures) (x .0);
+      held = λ h. subst (λ (z : Decoder). HoldsRecord (saved-in w) z) (ap (λ y. y .decoder) (o .«open» .ensures)) (x .1);
+    }
 
 pub mpeg1-open-spec : {M : Type 1} → statement M
 mpeg1-open-spec =

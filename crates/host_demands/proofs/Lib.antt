@@ -1,0 +1,4 @@
+pub mod Behind
+pub mod Opening
+pub mod Decode
+pub mod Conversion
