@@ -98,14 +98,17 @@ fn run(given: &[Value], stream: &Value) -> Value {
     let [sizes, matrices, frame] = given else { panic!("a picture has sizes, matrices and a frame") };
     let (stores, left, at) = picture(sizes, matrices, frame, &stream.bytes());
     let stores = bytes(&stores);
-    let value = if left == 0 { made("ok", [record([("store", stores)])]) } else { made("error", [number(left), stores]) };
+    let value = if left == 0 { made("ok", [record([("store", stores)])]) } else { made("error", [made("stop", [number(left), stores])]) };
     record([("value", value), ("at", number(at))])
 }
 
 fn store_of(way: &Value) -> Value {
     match way {
         Value::Made(name, given) if name == "ok" => given[0].field("store").clone(),
-        Value::Made(_, given) => given[1].clone(),
+        Value::Made(_, given) => match &given[0] {
+            Value::Made(_, stop) => stop[1].clone(),
+            _ => panic!("{way:?} has a store"),
+        },
         _ => panic!("{way:?} is a result"),
     }
 }
@@ -116,6 +119,9 @@ fn meaning(name: &str, given: Vec<Value>) -> Value {
         ("take", [n, list]) => Value::List(list.list().iter().take(n.number() as usize).cloned().collect()),
         ("drop", [n, list]) => Value::List(list.list().iter().skip(n.number() as usize).cloned().collect()),
         ("pos", [n]) => n.clone(),
+        // the Rust tells the number of a cause only
+        ("dcOutside", [_, _, _, _]) => number(8),
+        ("predictionOutside", [_, _, _, _]) => number(9),
         ("ofInt", [_, n]) => float(n.number() as f64),
         ("div", [_, x, y]) => float(float_of(x) / float_of(y)),
         ("intraQuantMatrix", []) => bytes(&intra_quant_matrix()),
@@ -129,8 +135,9 @@ fn meaning(name: &str, given: Vec<Value>) -> Value {
         ("timeBits", [stream]) => time_bits(stream),
         ("run", [Value::Made(_, given), stream, Value::Number(0)]) => run(given, stream),
         ("storeOf", [way]) => store_of(way),
+        ("isOk", [Value::Made(way, _)]) => made(if way == "ok" { "true" } else { "false" }, []),
         ("P.pictureState", [picture, left, store]) => record([("picture", picture.clone()), ("block_data", left.clone()), ("store", store.clone())]),
-        ("binary64" | "true" | "false" | "tt" | "result" | "number" | "line" | "error" | "P.picture" | "decoded", _) => made(name, given),
+        ("binary64" | "true" | "false" | "tt" | "result" | "number" | "line" | "error" | "stop" | "Y" | "P.picture" | "decoded", _) => made(name, given),
         _ => panic!("no meaning is known of {name}, applied to {} values", given.len()),
     }
 }

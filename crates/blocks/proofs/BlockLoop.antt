@@ -7,35 +7,35 @@ use native.Mathlib.Omega.{arith}
 use lib.IntN.{ℤ}
 use lib.ListN.{length}
 use Rattle.bits.specs.declared.reader.Reader.{Reader}
-use Rattle.bits.specs.Runs.{Runs}
 use Rattle.bits.specs.Programs.{Prog}
-use Rattle.bits.proofs.Rules.{r-yes, r-no, r-done, r-for}
+use Rattle.bits.proofs.Rules.{r-for}
 use Rattle.picture_state.specs.State.{SliceState, sliceState}
 use Rattle.picture_state.specs.Result.{Result, ok, ifOk, forBelow}
+use Rattle.picture_state.specs.Stop.{Stop}
 use Rattle.picture_state.specs.Flags.{flag}
 use Rattle.blocks.specs.Blocks.{oneBlock, patternBlock, blocks}
 use Rattle.picture_state.specs.declared.types.{Slice.Slice, Progress.Progress}
-use Rattle.picture_state.specs.Contracts.{matricesIn, MacroblockInvariant, RefinesAtMacroblock}
-use Rattle.picture_state.proofs.Results.{r-for-bind, r-for-if-ok, way-out}
+use Rattle.picture_state.specs.Contracts.{RunsNumbered, matricesIn, MacroblockInvariant, RefinesAtMacroblock}
+use Rattle.picture_state.proofs.Results.{t-done, t-yes, t-no, r-for-bind, r-for-if-ok, way-out}
 use Rattle.blocks.specs.declared.blocks.CodedBlocks.{CodedBlocks}
 
 -- a macroblock's blocks, and the one with this number
-abbrev all : CodedBlocks → List ℕ → SliceState → Prog (Result SliceState)
+abbrev all : CodedBlocks → List ℕ → SliceState → Prog (Result Stop SliceState)
 all c t w = blocks (c .context) (matricesIn t) (c .intra) (c .pattern) w
 
-abbrev numbered : CodedBlocks → List ℕ → ℕ → SliceState → Prog (Result SliceState)
+abbrev numbered : CodedBlocks → List ℕ → ℕ → SliceState → Prog (Result Stop SliceState)
 numbered c t number w = patternBlock (c .context) (matricesIn t) (c .intra) (c .pattern) number w
 
 -- a block whose bit is not in the pattern, and one whose bit is
 module _ (c : CodedBlocks) (t : List ℕ) (number : ℕ) (x : Slice) (left : List ℤ) (store : List ℕ) {s : List ℕ} {from : Reader} where
   pub bit-no : flag (c .pattern) (2 ^ (5 - number)) ≡ false → MacroblockInvariant (c .context) s from x left store
       → RefinesAtMacroblock (numbered c t number (sliceState x left store)) (c .context) s from (record { reader = from; state = x; stop = 0 }) left store
-  bit-no h k = record { runs = r-no _ h r-done; ready = k }
+  bit-no h k = record { runs = t-no _ h (t-done refl); ready = k }
 
   pub bit-yes : {r : Progress} {left₁ : List ℤ} {store₁ : List ℕ} → flag (c .pattern) (2 ^ (5 - number)) ≡ true
       → RefinesAtMacroblock (oneBlock (c .context) (matricesIn t) (c .intra) number (sliceState x left store)) (c .context) s from r left₁ store₁
       → RefinesAtMacroblock (numbered c t number (sliceState x left store)) (c .context) s from r left₁ store₁
-  bit-yes h w = record { runs = r-yes _ h (w .runs); ready = w .ready }
+  bit-yes h w = record { runs = t-yes _ h (w .runs); ready = w .ready }
 
 -- before the block with this number, in the state x, `left`, `store` at `from`; the loop began in w₀ at from₀
 pub record AtBlock (c : CodedBlocks) (t : List ℕ) (s : List ℕ) (from₀ : Reader) (w₀ : SliceState)
@@ -43,11 +43,16 @@ pub record AtBlock (c : CodedBlocks) (t : List ℕ) (s : List ℕ) (from₀ : Re
   pub few : number ≤ 6
   pub ready : MacroblockInvariant (c .context) s from x left store
   pub long : length store ≡ length (w₀ .store)
-  pub runs : Runs (forBelow number (numbered c t) w₀) s from₀ (ok (sliceState x left store)) from
+  pub runs : RunsNumbered (forBelow number (numbered c t) w₀) s from₀ (ok (sliceState x left store)) from
 
 pub at-first : {c : CodedBlocks} {t : List ℕ} {s : List ℕ} {from : Reader} {x : Slice} {left : List ℤ} {store : List ℕ}
     → MacroblockInvariant (c .context) s from x left store → AtBlock c t s from (sliceState x left store) from x left store 0
-at-first {c} {t} k = record { few = omega arith; ready = k; long = refl; runs = r-for (λ i. ifOk (numbered c t i)) }
+at-first {c} {t} {x = x} {left} {store} k = record {
+  few = omega arith;
+  ready = k;
+  long = refl;
+  runs = record { value = ok (sliceState x left store); runs = r-for (λ i. ifOk (numbered c t i)); is = refl };
+}
 
 module _ {c : CodedBlocks} {t : List ℕ} {s : List ℕ} {from₀ : Reader} {w₀ : SliceState} {from : Reader} {x : Slice} {left : List ℤ}
     {store : List ℕ} {number : ℕ} (i : AtBlock c t s from₀ w₀ from x left store number) where
@@ -67,6 +72,6 @@ module _ {c : CodedBlocks} {t : List ℕ} {s : List ℕ} {from₀ : Reader} {w�
         record { runs = rw e (r-for-if-ok (number + 1) (numbered c t) w₀ (5 - number) 6 (omega arith) o); ready = w .ready }
 
   -- and the end
-  pub at-end : 6 ≤ number → Runs (all c t w₀) s from₀ (ok (sliceState x left store)) from
+  pub at-end : 6 ≤ number → RunsNumbered (all c t w₀) s from₀ (ok (sliceState x left store)) from
   unfolding blocks
   at-end h = let e : number ≡ 6 = omega (arith, i .few) in rw e at (i .runs)

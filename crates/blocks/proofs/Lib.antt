@@ -4,3 +4,4 @@ pub mod Lengths
 pub mod Ready
 pub mod Results
 pub mod Stores
+pub mod Stops

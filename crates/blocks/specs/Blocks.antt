@@ -10,7 +10,8 @@ use Rattle.laws.specs.Signed.{clamp255}
 use Rattle.bits.specs.Programs.{Prog, if_then_else_}
 use Rattle.coefficients.specs.declared.quantiser.Quantiser.{Quantiser}
 use Rattle.coefficients.specs.Dequantise.{quantiser}
-use Rattle.coefficients.specs.Blocks.{Filled, BlockRead, block, blockDataAfter, firstOnly}
+use Rattle.coefficients.specs.Blocks.{Filled, BlockRead, reconstructed, blockDataAfter, firstOnly}
+use Rattle.coefficients.specs.Syntax.{codedBlock}
 use Rattle.coefficients.specs.declared.block.BlockEnd.the-variants.{Whole, Dropped, Outside}
 use Rattle.transform.specs.Idct.{idct, dcOnly}
 use Rattle.prediction.specs.Predict.{macroblockAt}
@@ -19,6 +20,7 @@ use Rattle.prediction.specs.Writers.{setConst, overwrite, addConst, addBlock, b
 use Rattle.picture_state.specs.declared.types.{Context.Context, Matrices.Matrices, Slice.Slice}
 use Rattle.picture_state.specs.State.{SliceState, sliceState, predictorsAs}
 use Rattle.picture_state.specs.Result.{Result, ok, error, lift, fromResult, pure, forBelow, _>>=_, _>>_}
+use Rattle.picture_state.specs.Stop.{Stop, stop, dcOutside}
 use Rattle.picture_state.specs.Flags.{flag}
 
 -- RULES 3.1: the place of a block's DC predictor: 0 for Y, 1 for Cb, 2 for Cr
@@ -45,14 +47,18 @@ written g q number address f l =
 abbrev pub predictorAs : ℕ → ℤ → Slice → Slice
 predictorAs number p s = predictorsAs (set (s .«dc_predictor») (predictorOf number) p) s
 
--- RULES Q8, 3.3, 3.9, 3.12: predictor, left-over coefficients and store behind a block. A DC value outside ends the call with 8; a dropped block
--- writes nothing
-unfoldable pub blockEnd : Context → Quantiser → ℕ → SliceState → BlockRead → Result SliceState
-blockEnd g q number w r = elim (r .end) [
+-- the DC predictor of the block with this number
+abbrev pub dcPredictor : ℕ → Slice → ℤ
+dcPredictor number s = getD (s .«dc_predictor») (predictorOf number) (pos 0)
+
+-- RULES Q8, 3.3, 3.9, 3.12: predictor, left-over coefficients and store behind a block with this difference. A DC value outside ends the call with 8; a
+-- dropped block writes nothing
+unfoldable pub blockEnd : Context → Quantiser → ℕ → SliceState → ℤ → BlockRead → Result Stop SliceState
+blockEnd g q number w difference r = elim (r .end) [
   | Whole ↦ ok (sliceState (predictorAs number (r .predictor) (w .slice)) (blockDataAfter q r)
       (written g q number (natAbs (w .slice .«macroblock_address»)) (r .filled) (w .store)))
   | Dropped ↦ ok (sliceState (predictorAs number (r .predictor) (w .slice)) (blockDataAfter q r) (w .store))
-  | Outside ↦ error 8 (w .store)
+  | Outside ↦ error (stop (dcOutside (natAbs (w .slice .«macroblock_address»)) number (dcPredictor number (w .slice)) difference) (w .store))
 ]
 
 -- RULES 3.8: the matrix of blocks that are intra or not
@@ -63,18 +69,18 @@ matrixFor m intra = if intra then m .«intra_quant_matrix» else m .«non_intra_
 abbrev pub quantiserOf : Context → Bool → Slice → Quantiser
 quantiserOf g intra s = quantiser intra (s .«quantizer_scale»)
 
--- the block with this number
-unfoldable pub oneBlock : Context → Matrices → Bool → ℕ → SliceState → Prog (Result SliceState)
+-- the block with this number: read, reconstructed, and written
+unfoldable pub oneBlock : Context → Matrices → Bool → ℕ → SliceState → Prog (Result Stop SliceState)
 oneBlock g m intra number w = do
   let q = quantiserOf g intra (w .slice)
-  let predictor = getD (w .slice .«dc_predictor») (predictorOf number) (pos 0)
-  r ← lift (block q (matrixFor m intra) (ltb number 4) predictor (w .«block_data»))
-  fromResult (blockEnd g q number w r)
+  let predictor = dcPredictor number (w .slice)
+  c ← lift (codedBlock (q .intra) (ltb number 4) predictor)
+  fromResult (blockEnd g q number w (c .difference) (reconstructed q (matrixFor m intra) predictor (w .«block_data») c))
 
 -- RULES 7.16: the block with this number, if the pattern has its bit: that of block 0 weighs 32, that of block 5 weighs 1
-abbrev pub patternBlock : Context → Matrices → Bool → ℕ → ℕ → SliceState → Prog (Result SliceState)
+abbrev pub patternBlock : Context → Matrices → Bool → ℕ → ℕ → SliceState → Prog (Result Stop SliceState)
 patternBlock g m intra pattern number w = if flag pattern (2 ^ (5 - number)) then oneBlock g m intra number w else pure w
 
 -- RULES 7.16 (11172-2, 2.4.2.7): the blocks that the pattern names, 0 to 5 in this order
-unfoldable pub blocks : Context → Matrices → Bool → ℕ → SliceState → Prog (Result SliceState)
+unfoldable pub blocks : Context → Matrices → Bool → ℕ → SliceState → Prog (Result Stop SliceState)
 blocks g m intra pattern w = forBelow 6 (patternBlock g m intra pattern) w

@@ -3,19 +3,18 @@ use mathlib.Core.Bool.{Bool}
 use mathlib.Core.List.{List}
 use Prim.Native.Nat.{ℕ}
 use lib.Dec.{ltb}
-use lib.IntN.{ℤ, pos}
-use lib.ListN.{getD}
+use lib.IntN.{ℤ}
 use Rattle.bits.specs.Programs.{Prog}
 use Rattle.coefficients.specs.declared.quantiser.Quantiser.{Quantiser}
 use Rattle.coefficients.specs.Blocks.{BlockRead, block}
 use Rattle.coefficients.specs.declared.block.BlockEnd.the-variants.{Whole, Dropped, Outside}
 use Rattle.picture_state.specs.declared.types.{Context.Context, Matrices.Matrices, Slice.Slice}
-use Rattle.blocks.specs.Blocks.{predictorOf, quantiserOf, matrixFor, written}
+use Rattle.blocks.specs.Blocks.{dcPredictor, quantiserOf, matrixFor, written}
 
 -- a block of the slice's macroblock, as it is read
 abbrev pub blockOf : Context → Matrices → Bool → ℕ → Slice → List ℤ → Prog BlockRead
 blockOf g m intra number s left =
-    block (quantiserOf g intra s) (matrixFor m intra) (ltb number 4) (getD (s .«dc_predictor») (predictorOf number) (pos 0)) left
+    block (quantiserOf g intra s) (matrixFor m intra) (ltb number 4) (dcPredictor number s) left
 
 -- RULES 3.9, 6.13: the store after a block that was read; only a whole one is written
 unfoldable pub storeAfter : Context → Quantiser → ℕ → ℕ → BlockRead → List ℕ → List ℕ

@@ -24,15 +24,15 @@ abbrev pub conversionAnswer : Converted → Answer (Unit {0})
 conversionAnswer x = elim x [ C.Written ↦ result tt | C.Refused n ↦ number n ]
 
 -- RULES C.3: an answer as a number, 0 for a result
-abbrev pub errorCode : {A : Type 0} → Answer A → ℕ
-errorCode (result x) = 0
-errorCode (number n) = n
+abbrev pub answerErrorCode : {A : Type 0} → Answer A → ℕ
+answerErrorCode (result x) = 0
+answerErrorCode (number n) = n
 
 abbrev pub openingErrorCode : Opening → ℕ
-openingErrorCode x = errorCode (openingAnswer x)
+openingErrorCode x = answerErrorCode (openingAnswer x)
 
 abbrev pub decodeErrorCode : Outcome → ℕ
-decodeErrorCode x = errorCode (decodeAnswer x)
+decodeErrorCode x = answerErrorCode (decodeAnswer x)
 
 abbrev pub conversionErrorCode : Converted → ℕ
-conversionErrorCode x = errorCode (conversionAnswer x)
+conversionErrorCode x = answerErrorCode (conversionAnswer x)

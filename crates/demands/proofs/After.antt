@@ -136,7 +136,7 @@ module _ (d : Decoder) (s l : List ℕ) where
     ended-row (hands k i h) =
         record { after = record { given = _; step = k .step; left = _; outputs = i; decoder = refl; store = refl }; same = on-to h }
     ended-row (seven k t u) = record { after = A.after-7 (k .step) t u; same = on-to (k .same) }
-    ended-row (stops k t e c h) = record { after = A.after-8-9 mark t (k .step) e c; same = on-to h }
+    ended-row (stops k t e h) = record { after = A.after-8-9 mark t (k .step) e refl; same = on-to h }
 
   store-row : possible d ≡ true → d .stop ≡ 0 → Row (afterChecks s d l (checkStore d l (passed (withHeaderRead s d))))
   unfolding afterChecks checkStore

@@ -14,8 +14,8 @@ use Rattle.bits.specs.Bits.{has}
 use Rattle.bits.specs.Programs.{Out, eqZ}
 use Rattle.picture_state.specs.declared.types.{Matrices.Matrices, Sizes.Sizes}
 use Rattle.picture_state.specs.Result.{Result, error}
+use Rattle.picture_state.specs.Stop.{Cause, dcOutside, predictionOutside, errorCode, Stop}
 use Rattle.picture.specs.Pictures.{PictureState}
-use Rattle.picture.proofs.Kept.{Ends, SameLength, picture-leaves}
 use Rattle.conversion.specs.Pictures.{fits}
 use Rattle.decoder.specs.declared.record.Decoder.{Decoder}
 use Rattle.decoder.specs.declared.answers.Opening.{Opening}
@@ -105,29 +105,27 @@ module _ (s : List ℕ) (z : Sizes) (m : Matrices) where
   read-checks : (x : DecodingState) {f : PictureState} {a : ℕ} → isPictureReady s (x .state) ≡ true → ReadsPicture s z m x f a
       → stepChecks s z m x ≡ check 7 true ∷ check 8 true ∷ check 9 true ∷ []
   unfolding stepChecks
-  read-checks x i r = rw i (ap (λ (o : Out (Result PictureState)). check 7 true ∷ Q.isInside 8 (o .value) ∷ Q.isInside 9 (o .value) ∷ []) r)
+  read-checks x i r = rw i (ap (λ (o : Out (Result Stop PictureState)). check 7 true ∷ Q.areDcsInside (o .value) ∷ Q.arePredictionsInside (o .value) ∷ []) r)
 
   -- it leaves early
-  if-ok-checks : (x : DecodingState) {n a : ℕ} {l : List ℕ} → isPictureReady s (x .state) ≡ true → pictureRun s z m x ≡ record { value = error n l; at = a }
-      → stepChecks s z m x ≡ check 7 true ∷ check 8 (not (eqb n 8)) ∷ check 9 (not (eqb n 9)) ∷ []
+  if-ok-checks : (x : DecodingState) {e : Stop} {a : ℕ} → isPictureReady s (x .state) ≡ true → pictureRun s z m x ≡ record { value = error e; at = a }
+      → stepChecks s z m x ≡ check 7 true ∷ check 8 (not (Q.isDc (e .cause))) ∷ check 9 (not (Q.isPrediction (e .cause))) ∷ []
   unfolding stepChecks
-  if-ok-checks x i r = rw i (ap (λ (o : Out (Result PictureState)). check 7 true ∷ Q.isInside 8 (o .value) ∷ Q.isInside 9 (o .value) ∷ []) r)
+  if-ok-checks x i r = rw i (ap (λ (o : Out (Result Stop PictureState)). check 7 true ∷ Q.areDcsInside (o .value) ∷ Q.arePredictionsInside (o .value) ∷ []) r)
 
   -- none is there
   none-checks : (x : DecodingState) {b : Bool} → isPictureReady s (x .state) ≡ false → isFlush s (x .state) ≡ b → stepChecks s z m x ≡ check 7 b ∷ []
   unfolding stepChecks
   none-checks x i u = rw (i, u)
 
-  if-ok-says : (x : DecodingState) {n a : ℕ} {l : List ℕ} → isPictureReady s (x .state) ≡ true → pictureRun s z m x ≡ record { value = error n l; at = a }
-      → n ≡ firstFailing (stepChecks s z m x)
+  if-ok-says : (x : DecodingState) {e : Stop} {a : ℕ} → isPictureReady s (x .state) ≡ true → pictureRun s z m x ≡ record { value = error e; at = a }
+      → errorCode (e .cause) ≡ firstFailing (stepChecks s z m x)
   unfolding firstFailing
-  if-ok-says x {n} i r =
-      go (subst (λ (o : Out (Result PictureState)). Ends (length (x .store)) (SameLength (x .store)) (o .value)) r
-      (picture-leaves z m (pictureStateOf x) s (S.position (x .state))) .0) ∙ ap firstFailing (sym (if-ok-checks x i r))
+  if-ok-says x {e} i r = go (e .cause) ∙ ap firstFailing (sym (if-ok-checks x i r))
     where
-      go : (n ≡ 8) ⊎ (n ≡ 9) → n ≡ firstFailing (check 7 true ∷ check 8 (not (eqb n 8)) ∷ check 9 (not (eqb n 9)) ∷ [])
-      go (inl e) = rw e refl
-      go (inr e) = rw e refl
+      go : (c : Cause) → errorCode c ≡ firstFailing (check 7 true ∷ check 8 (not (Q.isDc c)) ∷ check 9 (not (Q.isPrediction c)) ∷ [])
+      go (dcOutside address block predictor difference) = refl
+      go (predictionOutside address plane h v) = refl
 
   step-says : (x : DecodingState) {t : Step DecodingState LoopEnd} → StepCase s z m x t → Each (λ y. Yes (stepChecks s z m x)) (Says (stepChecks s z m x)) t
   unfolding firstFailing

@@ -10,6 +10,7 @@ use Rattle.laws.proofs.Tests.{both}
 use Rattle.bits.specs.Programs.{Out, eqZ}
 use Rattle.picture_state.specs.declared.types.{Matrices.Matrices, Sizes.Sizes, Stores.Stores}
 use Rattle.picture_state.specs.Result.{Result, ok, error}
+use Rattle.picture_state.specs.Stop.{Stop}
 use Rattle.picture.specs.Pictures as P
 use Rattle.playback.specs.declared.outcome.Shown.{Shown}
 use Rattle.playback.specs.declared.outcome.Outcome.the-variants as H
@@ -63,11 +64,11 @@ StepShows z n h c = Each (On z n h c) (EndShows z n h c)
 module _ (s : List ℕ) (z : Sizes) (m : Matrices) (x : DecodingState) where
   reads-on : {f : P.PictureState} {a : ℕ} → isPictureReady s (x .state) ≡ true → ReadsPicture s z m x f a → stepReads s z m x ≡ codedPictureBy s z x (ok f)
   unfolding stepReads
-  reads-on t r = rw t (ap (λ (o : Out (Result P.PictureState)). codedPictureBy s z x (o .value)) r)
+  reads-on t r = rw t (ap (λ (o : Out (Result Stop P.PictureState)). codedPictureBy s z x (o .value)) r)
 
-  reads-out : {n a : ℕ} {l : List ℕ} → isPictureReady s (x .state) ≡ true → pictureRun s z m x ≡ record { value = error n l; at = a } → stepReads s z m x ≡ []
+  reads-out : {e : Stop} {a : ℕ} → isPictureReady s (x .state) ≡ true → pictureRun s z m x ≡ record { value = error e; at = a } → stepReads s z m x ≡ []
   unfolding stepReads
-  reads-out t r = rw t (ap (λ (o : Out (Result P.PictureState)). codedPictureBy s z x (o .value)) r)
+  reads-out t r = rw t (ap (λ (o : Out (Result Stop P.PictureState)). codedPictureBy s z x (o .value)) r)
 
   pub reads-none : isPictureReady s (x .state) ≡ false → stepReads s z m x ≡ []
   unfolding stepReads

@@ -49,7 +49,7 @@ unfolding stepChecks
 step-number {n} s z m x =
     by-case (λ (qs : List Check). IsFirstFailing n (Q.hasPicture s (x .state) ∷ qs) → 6 < n) (isPictureReady s (x .state)) (λ t k. three k) (λ t k. one k)
   where
-    three : IsFirstFailing n (Q.hasPicture s (x .state) ∷ Q.isInside 8 (pictureEnd s z m x) ∷ Q.isInside 9 (pictureEnd s z m x) ∷ []) → 6 < n
+    three : IsFirstFailing n (Q.hasPicture s (x .state) ∷ Q.areDcsInside (pictureEnd s z m x) ∷ Q.arePredictionsInside (pictureEnd s z m x) ∷ []) → 6 < n
     three (this-one e z) = omega arith
     three (a-later y (this-one e z)) = omega arith
     three (a-later y (a-later u (this-one e z))) = omega arith

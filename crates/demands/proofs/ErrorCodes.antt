@@ -8,7 +8,6 @@ use native.Mathlib.Omega.{arith}
 use lib.Dec.{leb}
 use lib.ListN.{length}
 use Rattle.laws.proofs.Tests.{by-case}
-use Rattle.picture_state.specs.declared.types.Sizes.{Sizes}
 use Rattle.conversion.specs.Pictures.{pictureIn, fits}
 use Rattle.decoder.specs.declared.record.Decoder.{Decoder}
 use Rattle.decoder.specs.declared.answers.Converted.{Converted}
@@ -17,7 +16,7 @@ use Rattle.decoder.specs.Record.{storeBytes}
 use Rattle.decoder.specs.Possible.{possible}
 use Rattle.argb.specs.Scaled.{scaled}
 use Rattle.decoder.specs.Conversion.{Area, converted}
-use Rattle.demands.specs.Causes.{Cause, dc, prediction}
+use Rattle.picture_state.specs.Stop.{Cause, dcOutside, predictionOutside, errorCode}
 use Rattle.demands.specs.After as A
 use Rattle.demands.specs.After.{LeftByOpening, LeftByDecode}
 use Rattle.demands.specs.ErrorCodes.{member, openingErrorCodes, decodeErrorCodes, conversionErrorCodes}
@@ -30,10 +29,10 @@ opening-named (A.after-header (A.after-4 e h)) = refl
 opening-named (A.after-header (A.after-5 e h z)) = refl
 opening-named (A.after-6 h) = refl
 
-cause-named : {s : List ℕ} {z : Sizes} {n : ℕ} → Cause s z n → member n decodeErrorCodes ≡ true
+cause-named : (c : Cause) → member (errorCode c) decodeErrorCodes ≡ true
 unfolding member
-cause-named (dc o) = refl
-cause-named (prediction o) = refl
+cause-named (dcOutside address block predictor difference) = refl
+cause-named (predictionOutside address plane h v) = refl
 
 mark-named : (n : ℕ) → (n ≡ 8) ⊎ (n ≡ 9) → member n decodeErrorCodes ≡ true
 unfolding member
@@ -50,7 +49,7 @@ hand-named (A.after-header e (A.after-4 f h)) = refl
 hand-named (A.after-header e (A.after-5 f h z)) = refl
 hand-named (A.after-6 h) = refl
 hand-named (A.after-7 i t u) = refl
-hand-named (A.after-8-9 z t i e c) = cause-named c
+hand-named (A.after-8-9 {c = c} z t i e q) = rw q (cause-named c)
 
 -- 0 is none of them
 pub positive : (n : ℕ) → member n decodeErrorCodes ≡ true → 1 ≤ n

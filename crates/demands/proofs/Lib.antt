@@ -1,5 +1,4 @@
 pub mod Checks
-pub mod Causes
 pub mod OtherStores
 pub mod PictureLeft
 pub mod Reached
@@ -31,3 +30,4 @@ pub mod DisplayRun
 pub mod Order
 pub mod EdgeCalls
 pub mod DisplayExample
+pub mod Stops

@@ -15,6 +15,7 @@ use Rattle.header.specs.Store.{cleared}
 use Rattle.header.specs.Sequences.{Size, size}
 use Rattle.picture_state.specs.declared.types.{Matrices.Matrices, Sizes.Sizes}
 use Rattle.picture_state.specs.Result.{error}
+use Rattle.picture_state.specs.Stop.{Stop, errorCode}
 use Rattle.playback.specs.declared.outcome.{Shown.Shown, Outcome.Outcome}
 use Rattle.playback.specs.declared.outcome.Outcome.the-variants as H
 use Rattle.playback.specs.State.{position, startCode}
@@ -120,8 +121,8 @@ module _ (s : List ℕ) (z : Sizes) (m : Matrices) where
   ends-by {x} in-the-first h = steps-stop (pictureStep s z m) 1 _ x _ h
   ends-by {x} {y} (in-the-second k) h = steps-again (pictureStep s z m) 1 _ x y k ∙ steps-stop (pictureStep s z m) 0 _ y _ h
 
-  step-aborts : (y : DecodingState) {n : ℕ} {l : List ℕ} → isPictureReady s (atPicture s y .state) ≡ true
-      → pictureEnd s z m (atPicture s y) ≡ error n l → pictureStep s z m y ≡ finish (aborted n l)
+  step-aborts : (y : DecodingState) {e : Stop} → isPictureReady s (atPicture s y .state) ≡ true
+      → pictureEnd s z m (atPicture s y) ≡ error e → pictureStep s z m y ≡ finish (aborted (errorCode (e .cause)) (e .store))
   unfolding pictureStep searched decoded afterPicture
   step-aborts y i r =
       let x = atPicture s y .state in
@@ -173,7 +174,7 @@ module _ {d : Decoder} {s l : List ℕ} where
       (r .decoder ∙ ap (withDecodingState (withHeaderRead s d)) e ∙ sym (q .decoder), r .store ∙ ap (λ (y : DecodingState). y .store) e ∙ sym (q .store))
 
   stop-end : {n : ℕ} {x : Decoder} {m : List ℕ} → Row89 d s l n x m → endOf d s l ≡ aborted n m
-  stop-end r = ends-by s _ _ (r .step) (step-aborts s _ _ (r .given) (r .ready) (r .left))
+  stop-end {m = m} r = ends-by s _ _ (r .step) (step-aborts s _ _ (r .given) (r .ready) (r .left)) ∙ ap (λ (k : ℕ). aborted k m) (sym (r .number))
 
   pub row-8-9 : {n : ℕ} {x y : Decoder} {m k : List ℕ} → Row89 d s l n x m → Row89 d s l n y k → (x ≡ y) × (m ≡ k)
   row-8-9 r q = (r .decoder ∙ sym (q .decoder), ap endStore (sym (stop-end r) ∙ stop-end q))
@@ -215,6 +216,7 @@ module _ {d : Decoder} {s l : List ℕ} where
           let i = Rows.header-number h in let q = Rows.decode-header c (i .0) (i .1) in (header-one h (q .1), sym (q .2))
       go (A.after-6 h) f c g = row-6 (Rows.hand-6 (A.after-6 h) refl f) (Rows.hand-6 c refl g)
       go (A.after-7 i t u) f c g = row-7 (Rows.hand-7 (A.after-7 i t u) refl f) (Rows.hand-7 c refl g)
-      go {n} (A.after-8-9 z t i e o) f c g =
-          let big : 7 < n = ⊎-elim (λ (e : n ≡ 8). omega arith) (λ (e : n ≡ 9). omega arith) (Rows.cause-number o) in
-          stopped big (record { first = f; mark = z; given = _; step = i; ready = t; left = e; cause = o; decoder = refl }) (Rows.decode-8-9 c big g)
+      go {n} (A.after-8-9 {c = o} z t i e q) f c g =
+          let big : 7 < n = ⊎-elim (λ (e : n ≡ 8). omega arith) (λ (e : n ≡ 9). omega arith) (Rows.cause-number o q) in
+          stopped big (record { first = f; mark = z; given = _; step = i; ready = t; cause = o; left = e; number = q; decoder = refl })
+          (Rows.decode-8-9 c big g)

@@ -6,9 +6,12 @@ use mathlib.Core.List.{List, _∷_}
 use Prim.Native.Nat.{ℕ, _≤_, _<_}
 use native.Mathlib.Omega.{arith}
 use lib.Dec.{eqb}
+use lib.IntN.{ℤ}
 use lib.ListN.{length}
 use borrow.Author.Tests.{le-leb, lt-leb, eq-eqb, ne-eqb}
+use Rattle.prediction.specs.declared.planes.Plane.{Plane}
 use Rattle.picture_state.specs.Result.{Result, error}
+use Rattle.picture_state.specs.Stop.{dcOutside, predictionOutside, Stop, stop}
 use Rattle.picture.specs.Pictures.{PictureState}
 use Rattle.header.specs.Store.{cleared}
 use Rattle.decoder.specs.declared.record.Decoder.{Decoder}
@@ -95,7 +98,7 @@ module _ (d : Decoder) (s l : List ℕ) (r : DecodeResult) (m : List ℕ) (gave 
 
   module _ (b : Begins d s) (header : d .sequence .«has_sequence_header» ≡ true) where
     -- how the first picture ends
-    abbrev endAt : Result PictureState
+    abbrev endAt : Result Stop PictureState
     endAt = pictureEnd s (d .sequence .sizes) (d .sequence .matrices) (atPicture s (decodingStateOf d l))
 
     -- the state before it
@@ -112,11 +115,14 @@ module _ (d : Decoder) (s l : List ℕ) (r : DecodeResult) (m : List ℕ) (gave 
     unfolding firstFailing picturesChecks stepChecks
     says-7 k t u = says 7 (omega arith) (from _ b (checks-headed d s l header) ∙ rw (le-leb (storeBytes d) (length l) k, t, u))
 
-    -- the picture leaves early with 8
-    pub says-8 : storeBytes d ≤ length l → isPictureReady s before ≡ true → {x : List ℕ} → endAt ≡ error 8 x → r .outcome ≡ H.Refused 8
+    -- the picture leaves early at a DC value
+    pub says-8 : storeBytes d ≤ length l → isPictureReady s before ≡ true → {address block : ℕ} {predictor difference : ℤ} {x : List ℕ}
+        → endAt ≡ error (stop (dcOutside address block predictor difference) x) → r .outcome ≡ H.Refused 8
     unfolding firstFailing picturesChecks stepChecks
     says-8 k t e = says 8 (omega arith) (from _ b (checks-headed d s l header) ∙ rw (le-leb (storeBytes d) (length l) k, t, e))
 
-    pub says-9 : storeBytes d ≤ length l → isPictureReady s before ≡ true → {x : List ℕ} → endAt ≡ error 9 x → r .outcome ≡ H.Refused 9
+    -- and at a prediction
+    pub says-9 : storeBytes d ≤ length l → isPictureReady s before ≡ true → {address : ℕ} {plane : Plane} {h v : ℤ} {x : List ℕ}
+        → endAt ≡ error (stop (predictionOutside address plane h v) x) → r .outcome ≡ H.Refused 9
     unfolding firstFailing picturesChecks stepChecks
     says-9 k t e = says 9 (omega arith) (from _ b (checks-headed d s l header) ∙ rw (le-leb (storeBytes d) (length l) k, t, e))

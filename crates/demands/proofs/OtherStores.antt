@@ -1,5 +1,5 @@
--- RULES D2.3, Q8, Q9: decoding a picture changes no byte outside its own store, and leaves early with a cause.
-use mathlib.Core.Path.{_≡_, refl, sym, ap, _∙_}
+-- RULES D2.3: decoding a picture changes no byte outside its own store, also where it leaves early.
+use mathlib.Core.Path.{_≡_, refl, sym, _∙_}
 use mathlib.Core.Bool.{Bool}
 use mathlib.Core.List.{List}
 use mathlib.Core.Logic.{⊎-elim}
@@ -22,18 +22,17 @@ use Rattle.prediction.specs.declared.planes.Plane.the-variants.{Y, Cr, Cb}
 use Rattle.prediction.specs.declared.predict.Predicted.{Predicted}
 use Rattle.prediction.specs.declared.predict.Predicted.the-variants.{Done, Refused}
 use Rattle.prediction.specs.Predict.{macroblockAt, blockOf, bytes, fetch, predicted, address, width, chroma}
-use Rattle.prediction.specs.Planes.{After, blockSize, planeOf, planeLength, planeStart, offset, follow, thenPlane, predictedPlanes, storesBytes}
+use Rattle.prediction.specs.Planes.{PlaneAfter, ofPlane, blockSize, planeOf, planeLength, planeStart, offset, follow, thenPlane, predictedPlanes, storesBytes}
 use Rattle.prediction.specs.Writers.{setConst, overwrite, addConst, addBlock, blockWidth, blockAddress}
 use Rattle.picture_state.specs.declared.types.{Context.Context, Matrices.Matrices}
 use Rattle.blocks.specs.Blocks.{results, written}
 use Rattle.macroblock_head.specs.Heads.{head}
 use Rattle.macroblock_head.specs.Increments.{increment}
 use Rattle.macroblock_head.specs.Predictions.{unlessRefused}
+use Rattle.picture_state.specs.Stop.{Stop}
 use Rattle.picture_state.proofs.Exits.{OnResult}
 use Rattle.picture.proofs.Walk.{Invariant, Keeps}
-use Rattle.demands.specs.Causes.{Cause, dc, prediction}
 use Rattle.demands.specs.Stores.{SameBut}
-use Rattle.demands.proofs.Causes.{isOutside, block-caused, fetch-past}
 
 -- ---- a part of the picture number k is replaced
 
@@ -75,13 +74,13 @@ plane-in Y k n w h e = rw e (record { from = omega arith; to = omega arith })
 plane-in Cr k n w h e = rw e (record { from = omega arith; to = omega arith })
 plane-in Cb k n w h e = rw e (record { from = omega arith; to = omega arith })
 
-module _ (S : List ℕ → Type 0) (O : ℕ → List ℕ → Type 0) where
-  next-results : (o : After) (f : List ℕ → After) → OnResult S O (unlessRefused o) → ((l : List ℕ) → S l → OnResult S O (unlessRefused (f l)))
-      → OnResult S O (unlessRefused (thenPlane o f))
+module _ (S : List ℕ → Type 0) (O : Stop → Type 0) (n : ℕ) where
+  next-results : (o : PlaneAfter) (f : List ℕ → PlaneAfter) → OnResult S O (unlessRefused n o) → ((l : List ℕ) → S l → OnResult S O (unlessRefused n (f l)))
+      → OnResult S O (unlessRefused n (thenPlane o f))
   unfolding thenPlane unlessRefused
   next-results o f h k = go (o .answer) refl
     where
-      go : (a : Predicted) → o .answer ≡ a → OnResult S O (unlessRefused (elim a as (λ x. After) [ Done ↦ f (o .store) | Refused ↦ o ]))
+      go : (a : Predicted) → o .answer ≡ a → OnResult S O (unlessRefused n (elim a as (λ x. PlaneAfter) [ Done ↦ f (o .store) | Refused ↦ o ]))
       go Done e = k (o .store) (rw e at h)
       go Refused e = h
 
@@ -90,8 +89,8 @@ module _ (s : List ℕ) (g : Context) (l : List ℕ) (area : g .sizes .«mb_size
   abbrev S : List ℕ → Type 0
   S = SameBut (g .sizes .«mb_size») (g .stores .cur) l
 
-  abbrev O : ℕ → List ℕ → Type 0
-  O i m = S m × Cause s (g .sizes) i
+  abbrev O : Stop → Type 0
+  O e = S (e .store)
 
   -- the stores end before the store does
   stores-end : g .stores .cur * (384 * g .sizes .«mb_size») + 384 * g .sizes .«mb_size» ≤ length l
@@ -112,14 +111,15 @@ module _ (s : List ℕ) (g : Context) (l : List ℕ) (area : g .sizes .«mb_size
       put-same-but (g .sizes .«mb_size») (g .stores .cur) _ _ l m ys (i .from) (i .to) fit (h ∙ length-mid _ _ m fit) e
 
   plane-results : (a from : ℕ) (interpolate : Bool) (q : Plane) (h v : ℤ) (m : List ℕ) → S m
-      → OnResult S O (unlessRefused (follow (fetch (blockIn a q) h v) (blockIn a q) (begins from q) (begins (g .stores .cur) q) h v interpolate m))
+      → OnResult S O (unlessRefused a
+      (ofPlane q h v (follow (fetch (blockIn a q) h v) (blockIn a q) (begins from q) (begins (g .stores .cur) q) h v interpolate m)))
   unfolding follow unlessRefused
   plane-results a from interpolate q h v m e = go (fetch (blockIn a q) h v) refl
     where
       go : (w : Fetch) → fetch (blockIn a q) h v ≡ w
-          → OnResult S O (unlessRefused (follow w (blockIn a q) (begins from q) (begins (g .stores .cur) q) h v interpolate m))
+          → OnResult S O (unlessRefused a (ofPlane q h v (follow w (blockIn a q) (begins from q) (begins (g .stores .cur) q) h v interpolate m)))
       go Alone w = e
-      go Past w = (e, prediction (fetch-past (g .sizes) (blockIn a q) refl refl h v w))
+      go Past w = e
       go (Copied i) w =
           let source = midOf (begins from q) (bytes (blockIn a q)) m in
           let target = midOf (begins (g .stores .cur) q) (bytes (blockIn a q)) m in
@@ -158,10 +158,10 @@ module _ (s : List ℕ) (g : Context) (l : List ℕ) (area : g .sizes .«mb_size
     skips = λ n x h k. tt;
     heads = λ t x k. g-any (head (g .«picture_type») t x);
     blocks = λ intra number x c h k j.
-        g-as (λ r e. record { slice = tt; block = tt; outside = λ o m i. (i, dc (e (ap isOutside o))) }) (block-caused _ _ _ _ _);
+        g-as (λ b u. record { slice = tt; block = tt; outside = λ o m i. i }) (g-any _);
     writes = written-same;
     predicts = λ a from h v interpolate m e.
-        next-results S O _ _ (plane-results a from interpolate Y h v m e) (λ m₁ e₁.
-        next-results S O _ _ (plane-results a from interpolate Cr (chroma h) (chroma v) m₁ e₁)
+        next-results S O a _ _ (plane-results a from interpolate Y h v m e) (λ m₁ e₁.
+        next-results S O a _ _ (plane-results a from interpolate Cr (chroma h) (chroma v) m₁ e₁)
         (λ m₂ e₂. plane-results a from interpolate Cb (chroma h) (chroma v) m₂ e₂));
   }

@@ -1,4 +1,4 @@
--- RULES 7.2, D2.3, Q8, Q9: what a picture's run leaves: the other stores as they were, the roles of the stores turned, and with a number its cause.
+-- RULES 7.2, D2.3: what a picture's run leaves: the other stores as they were, and the roles of the stores turned.
 use mathlib.Core.Path.{_≡_, refl, sym, ap, _∙_}
 use mathlib.Core.Bool.{Bool, true, false, cond, true≢false}
 use mathlib.Core.List.{List}
@@ -12,9 +12,9 @@ use Rattle.laws.proofs.Tests.{by-case}
 use Rattle.picture_state.specs.declared.types.{Stores.Stores, Sizes.Sizes, Matrices.Matrices, Picture.Picture}
 use Rattle.picture_state.specs.State.{storesAs}
 use Rattle.picture_state.specs.Result.{Result, ok, error}
+use Rattle.picture_state.specs.Stop.{Stop}
 use Rattle.picture.specs.Pictures as P
 use Rattle.prediction.specs.Planes.{storesBytes}
-use Rattle.demands.specs.Causes.{Cause}
 use Rattle.demands.specs.Stores.{SameBut}
 use Rattle.picture_state.proofs.Exits.{OnResult, results-as, bind-results}
 use Rattle.picture.proofs.Walk.{Framed, slices-results}
@@ -35,8 +35,8 @@ pub record PictureLeaves (z : Sizes) (f₀ : P.PictureState) (decoded : Bool) (f
 
 module _ (s : List ℕ) (z : Sizes) (m : Matrices) (area : z .«mb_size» ≡ z .«mb_width» * z .«mb_height») where
   -- a picture that leaves early
-  abbrev pub Stopped : P.PictureState → ℕ → List ℕ → Type 0
-  Stopped f n x = SameBut (z .«mb_size») (f .picture .stores .cur) (f .store) x × Cause s z n
+  abbrev pub Stopped : P.PictureState → Stop → Type 0
+  Stopped f e = SameBut (z .«mb_size») (f .picture .stores .cur) (f .store) (e .store)
 
   coded-left : (f : P.PictureState) → f .picture .stores .cur ≤ 2 → storesBytes (z .«mb_size») ≤ length (f .store)
       → Gives s (OnResult (PictureLeaves z f true) (Stopped f)) (P.slicesInRoles z m f)
@@ -69,11 +69,11 @@ module _ (s : List ℕ) (z : Sizes) (m : Matrices) (area : z .«mb_size» ≡ z 
       other t h = rw h refl
 
   -- the stores' roles of x are those of f
-  as-before : (f : P.PictureState) (x : Picture) → x .stores ≡ f .picture .stores → {b : Bool} → b ≡ true → (w : Result P.PictureState)
+  as-before : (f : P.PictureState) (x : Picture) → x .stores ≡ f .picture .stores → {b : Bool} → b ≡ true → (w : Result Stop P.PictureState)
       → OnResult (PictureLeaves z (P.withPicture x f) true) (Stopped (P.withPicture x f)) w → OnResult (PictureLeaves z f b) (Stopped f) w
   as-before f x e t (ok y) k =
       record { store = rw e at k .store; stores = λ d. rw e at k .stores refl; others = λ d. absurd (true≢false (sym t ∙ d)) }
-  as-before f x e t (error n y) k = (rw e at k .0, k .1)
+  as-before f x e t (error q) k = rw e at k
 
   -- RULES 7.1 to 7.4, 8.4
   pub picture-left : (f : P.PictureState) → f .picture .stores .cur ≤ 2 → storesBytes (z .«mb_size») ≤ length (f .store) → (a : ℕ)
@@ -84,6 +84,6 @@ module _ (s : List ℕ) (z : Sizes) (m : Matrices) (area : z .«mb_size» ≡ z 
       let x = P.withPictureHeader (h .value) (f .picture) in
       let b = P.isDecoded (h .value) in
       rw (run-bind P.pictureHeader _ s a)
-      (by-case (λ (q : Prog (Result P.PictureState)). OnResult (PictureLeaves z f b) (Stopped f) (run q s (h .at) .value)) b
+      (by-case (λ (q : Prog (Result Stop P.PictureState)). OnResult (PictureLeaves z f b) (Stopped f) (run q s (h .at) .value)) b
       (λ d. as-before f x refl d (run (P.slicesInRoles z m (P.withPicture x f)) s (h .at) .value) (coded-left (P.withPicture x f) cur long .value (h .at)))
       (λ d. record { store = same-but; stores = λ k. absurd (true≢false (sym k ∙ d)); others = λ k. refl }))

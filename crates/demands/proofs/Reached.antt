@@ -15,6 +15,7 @@ use Rattle.prediction.specs.Planes.{storesBytes}
 use Rattle.picture_state.specs.declared.types.{Matrices.Matrices, Sizes.Sizes, Stores.Stores}
 use Rattle.picture_state.specs.Possible.{PossibleStores}
 use Rattle.picture_state.specs.Result.{Result, error}
+use Rattle.picture_state.specs.Stop.{errorCode, Stop}
 use Rattle.picture.specs.Pictures as P
 use Rattle.picture_state.proofs.Exits.{OnResult}
 use Rattle.picture.proofs.Kept.{after-kept}
@@ -28,7 +29,6 @@ use Rattle.playback.specs.Cases.{aborts, is-seven}
 use Rattle.playback.proofs.Next.{next-stores}
 use Rattle.playback.proofs.Cases.{picture-step-is}
 use Rattle.playback.proofs.TwoSteps.{Each, by-steps}
-use Rattle.demands.specs.Causes.{Cause}
 use Rattle.demands.specs.Stores.{SameBut, SameFrom}
 use Rattle.demands.specs.Checks.{pictureEnd}
 use Rattle.demands.specs.After.{InStep, in-the-first, in-the-second}
@@ -67,14 +67,14 @@ module _ (s : List ℕ) (z : Sizes) (m : Matrices) (x : DecodingState) (k : Room
   run-left : OnResult (PictureLeaves z (pictureStateOf x) (isDecoded s x)) (Stopped s z m (k .area) (pictureStateOf x)) (pictureRun s z m x .value)
   run-left = picture-left s z m (k .area) (pictureStateOf x) (k .stores .cur) (k .long) (position (x .state))
 
-  abbrev LeftBy : Out (Result P.PictureState) → Type 0
+  abbrev LeftBy : Out (Result Stop P.PictureState) → Type 0
   LeftBy o = OnResult (PictureLeaves z (pictureStateOf x) (isDecoded s x)) (Stopped s z m (k .area) (pictureStateOf x)) (o .value)
 
   pub frame-left : {f : P.PictureState} {a : ℕ} → ReadsPicture s z m x f a → PictureLeaves z (pictureStateOf x) (isDecoded s x) f
   frame-left r = subst LeftBy r run-left
 
-  stopped-left : {n a : ℕ} {l : List ℕ} → pictureRun s z m x ≡ record { value = error n l; at = a }
-      → SameBut (z .«mb_size») (x .state .picture .stores .cur) (x .store) l × Cause s z n
+  stopped-left : {e : Stop} {a : ℕ} → pictureRun s z m x ≡ record { value = error e; at = a }
+      → SameBut (z .«mb_size») (x .state .picture .stores .cur) (x .store) (e .store)
   stopped-left r = subst LeftBy r run-left
 
   pub past-room : {f : P.PictureState} {a : ℕ} → ReadsPicture s z m x f a → Room z (f .picture .stores) (f .store)
@@ -105,9 +105,9 @@ module _ (s : List ℕ) (z : Sizes) (m : Matrices) where
         → SameFrom (storesBytes (z .«mb_size»)) (x .store) (left .store) → CallEnd x (finished (H.Picture i) left)
     seven : {y : DecodingState} → Reached x y → isPictureReady s (atPicture s y .state) ≡ false → isFlush s (atPicture s y .state) ≡ false
         → CallEnd x (finished (H.Refused 7) (atPicture s y))
-    stops : {y : DecodingState} {n : ℕ} {l : List ℕ} → Reached x y → isPictureReady s (atPicture s y .state) ≡ true
-        → pictureEnd s z m (atPicture s y) ≡ error n l → Cause s z n
-        → SameFrom (storesBytes (z .«mb_size»)) (x .store) l → CallEnd x (aborted n l)
+    stops : {y : DecodingState} {e : Stop} → Reached x y → isPictureReady s (atPicture s y .state) ≡ true
+        → pictureEnd s z m (atPicture s y) ≡ error e
+        → SameFrom (storesBytes (z .«mb_size»)) (x .store) (e .store) → CallEnd x (aborted (errorCode (e .cause)) (e .store))
 
   -- what a turn that goes on leaves to the next
   abbrev Follows : DecodingState → DecodingState → Type 0
@@ -126,7 +126,7 @@ module _ (s : List ℕ) (z : Sizes) (m : Matrices) where
       go (keeps-reference t r b h) = (past-room s z m (atPicture s y) room r, past-same s z m (atPicture s y) room r)
       go (aborts t r) =
           let j = stopped-left s z m (atPicture s y) room r in
-          stops k t (ap (λ (o : Out (Result P.PictureState)). o .value) r) (j .1) (then-same (k .same) (but-from (room .stores .cur) (j .0)))
+          stops k t (ap (λ (o : Out (Result Stop P.PictureState)). o .value) r) (then-same (k .same) (but-from (room .stores .cur) j))
       go (is-seven t u) = seven k t u
 
   -- RULES 8.7: how the turns of a hand-out end

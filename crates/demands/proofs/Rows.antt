@@ -6,11 +6,10 @@ use mathlib.Core.Logic.{_⊎_, inl, inr, ⊎-elim}
 use Prim.Native.Nat.{ℕ, _<_}
 use native.Mathlib.Omega.{arith}
 use lib.ListN.{length}
-use Rattle.picture_state.specs.declared.types.Sizes.{Sizes}
 use Rattle.decoder.specs.declared.record.Decoder.{Decoder}
 use Rattle.decoder.specs.Record.{fresh, storeBytes}
 use Rattle.decoder.specs.Possible.{possible}
-use Rattle.demands.specs.Causes.{Cause, dc, prediction}
+use Rattle.picture_state.specs.Stop.{Cause, dcOutside, predictionOutside, errorCode}
 use Rattle.demands.specs.Checks.{check, IsFirstFailing, this-one, a-later, withHeader, decodeChecks}
 use Rattle.demands.specs.After as A
 use Rattle.demands.specs.After.{AfterHeader, LeftByOpening, LeftByDecode}
@@ -60,9 +59,9 @@ module _ {s l : List ℕ} where
 
 -- ---- a hand-out
 
-pub cause-number : {s : List ℕ} {z : Sizes} {n : ℕ} → Cause s z n → (n ≡ 8) ⊎ (n ≡ 9)
-cause-number (dc o) = inl refl
-cause-number (prediction o) = inr refl
+pub cause-number : (c : Cause) {n : ℕ} → n ≡ errorCode c → (n ≡ 8) ⊎ (n ≡ 9)
+cause-number (dcOutside address block predictor difference) e = inl e
+cause-number (predictionOutside address plane h v) e = inr e
 
 module _ {d : Decoder} {s l : List ℕ} where
   pub hand-1 : {n : ℕ} {x : Decoder} {m : List ℕ} → LeftByDecode d s l n x m → n ≡ 1 → (longestStream < length s) × (x ≡ d) × (m ≡ l)
@@ -72,7 +71,7 @@ module _ {d : Decoder} {s l : List ℕ} where
   hand-1 (A.after-header f h) p = let k = header-number h in let no : ⊥ = omega arith in absurd no
   hand-1 (A.after-6 h) p = let no : ⊥ = omega arith in absurd no
   hand-1 (A.after-7 i t u) p = let no : ⊥ = omega arith in absurd no
-  hand-1 (A.after-8-9 z t i e c) p = let no : ⊥ = ⊎-elim (λ g. omega arith) (λ g. omega arith) (cause-number c) in absurd no
+  hand-1 (A.after-8-9 {c = c} z t i e q) p = let no : ⊥ = ⊎-elim (λ g. omega arith) (λ g. omega arith) (cause-number c q) in absurd no
 
   pub hand-2 : {n : ℕ} {x : Decoder} {m : List ℕ} → LeftByDecode d s l n x m → n ≡ 2 → (possible d ≡ false) × (x ≡ d) × (m ≡ l)
   hand-2 (A.after-1 h) p = let no : ⊥ = omega arith in absurd no
@@ -81,7 +80,7 @@ module _ {d : Decoder} {s l : List ℕ} where
   hand-2 (A.after-header f h) p = let k = header-number h in let no : ⊥ = omega arith in absurd no
   hand-2 (A.after-6 h) p = let no : ⊥ = omega arith in absurd no
   hand-2 (A.after-7 i t u) p = let no : ⊥ = omega arith in absurd no
-  hand-2 (A.after-8-9 z t i e c) p = let no : ⊥ = ⊎-elim (λ g. omega arith) (λ g. omega arith) (cause-number c) in absurd no
+  hand-2 (A.after-8-9 {c = c} z t i e q) p = let no : ⊥ = ⊎-elim (λ g. omega arith) (λ g. omega arith) (cause-number c q) in absurd no
 
   pub decode-header : {n : ℕ} {x : Decoder} {m : List ℕ} → LeftByDecode d s l n x m → 2 < n → n < 6
       → (d .sequence .«has_sequence_header» ≡ false) × AfterHeader s d n x × (m ≡ l)
@@ -91,7 +90,7 @@ module _ {d : Decoder} {s l : List ℕ} where
   decode-header (A.after-header f h) p q = (f, h, refl)
   decode-header (A.after-6 h) p q = let no : ⊥ = omega arith in absurd no
   decode-header (A.after-7 i t u) p q = let no : ⊥ = omega arith in absurd no
-  decode-header (A.after-8-9 z t i e c) p q = let no : ⊥ = ⊎-elim (λ g. omega arith) (λ g. omega arith) (cause-number c) in absurd no
+  decode-header (A.after-8-9 {c = c} z t i e r) p q = let no : ⊥ = ⊎-elim (λ g. omega arith) (λ g. omega arith) (cause-number c r) in absurd no
 
   pub hand-6 : {n : ℕ} {x : Decoder} {m : List ℕ} → LeftByDecode d s l n x m → n ≡ 6 → IsFirstFailing n (decodeChecks d s l) → Row6 d s l x m
   hand-6 (A.after-1 h) p k = let no : ⊥ = omega arith in absurd no
@@ -100,7 +99,7 @@ module _ {d : Decoder} {s l : List ℕ} where
   hand-6 (A.after-header f h) p k = let j = header-number h in let no : ⊥ = omega arith in absurd no
   hand-6 (A.after-6 h) p k = record { first = subst (λ (n : ℕ). IsFirstFailing n (decodeChecks d s l)) p k; short = h; decoder = refl; store = refl }
   hand-6 (A.after-7 i t u) p k = let no : ⊥ = omega arith in absurd no
-  hand-6 (A.after-8-9 z t i e c) p k = let no : ⊥ = ⊎-elim (λ g. omega arith) (λ g. omega arith) (cause-number c) in absurd no
+  hand-6 (A.after-8-9 {c = c} z t i e q) p k = let no : ⊥ = ⊎-elim (λ g. omega arith) (λ g. omega arith) (cause-number c q) in absurd no
 
   pub hand-7 : {n : ℕ} {x : Decoder} {m : List ℕ} → LeftByDecode d s l n x m → n ≡ 7 → IsFirstFailing n (decodeChecks d s l) → Row7 d s l x m
   hand-7 (A.after-1 h) p k = let no : ⊥ = omega arith in absurd no
@@ -109,7 +108,7 @@ module _ {d : Decoder} {s l : List ℕ} where
   hand-7 (A.after-header f h) p k = let j = header-number h in let no : ⊥ = omega arith in absurd no
   hand-7 (A.after-6 h) p k = let no : ⊥ = omega arith in absurd no
   hand-7 (A.after-7 i t u) p k = record { first = k; given = _; step = i; none = t; kept = u; decoder = refl; store = refl }
-  hand-7 (A.after-8-9 z t i e c) p k = let no : ⊥ = ⊎-elim (λ g. omega arith) (λ g. omega arith) (cause-number c) in absurd no
+  hand-7 (A.after-8-9 {c = c} z t i e q) p k = let no : ⊥ = ⊎-elim (λ g. omega arith) (λ g. omega arith) (cause-number c q) in absurd no
 
   -- RULES QA: at once, for the stop mark; else for the picture
   pub decode-8-9 : {n : ℕ} {x : Decoder} {m : List ℕ} → LeftByDecode d s l n x m → 7 < n → IsFirstFailing n (decodeChecks d s l)
@@ -120,7 +119,7 @@ module _ {d : Decoder} {s l : List ℕ} where
   decode-8-9 (A.after-header f h) p k = let j = header-number h in let no : ⊥ = omega arith in absurd no
   decode-8-9 (A.after-6 h) p k = let no : ⊥ = omega arith in absurd no
   decode-8-9 (A.after-7 i t u) p k = let no : ⊥ = omega arith in absurd no
-  decode-8-9 (A.after-8-9 z t i e c) p k = inr (record { first = k; mark = z; given = _; step = i; ready = t; left = e; cause = c; decoder = refl })
+  decode-8-9 (A.after-8-9 {c = c} z t i e q) p k = inr (record { first = k; mark = z; given = _; step = i; ready = t; cause = c; left = e; number = q; decoder = refl })
 
 -- ---- the conversion
 

@@ -17,6 +17,7 @@ use Rattle.bits.proofs.Programs.{run-most}
 use Rattle.codes.proofs.Bounds.{bounded-of, bounded-by}
 use Rattle.picture_state.specs.declared.types.{Matrices.Matrices, Sizes.Sizes}
 use Rattle.picture_state.specs.Result.{Result}
+use Rattle.picture_state.specs.Stop.{Stop}
 use Rattle.picture.specs.Pictures.{PictureState, picture}
 use Rattle.picture.proofs.Kept as Kept
 use Rattle.picture.proofs.Places.{Ahead, picture-past, picture-ahead}
@@ -37,6 +38,7 @@ use Rattle.playback.proofs.TwoSteps.{Each, by-steps}
 use Rattle.demands.specs.Codes.{PictureAhead, picture-at}
 use Rattle.demands.proofs.Codes.{SearchEnd, with-code, with-none, search-end}
 use Rattle.demands.proofs.Keeps.{KeepsAt, keeps-counted, keeps-held, keeps-searched, Sized}
+use Rattle.demands.proofs.Rows.{cause-number}
 
 -- ---- 7, for good
 
@@ -122,7 +124,7 @@ module _ (s : List ℕ) (z : Sizes) (m : Matrices) (short : length s ≤ longest
 
   module _ (x : DecodingState) (k : KeepsAt s z x) (b : Behind s (x .state)) where
     -- what is known of a picture's run
-    record Ran (o : Out (Result PictureState)) : Type 0 where
+    record Ran (o : Out (Result Stop PictureState)) : Type 0 where
       kept : Kept.Ends (length (x .store)) (Kept.StaysPossible (x .store)) (o .value)
       ahead : Ahead s (o .at) (o .value)
       past : position (x .state) + 29 ≤ o .at
@@ -182,7 +184,7 @@ module _ (s : List ℕ) (z : Sizes) (m : Matrices) (short : length s ≤ longest
     case-row (outputs (reference-picture i r e h)) = hands (shown-row i r) refl
     case-row (outputs (flushed-picture i u)) = flushes (keeps-held x k false) refl (flush-row i u)
     case-row (keeps-reference {f} {a} i r e h) = (keeps-held (stateLeftBy f (stateAfterPicture f a (x .state))) (read-row i r .0) true, refl)
-    case-row (aborts i r) = stops (subst Ran r (ran i) .kept .0)
+    case-row (aborts {e = e} i r) = stops (cause-number (e .cause) refl)
     case-row (is-seven i u) = seven k refl (seven-row i u)
 
   pub step-row : (x : DecodingState) → KeepsAt s z x → (n : ℕ) → frames (x .state) ≡ n → (t : Step DecodingState LoopEnd) → pictureStep s z m x ≡ t

@@ -10,6 +10,7 @@ use Rattle.laws.specs.Loops.{continue}
 use Rattle.bits.specs.Bits.{bitsAt}
 use Rattle.picture_state.specs.declared.types.{Matrices.Matrices, Sizes.Sizes}
 use Rattle.picture_state.specs.Result.{Result, error}
+use Rattle.picture_state.specs.Stop.{Cause, errorCode, Stop, stop}
 use Rattle.picture.specs.Pictures.{PictureState}
 use Rattle.playback.specs.Steps.{DecodingState, atPicture, pictureStep}
 use Rattle.playback.specs.Cases.{isPictureReady, isFlush}
@@ -19,7 +20,6 @@ use Rattle.decoder.specs.Possible.{possible}
 use Rattle.decoder.specs.Decode.{startState}
 use Rattle.demands.specs.Codes.{CodeFound, NoneFound}
 use Rattle.demands.specs.Checks.{IsFirstFailing, withHeader, withHeaderRead, pictureEnd, openingChecks, decodeChecks}
-use Rattle.demands.specs.Causes.{Cause}
 
 -- RULES Q4: the record at the sequence start code: it has the code already, or else has found it; nothing but place and start code differs from d
 pub data AtCode (s : List ℕ) (d : Decoder) : Decoder → Type 0 where
@@ -59,7 +59,7 @@ abbrev pub InCall : Decoder → List ℕ → List ℕ → DecodingState → Type
 InCall d s l y = let q = withHeaderRead s d .sequence in InStep s (q .sizes) (q .matrices) (startState d (withHeaderRead s d) l) y
 
 -- how the picture ends that such a turn decodes
-abbrev pub endIn : Decoder → List ℕ → DecodingState → Result PictureState
+abbrev pub endIn : Decoder → List ℕ → DecodingState → Result Stop PictureState
 endIn d s y = let q = withHeaderRead s d .sequence in pictureEnd s (q .sizes) (q .matrices) (atPicture s y)
 
 -- RULES Q: a hand-out with the record d, the stream s and the store l: the number, and record and store then
@@ -72,9 +72,9 @@ pub data LeftByDecode (d : Decoder) (s l : List ℕ) : ℕ → Decoder → List 
   -- no picture is there to decode or to flush: the record is the one behind that search, and nothing is written since
   after-7 : {y : DecodingState} → InCall d s l y → isPictureReady s (atPicture s y .state) ≡ false → isFlush s (atPicture s y .state) ≡ false
       → LeftByDecode d s l 7 (withDecodingState (withHeaderRead s d) (atPicture s y)) (y .store)
-  -- a picture is there, in a record with no stop mark, and leaves early: the store is what it has written up to there
-  after-8-9 : {y : DecodingState} {n : ℕ} {m : List ℕ} → d .stop ≡ 0 → isPictureReady s (atPicture s y .state) ≡ true
-      → InCall d s l y → endIn d s y ≡ error n m → Cause s (withHeaderRead s d .sequence .sizes) n
+  -- a picture is there, in a record with no stop mark, and leaves early for a cause, which has the number: the store is what it has written up to there
+  after-8-9 : {y : DecodingState} {c : Cause} {n : ℕ} {m : List ℕ} → d .stop ≡ 0 → isPictureReady s (atPicture s y .state) ≡ true
+      → InCall d s l y → endIn d s y ≡ error (stop c m) → n ≡ errorCode c
       → LeftByDecode d s l n (stopAs n d) m
 
 -- RULES D1.4, D1.5: opening answers n: the question n is the first whose answer is "no", and this is left

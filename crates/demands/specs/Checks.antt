@@ -10,6 +10,7 @@ use Rattle.laws.specs.Loops.{continue, finish}
 use Rattle.bits.specs.Bits.{has}
 use Rattle.bits.specs.Programs.{run, eqZ, if_then_else_}
 use Rattle.picture_state.specs.Result.{Result, ok, error}
+use Rattle.picture_state.specs.Stop.{Cause, dcOutside, predictionOutside, Stop}
 use Rattle.picture_state.specs.declared.types.{Matrices.Matrices, Sizes.Sizes}
 use Rattle.picture.specs.Pictures.{PictureState}
 use Rattle.header.specs.Sequences.{size, rest}
@@ -77,24 +78,37 @@ openingChecks s l = isShort s ∷ hasCode s fresh ∷ hasBits s fresh ∷ hasSiz
 abbrev pub hasPicture : List ℕ → State → Check
 hasPicture s x = check 7 (isPictureReady s x || isFlush s x)
 
--- the number with which a picture leaves early, 0 where it does not
-abbrev pub errorCodeOf : Result PictureState → ℕ
-errorCodeOf (ok f) = 0
-errorCodeOf (error n l) = n
-
 -- how the picture at the state's place ends
-abbrev pub pictureEnd : List ℕ → Sizes → Matrices → DecodingState → Result PictureState
+abbrev pub pictureEnd : List ℕ → Sizes → Matrices → DecodingState → Result Stop PictureState
 pictureEnd s z m x = pictureRun s z m x .value
 
--- RULES QB, Q8, Q9: the picture ends at the first value that is outside, and says which question that was
-abbrev pub isInside : ℕ → Result PictureState → Check
-isInside n w = check n (not (eqb (errorCodeOf w) n))
+-- the two kinds of causes
+abbrev pub isDc : Cause → Bool
+isDc (dcOutside address block predictor difference) = true
+isDc (predictionOutside address plane h v) = false
+
+abbrev pub isPrediction : Cause → Bool
+isPrediction (dcOutside address block predictor difference) = false
+isPrediction (predictionOutside address plane h v) = true
+
+-- a picture that ends early does so for such a cause
+abbrev pub stopsFor : (Cause → Bool) → Result Stop PictureState → Bool
+stopsFor kind (ok f) = false
+stopsFor kind (error e) = kind (e .cause)
+
+-- RULES QB, Q8: the picture, which ends at the first value outside, does not end at a DC value
+abbrev pub areDcsInside : Result Stop PictureState → Check
+areDcsInside w = check 8 (not (stopsFor isDc w))
+
+-- RULES QB, Q9: it does not end at a prediction
+abbrev pub arePredictionsInside : Result Stop PictureState → Check
+arePredictionsInside w = check 9 (not (stopsFor isPrediction w))
 
 -- RULES 8.2 to 8.5: what a turn asks, behind its search
 unfoldable pub stepChecks : List ℕ → Sizes → Matrices → DecodingState → List Check
 stepChecks s z m x =
     hasPicture s (x .state) ∷
-    (if isPictureReady s (x .state) then isInside 8 (pictureEnd s z m x) ∷ isInside 9 (pictureEnd s z m x) ∷ [] else [])
+    (if isPictureReady s (x .state) then areDcsInside (pictureEnd s z m x) ∷ arePredictionsInside (pictureEnd s z m x) ∷ [] else [])
 
 -- RULES 8.7: one turn, or two
 unfoldable pub picturesChecks : List ℕ → Sizes → Matrices → DecodingState → List Check

@@ -11,6 +11,7 @@ use Rattle.bits.specs.Bounds.{longestStream}
 use Rattle.bits.specs.Programs.{run, if_then_else_}
 use Rattle.picture_state.specs.declared.types.{Matrices.Matrices, Sizes.Sizes}
 use Rattle.picture_state.specs.Result.{Result, ok, error}
+use Rattle.picture_state.specs.Stop.{Stop}
 use Rattle.picture.specs.Pictures.{PictureState, pictureHeader, isDecoded}
 use Rattle.playback.specs.State.{position}
 use Rattle.playback.specs.Steps.{DecodingState, atPicture, pictureRun, pictureStep}
@@ -58,13 +59,13 @@ abbrev pub samplesOf : ℕ → ℕ → List ℕ → List ℕ
 samplesOf n k l = midOf (k * (384 * n)) (384 * n) l
 
 -- a picture that is read to its end is in the store that was the current one before; one that leaves early is none
-abbrev pub codedPictureBy : List ℕ → Sizes → DecodingState → Result PictureState → List CodedPicture
+abbrev pub codedPictureBy : List ℕ → Sizes → DecodingState → Result Stop PictureState → List CodedPicture
 codedPictureBy s z x (ok f) = record {
   isB = isB f;
   decoded = isDecoded (run pictureHeader s (position (x .state)) .value);
   samples = samplesOf (z .«mb_size») (x .state .picture .stores .cur) (f .store);
 } ∷ []
-codedPictureBy s z x (error n m) = []
+codedPictureBy s z x (error e) = []
 
 -- RULES 8.2, 8.3: the picture that a turn reads, behind its search
 unfoldable pub stepReads : List ℕ → Sizes → Matrices → DecodingState → List CodedPicture

@@ -1,7 +1,6 @@
 pub mod Calls
 pub mod Checks
 pub mod Codes
-pub mod Causes
 pub mod After
 pub mod Stores
 pub mod Rows

@@ -8,6 +8,7 @@ use lib.IntN.{pos, negsuc}
 use lib.ListN.{length}
 use Rattle.bits.specs.Bits.{bitsAt}
 use Rattle.picture_state.specs.Result.{error}
+use Rattle.picture_state.specs.Stop.{Cause, errorCode, stop}
 use Rattle.decoder.specs.declared.record.Decoder.{Decoder}
 use Rattle.playback.specs.Steps.{DecodingState, atPicture}
 use Rattle.playback.specs.Cases.{isPictureReady, isFlush}
@@ -15,7 +16,6 @@ use Rattle.decoder.specs.Record.{position, startCode, searchedAs, stopAs, withD
 use Rattle.decoder.specs.Record as R
 use Rattle.decoder.specs.Headers.{findSequence}
 use Rattle.demands.specs.Codes.{NoneFound}
-use Rattle.demands.specs.Causes.{Cause}
 use Rattle.demands.specs.Checks.{IsFirstFailing, withSize, withHeaderRead, decodeChecks}
 use Rattle.demands.specs.After.{AtCode, sizeRead, InCall, endIn}
 
@@ -70,6 +70,7 @@ pub record Row89 (d : Decoder) (s l : List ℕ) (n : ℕ) (x : Decoder) (m : Lis
   pub given : DecodingState
   pub step : InCall d s l given
   pub ready : isPictureReady s (atPicture s given .state) ≡ true
-  pub left : endIn d s given ≡ error n m
-  pub cause : Cause s (withHeaderRead s d .sequence .sizes) n
+  pub cause : Cause
+  pub left : endIn d s given ≡ error (stop cause m)
+  pub number : n ≡ errorCode cause
   pub decoder : x ≡ stopAs n d

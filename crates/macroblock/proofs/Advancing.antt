@@ -18,6 +18,7 @@ use Rattle.prediction.specs.declared.predict.Predicted.the-variants.{Done, Refu
 use Rattle.picture_state.specs.declared.types.{Context.Context, Slice.Slice}
 use Rattle.picture_state.specs.Possible.{PossibleSlice}
 use Rattle.picture_state.specs.Result.{andThen}
+use Rattle.picture_state.proofs.Results.{numbered-ok, numbered-then}
 use Rattle.macroblock_head.specs.Predictions.{predictSkipped}
 use Rattle.macroblock.specs.Macroblocks.{skipReset, advance}
 use Rattle.picture_state.specs.State.{addressAs}
@@ -103,11 +104,11 @@ module _ (g : Context) (n : ℕ) (x : Slice) {store : List ℕ} (k : StoreFits g
   module _ (l : 2 ≤ n) {s : Slice} (is : s ≡ skipReset g x) {first : ℕ} (at : first ≡ natAbs (a +ℤ pos 1)) {r : Predicted} {store₁ : List ℕ}
       (told : RefinesPrediction (predictSkipped g s first (n - 1) store) r store₁) where
     pub advance-refused : r ≡ Refused → RefinesAdvance g n x store s 9 store₁
-    unfolding advance andThen
+    unfolding advance
     advance-refused e =
-        let t = rw (is, at) at (told .is) in
+        let t = rw (is, at, e) at (told .is) in
         record {
-          is = λ left. rw (le-ltb n 2 l, t, e);
+          is = λ left. rw (le-ltb n 2 l) (numbered-then _ _ t);
           possible = λ q. rw is (skip-possible g x q);
           here = λ z m. let w : _≡_ {A = ℕ} 9 0 = z in let o : ⊥ = omega arith in absurd o;
         }
@@ -115,10 +116,10 @@ module _ (g : Context) (n : ℕ) (x : Slice) {store : List ℕ} (k : StoreFits g
     pub advance-on : r ≡ Done → {y : Slice} → y ≡ addressAs (s .«macroblock_address» +ℤ pos n) s → RefinesAdvance g n x store y 0 store₁
     unfolding advance andThen
     advance-on e q =
-        let t = rw (is, at) at (told .is) in
+        let t = numbered-ok (predictSkipped g (skipReset g x) (natAbs (a +ℤ pos 1)) (n - 1) store) (rw (is, at, e) at (told .is)) in
         let y-is : _ ≡ addressAs (a +ℤ pos n) (skipReset g x) = rw (is, skip-address g x) at q in
         record {
-          is = λ left. rw (le-ltb n 2 l, t, e, q, is);
+          is = λ left. rw (le-ltb n 2 l, t, q, is);
           possible = λ q. rw y-is (moved-possible (skip-possible g x q) (v a ⊕ lit n) (omega (arith, bounds)) (omega (arith, bounds)));
           here = λ z m. rw y-is (here-at k (v a ⊕ lit n) (omega (arith, bounds)) (omega (arith, bounds)));
         }

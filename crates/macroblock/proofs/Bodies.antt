@@ -9,7 +9,6 @@ use Rattle.bits.specs.declared.reader.Reader.{Reader}
 use Rattle.bits.specs.Programs.{bits}
 use Rattle.bits.specs.Runs.{Reading}
 use Rattle.bits.proofs.Gives.{Gives, given-by, g-done, g-any, g-bind, g-if}
-use Rattle.bits.proofs.Rules.{r-done}
 use Rattle.prediction.specs.declared.predict.Predicted.{Predicted}
 use Rattle.prediction.specs.declared.predict.Predicted.the-variants.{Done, Refused}
 use Rattle.picture_state.specs.declared.types.{Context.Context, Matrices.Matrices, Slice.Slice, Progress.Progress}
@@ -23,7 +22,7 @@ use Rattle.macroblock.specs.Macroblocks.{predictUnlessIntra, body}
 use Rattle.picture_state.specs.Contracts.{AddressInPicture, MacroblockInvariant, RefinesAtMacroblock}
 use Rattle.macroblock_head.specs.Contracts.{RefinesPrediction}
 use Rattle.macroblock_head.proofs.Kept.{head-gives}
-use Rattle.picture_state.proofs.Results.{r-lift, r-bind, r-if-ok}
+use Rattle.picture_state.proofs.Results.{t-done, r-lift, r-bind, r-if-ok}
 use Rattle.picture_state.proofs.Ready.{ready-on}
 
 -- ---- prediction
@@ -69,7 +68,7 @@ module _ {g : Context} {x y : Slice} {left : List ℤ} {store s : List ℕ} {fro
     unfolding body
     body-refused m e =
         record {
-          runs = r-lift _ (type .runs) (r-lift _ (leads .runs) (r-if-ok _ (rw (told .is, e) r-done)));
+          runs = r-lift _ (type .runs) (r-lift _ (leads .runs) (r-if-ok _ (t-done (rw e at (told .is)))));
           ready = ready-on ready (leads .inside) headed-possible (ready .reads .block) headed-address long;
         }
 
@@ -85,6 +84,6 @@ module _ {g : Context} {x y : Slice} {left : List ℤ} {store s : List ℕ} {fro
       body-on m e w =
           record {
             runs = r-lift _ (type .runs) (r-lift _ (leads .runs)
-                (r-bind _ (rw (told .is, e) r-done) (r-lift _ (p .runs) (w .runs))));
+                (r-bind _ (t-done (rw e at (told .is))) (r-lift _ (p .runs) (w .runs))));
             ready = w .ready;
           }

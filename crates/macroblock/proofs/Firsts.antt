@@ -9,7 +9,6 @@ use lib.Signed.{ltZ, leZ}
 use mir.Syntax.{w64}
 use Rattle.laws.proofs.Ints.{up, dn, v, lit, neg, _⊕_, lt-no, le-no, le-yes, cast-by, cast-is}
 use Rattle.bits.specs.declared.reader.Reader.{Reader}
-use Rattle.bits.proofs.Rules.{r-yes, r-no, r-done}
 use Rattle.picture_state.specs.declared.types.{Context.Context, Matrices.Matrices, Slice.Slice, Progress.Progress}
 use Rattle.picture_state.specs.Possible.{PossibleSlice}
 use Rattle.macroblock.specs.Macroblocks.{body, firstMacroblock}
@@ -18,6 +17,7 @@ use Rattle.picture_state.specs.Contracts.{StoreFits, AddressInPicture, ReadInva
 use Rattle.macroblock.specs.Contracts.{AdvanceInvariant}
 use Rattle.picture_state.proofs.Possible.{between-by}
 use Rattle.picture_state.proofs.Ready.{size-most}
+use Rattle.picture_state.proofs.Results.{t-done, t-yes, t-no}
 
 -- neither before the first nor past the last
 here-by : {g : Context} {store : List ℕ} (a : ℤ) → StoreFits g store → (ltZ a (pos 0) || leZ (pos (g .sizes .«mb_size»)) a) ≡ false → AddressInPicture g a
@@ -56,7 +56,7 @@ module _ {g : Context} {x y : Slice} {n : ℕ} {left : List ℤ} {store s : List
     pub first-nowhere : (m : Matrices) → t ≡ true
         → RefinesInSlice (firstMacroblock g m n (sliceState x left store)) g s reader (record { reader = reader; state = y; stop = 0 }) left store
     unfolding firstMacroblock
-    first-nowhere m e = let q = rw is at (sym at ∙ e) in record { runs = rw is (r-yes _ q r-done); reads = further-reads; storeFits = k .storeFits }
+    first-nowhere m e = let q = rw is at (sym at ∙ e) in record { runs = rw is (t-yes _ q (t-done refl)); reads = further-reads; storeFits = k .storeFits }
 
     pub first-ready : t ≡ false → MacroblockInvariant g s reader y left store
     first-ready e = record { reads = further-reads; storeFits = k .storeFits; here = here-by (y .«macroblock_address») (k .storeFits) (sym at ∙ e) }
@@ -67,4 +67,4 @@ module _ {g : Context} {x y : Slice} {n : ℕ} {left : List ℤ} {store s : List
     unfolding firstMacroblock
     first-body m e w =
         let q = rw is at (sym at ∙ e) in
-        record { runs = r-no _ q (rw is at (w .runs)); reads = w .ready .reads; storeFits = w .ready .storeFits }
+        record { runs = t-no _ q (rw is at (w .runs)); reads = w .ready .reads; storeFits = w .ready .storeFits }

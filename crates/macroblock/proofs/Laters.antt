@@ -1,5 +1,5 @@
 -- A later macroblock, and the choice between the first and a later one, as the code goes. Assumes nothing.
-use mathlib.Core.Path.{_≡_}
+use mathlib.Core.Path.{_≡_, refl, _∙_}
 use mathlib.Core.Bool.{Bool, true, false}
 use mathlib.Core.List.{List}
 use Prim.Native.Nat.{ℕ, _+_, _*_, _≤_}
@@ -12,7 +12,6 @@ use Rattle.laws.proofs.Tests.{both}
 use Rattle.bits.specs.declared.reader.Reader.{Reader}
 use Rattle.bits.specs.Runs.{Reading}
 use Rattle.bits.proofs.Gives.{given-by}
-use Rattle.bits.proofs.Rules.{r-yes, r-no, r-done}
 use Rattle.picture_state.specs.declared.types.{Context.Context, Matrices.Matrices, Slice.Slice, Progress.Progress}
 use Rattle.macroblock_head.specs.Increments.{increment}
 use Rattle.macroblock.specs.Macroblocks.{body, firstMacroblock, laterMacroblock, macroblock}
@@ -21,7 +20,7 @@ use Rattle.picture_state.specs.Contracts.{ReadInvariant, MacroblockInvariant, R
 use Rattle.macroblock.specs.Contracts.{AdvanceInvariant, LaterInvariant, IncrementInvariant, RefinesAdvance}
 use Rattle.macroblock_head.proofs.IncrementBound.{increment-most}
 use Rattle.picture_state.proofs.Ready.{held-on, size-most}
-use Rattle.picture_state.proofs.Results.{r-lift, r-bind, r-if-ok, way-out}
+use Rattle.picture_state.proofs.Results.{t-done, t-yes, t-no, r-lift, r-bind, r-if-ok, way-out}
 
 -- ---- a later macroblock
 
@@ -30,7 +29,7 @@ module _ {g : Context} {x : Slice} {n : ℕ} {left : List ℤ} {store s : List �
   pub later-past : (m : Matrices) → leZ (pos (g .sizes .«mb_size»)) (x .«macroblock_address» +ℤ pos n) ≡ true
       → RefinesInSlice (laterMacroblock g m n (sliceState x left store)) g s reader (record { reader = reader; state = x; stop = 0 }) left store
   unfolding laterMacroblock
-  later-past m e = record { runs = r-yes _ e r-done; reads = k .reads; storeFits = k .storeFits }
+  later-past m e = record { runs = t-yes _ e (t-done refl); reads = k .reads; storeFits = k .storeFits }
 
   module _ {y : Slice} {stop : ℕ} {store₁ : List ℕ} (e : leZ (pos (g .sizes .«mb_size»)) (x .«macroblock_address» +ℤ pos n) ≡ false)
       (a : RefinesAdvance g n x store y stop store₁) (long : length store₁ ≡ length store) where
@@ -42,7 +41,7 @@ module _ {g : Context} {x : Slice} {n : ℕ} {left : List ℤ} {store s : List �
     unfolding laterMacroblock
     later-stop m h =
         let o = way-out (sliceState y left store₁) store₁ h in
-        record { runs = r-no _ e (rw o (r-if-ok _ (rw (a .is left, o) r-done))); reads = later-reads; storeFits = held-on (k .storeFits) long }
+        record { runs = t-no _ e (rw o (r-if-ok _ (t-done (a .is left ∙ o)))); reads = later-reads; storeFits = held-on (k .storeFits) long }
 
     pub later-ready : stop ≡ 0 → MacroblockInvariant g s reader y left store₁
     later-ready z = record { reads = later-reads; storeFits = held-on (k .storeFits) long; here = a .here z (k .more) }
@@ -52,7 +51,7 @@ module _ {g : Context} {x : Slice} {n : ℕ} {left : List ℤ} {store s : List �
         → RefinesInSlice (laterMacroblock g m n (sliceState x left store)) g s reader r left₁ store₂
     unfolding laterMacroblock
     later-body m z w =
-        record { runs = r-no _ e (r-bind _ (rw (a .is left, z) r-done) (w .runs)); reads = w .ready .reads; storeFits = w .ready .storeFits }
+        record { runs = t-no _ e (r-bind _ (t-done (rw z at (a .is left))) (w .runs)); reads = w .ready .reads; storeFits = w .ready .storeFits }
 
 -- ---- the increment, and where it leads
 
@@ -94,9 +93,9 @@ module _ {g : Context} {first : Bool} {x : Slice} {left : List ℤ} {store s : L
     pub macroblock-first : first ≡ true → RefinesInSlice (firstMacroblock g m n (sliceState x left store)) g s after p left₁ store₁
         → RefinesInSlice (macroblock g m first (sliceState x left store)) g s reader p left₁ store₁
     unfolding macroblock
-    macroblock-first e w = record { runs = r-lift _ (r .runs) (r-yes _ e (w .runs)); reads = w .reads; storeFits = w .storeFits }
+    macroblock-first e w = record { runs = r-lift _ (r .runs) (t-yes _ e (w .runs)); reads = w .reads; storeFits = w .storeFits }
 
     pub macroblock-later : first ≡ false → RefinesInSlice (laterMacroblock g m n (sliceState x left store)) g s after p left₁ store₁
         → RefinesInSlice (macroblock g m first (sliceState x left store)) g s reader p left₁ store₁
     unfolding macroblock
-    macroblock-later e w = record { runs = r-lift _ (r .runs) (r-no _ e (w .runs)); reads = w .reads; storeFits = w .storeFits }
+    macroblock-later e w = record { runs = r-lift _ (r .runs) (t-no _ e (w .runs)); reads = w .reads; storeFits = w .storeFits }

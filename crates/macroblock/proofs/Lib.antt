@@ -3,3 +3,4 @@ pub mod Advancing
 pub mod Bodies
 pub mod Firsts
 pub mod Laters
+pub mod Stops

@@ -10,7 +10,7 @@ use Rattle.picture_state.specs.declared.types.{Context.Context, Slice.Slice}
 use Rattle.macroblock.specs.Macroblocks.{advance}
 use Rattle.picture_state.specs.State.{sliceState}
 use Rattle.picture_state.specs.Possible.{PossibleSlice}
-use Rattle.picture_state.specs.Contracts.{resultOf, StoreFits, AddressInPicture, ReadInvariant}
+use Rattle.picture_state.specs.Contracts.{numbered, resultOf, StoreFits, AddressInPicture, ReadInvariant}
 
 -- the address can go on by n: RULES Q2
 pub record AddressReaches (address : ℤ) (n : ℕ) : Type 0 where
@@ -44,6 +44,6 @@ pub record IncrementInvariant (g : Context) (s : List ℕ) (reader : Reader) (fi
 
 -- the macroblock after the next n leaves, or goes on, as the state and the number say, whatever coefficients are left over
 pub record RefinesAdvance (g : Context) (n : ℕ) (x : Slice) (store : List ℕ) (y : Slice) (stop : ℕ) (store₁ : List ℕ) : Type 0 where
-  pub is : (left : List ℤ) → advance g n (sliceState x left store) ≡ resultOf stop (sliceState y left store₁) store₁
+  pub is : (left : List ℤ) → numbered (advance g n (sliceState x left store)) ≡ resultOf stop (sliceState y left store₁) store₁
   pub possible : PossibleSlice x → PossibleSlice y
   pub here : stop ≡ 0 → leZ (pos (g .sizes .«mb_size»)) (x .«macroblock_address» +ℤ pos 1) ≡ false → AddressInPicture g (y .«macroblock_address»)

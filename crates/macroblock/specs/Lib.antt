@@ -1,2 +1,3 @@
 pub mod Macroblocks
 pub mod Contracts
+pub mod Stops

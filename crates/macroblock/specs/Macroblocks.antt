@@ -9,6 +9,7 @@ use Rattle.bits.specs.Programs.{Prog, if_then_else_}
 use Rattle.picture_state.specs.declared.types.{Context.Context, Matrices.Matrices, Slice.Slice}
 use Rattle.picture_state.specs.State.{SliceState, sliceState, withSlice, zeroed, addressAs, motionsAs, dcReset}
 use Rattle.picture_state.specs.Result.{Result, ok, andThen, lift, fromResult, pure, _>>=_, _>>_}
+use Rattle.picture_state.specs.Stop.{Stop}
 use Rattle.macroblock_head.specs.Increments.{increment}
 use Rattle.macroblock_head.specs.Predictions.{predict, predictSkipped}
 use Rattle.picture_state.specs.Flags.{isIntra}
@@ -30,7 +31,7 @@ skipReset g s =
     if eqb (g .«picture_type») 2 then motionsAs (zeroed (d .«motion_forward»)) (d .«motion_backward») d else d
 
 -- RULES 7.9, 7.11: on by n, or by 1 where n is 0; the macroblocks between are skipped
-unfoldable pub advance : Context → ℕ → SliceState → Result SliceState
+unfoldable pub advance : Context → ℕ → SliceState → Result Stop SliceState
 advance g n w =
     let s = skipReset g (w .slice) in
     if ltb n 2 then ok (addressPlus 1 w)
@@ -38,11 +39,11 @@ advance g n w =
     ok (addressPlus n (sliceState s (w .«block_data») l))
 
 -- RULES 7.14: prediction, unless intra
-unfoldable pub predictUnlessIntra : Context → ℕ → Slice → List ℕ → Result (List ℕ)
+unfoldable pub predictUnlessIntra : Context → ℕ → Slice → List ℕ → Result Stop (List ℕ)
 predictUnlessIntra g t s l = if isIntra t then ok l else predict g (natAbs (s .«macroblock_address»)) s l
 
 -- RULES 7.13 to 7.16: type, head, prediction, pattern, blocks
-unfoldable pub body : Context → Matrices → SliceState → Prog (Result SliceState)
+unfoldable pub body : Context → Matrices → SliceState → Prog (Result Stop SliceState)
 body g m w = do
   t ← lift (macroblockType (g .«picture_type»))
   s ← lift (head (g .«picture_type») t (w .slice))
@@ -51,11 +52,11 @@ body g m w = do
   blocks g m (isIntra t) c (sliceState s (w .«block_data») l)
 
 -- RULES 7.8, 7.12: the first macroblock of a slice
-unfoldable pub firstMacroblock : Context → Matrices → ℕ → SliceState → Prog (Result SliceState)
+unfoldable pub firstMacroblock : Context → Matrices → ℕ → SliceState → Prog (Result Stop SliceState)
 firstMacroblock g m n w = if isOutside g (addressPlus n w) then pure (addressPlus n w) else body g m (addressPlus n w)
 
 -- RULES 7.9 to 7.11: a later one
-unfoldable pub laterMacroblock : Context → Matrices → ℕ → SliceState → Prog (Result SliceState)
+unfoldable pub laterMacroblock : Context → Matrices → ℕ → SliceState → Prog (Result Stop SliceState)
 laterMacroblock g m n w =
     if leZ (pos (g .sizes .«mb_size»)) (w .slice .«macroblock_address» +ℤ pos n) then pure w
     else do
@@ -63,7 +64,7 @@ laterMacroblock g m n w =
       body g m x
 
 -- RULES 7.7 to 7.11: the increment, and the macroblock to which it leads; `first` says that it is the first of its slice
-unfoldable pub macroblock : Context → Matrices → Bool → SliceState → Prog (Result SliceState)
+unfoldable pub macroblock : Context → Matrices → Bool → SliceState → Prog (Result Stop SliceState)
 macroblock g m first w = do
   n ← lift increment
   if first then firstMacroblock g m n w else laterMacroblock g m n w

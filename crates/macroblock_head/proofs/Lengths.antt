@@ -12,7 +12,7 @@ use Rattle.prediction.specs.declared.position.Fetch.the-variants.{Alone, Past, 
 use Rattle.prediction.specs.declared.predict.Predicted.{Predicted}
 use Rattle.prediction.specs.declared.predict.Predicted.the-variants.{Done, Refused}
 use Rattle.prediction.specs.Predict.{bytes, fetch, predicted, address, width}
-use Rattle.prediction.specs.Planes.{After, follow, inPlane, thenPlane, predictedPlanes}
+use Rattle.prediction.specs.Planes.{PlaneAfter, follow, inPlane, thenPlane, predictedPlanes}
 
 predicted-length : (p : BlockPosition) (x d : List ℕ) (h v : ℤ) (interpolate : Bool) (from : ℕ) → length (predicted p x d h v interpolate from) ≡ length d
 unfolding predicted
@@ -28,12 +28,12 @@ follow-length (Copied a) p from to h v interpolate l =
     let source = midOf from (bytes p) l in
     same-len-mid to (bytes p) l (predicted p source before h v interpolate a) (predicted-length p source before h v interpolate a)
 
-next-length : {n : ℕ} (o : After) (f : List ℕ → After) → length (o .store) ≡ n
+next-length : {n : ℕ} (o : PlaneAfter) (f : List ℕ → PlaneAfter) → length (o .store) ≡ n
     → ((l : List ℕ) → length l ≡ n → length (f l .store) ≡ n) → length (thenPlane o f .store) ≡ n
 unfolding thenPlane
 next-length {n} o f e k = go (o .answer)
   where
-    go : (a : Predicted) → length ((elim a as (λ x. After) [ Done ↦ f (o .store) | Refused ↦ o ]) .store) ≡ n
+    go : (a : Predicted) → length ((elim a as (λ x. PlaneAfter) [ Done ↦ f (o .store) | Refused ↦ o ]) .store) ≡ n
     go Done = k (o .store) e
     go Refused = e
 

@@ -6,3 +6,4 @@ pub mod Sums
 pub mod Headings
 pub mod Foretelling
 pub mod Skips
+pub mod Stops

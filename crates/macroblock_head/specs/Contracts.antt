@@ -9,11 +9,13 @@ use Rattle.prediction.specs.declared.predict.Predicted.the-variants.{Done, Refu
 use Rattle.picture_state.specs.declared.types.Slice.{Slice}
 use Rattle.picture_state.specs.Possible.{PossibleMotion}
 use Rattle.picture_state.specs.Result.{Result, ok, error}
+use Rattle.picture_state.specs.Stop.{Stop}
+use Rattle.picture_state.specs.Contracts.{Exit, exit, numbered}
 
 -- a prediction's answer, RULES Q9
-abbrev pub predictionResult : Predicted → List ℕ → Result (List ℕ)
+abbrev pub predictionResult : Predicted → List ℕ → Result Exit (List ℕ)
 predictionResult Done l = ok l
-predictionResult Refused l = error 9 l
+predictionResult Refused l = error (exit 9 l)
 
 -- whether to go on, and with which number
 abbrev pub stepOf : Bool → ℕ → Step ℕ ℕ
@@ -26,5 +28,5 @@ pub record PossibleMotions (x : Slice) : Type 0 where
   pub backward : PossibleMotion (x .«motion_backward»)
 
 -- a step that reads nothing goes as the answer and the store say
-pub record RefinesPrediction (w : Result (List ℕ)) (r : Predicted) (store : List ℕ) : Type 0 where
-  pub is : w ≡ predictionResult r store
+pub record RefinesPrediction (w : Result Stop (List ℕ)) (r : Predicted) (store : List ℕ) : Type 0 where
+  pub is : numbered w ≡ predictionResult r store

@@ -2,3 +2,4 @@ pub mod Increments
 pub mod Predictions
 pub mod Heads
 pub mod Contracts
+pub mod Stops

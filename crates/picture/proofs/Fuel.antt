@@ -18,6 +18,7 @@ use Rattle.bits.proofs.Start.{Searched, first, none, found-is-first}
 use Rattle.picture_state.specs.declared.types.{Context.Context, Matrices.Matrices}
 use Rattle.picture_state.specs.State.{sliceState, startCodeAs}
 use Rattle.picture_state.specs.Result.{Result, ok}
+use Rattle.picture_state.specs.Stop.{Stop}
 use Rattle.slice.specs.Slices.{slice}
 use Rattle.picture.specs.Pictures as P
 use Rattle.bits.proofs.EnoughFuel.{takes, enough}
@@ -35,7 +36,7 @@ unfolding P.slicesStep run bind
 slices-take g m s x a =
     let c = found s a .code in
     let e = found s a .at in
-    let Ends : Prog (Step P.SlicesLoopState (Result P.PictureState)) → Type 0 = λ p. Takes (length s * 8) a (run p s e .value) (run p s e .at) in
+    let Ends : Prog (Step P.SlicesLoopState (Result Stop P.PictureState)) → Type 0 = λ p. Takes (length s * 8) a (run p s e .value) (run p s e .at) in
     by-case Ends (P.isSlice c) (λ q.
     let f = found-takes s a (λ z. false≢true (sym (ap P.isSlice z) ∙ q)) in
     let p = startCodeAs c (x .pictureState .picture) in
@@ -47,7 +48,7 @@ slices-take g m s x a =
 
 -- RULES 7.3
 pub slices-fuel : (g : Context) (m : Matrices) (s : List ℕ) → length s ≤ longestStream → (n : ℕ) → many ≤ n
-    → (d : Result P.PictureState) (f : P.PictureState) (a : ℕ)
+    → (d : Result Stop P.PictureState) (f : P.PictureState) (a : ℕ)
     → run (loop n (P.slicesStep g m) d (P.slicesLoopState false f)) s a ≡ run (P.slices g m f) s a
 unfolding P.slices
 slices-fuel g m s l n h d f a = enough s (P.slicesStep g m) (slices-take g m s) l n h d (ok f) (P.slicesLoopState false f) a

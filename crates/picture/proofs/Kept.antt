@@ -1,9 +1,7 @@
--- RULES Q8, Q9, QG: what a picture leaves. It leaves early with no number but 8 and 9, the store stays as long as it was, and a possible state stays
--- possible. Assumes nothing.
+-- RULES QG: what a picture leaves. The store stays as long as it was, and a possible state stays possible. Assumes nothing.
 use mathlib.Core.Path.{_≡_, refl, sym, _∙_}
 use mathlib.Core.Bool.{true}
 use mathlib.Core.List.{List}
-use mathlib.Core.Logic.{_⊎_, inl, inr}
 use Prim.Native.Nat.{ℕ, _+_, _-_, _*_, _≤_, _<_}
 use native.Mathlib.Nat.{mul-le-mul}
 use native.Mathlib.Omega.{arith}
@@ -14,16 +12,19 @@ use Rattle.laws.proofs.Ints.{up, dn, v, lit, _⊕_, _⊖_, le-no}
 use Rattle.laws.proofs.Tests.{by-case}
 use Rattle.bits.specs.Bounds.{longestStream}
 use Rattle.bits.specs.Programs.{run}
-use Rattle.bits.proofs.Gives.{Gives, g-done, g-bind, g-if, g-start, g-as, g-when}
+use Rattle.bits.proofs.Gives.{Gives, g-done, g-any, g-bind, g-if, g-start, g-as, g-when}
 use Rattle.codes.specs.Matrices.{Bounded}
-use Rattle.coefficients.proofs.Kept.{block-gives, left-bounded}
+use Rattle.coefficients.specs.Blocks.{BlockRead}
+use Rattle.coefficients.specs.Syntax.{CodedBlock}
+use Rattle.coefficients.proofs.Kept as Coefficients
 use Rattle.prediction.specs.declared.predict.Predicted.{Predicted}
 use Rattle.prediction.specs.declared.predict.Predicted.the-variants.{Done, Refused}
-use Rattle.prediction.specs.Planes.{After}
+use Rattle.prediction.specs.Planes.{PlaneAfter}
 use Rattle.picture_state.specs.declared.types.{Context.Context, Stores.Stores, Sizes.Sizes, Matrices.Matrices, Slice.Slice, Picture.Picture}
 use Rattle.picture_state.specs.State.{storesAs, addressAs}
 use Rattle.picture_state.specs.Possible.{between, possiblePicture, PossibleStores, PossibleSlice, PossiblePicture}
 use Rattle.picture_state.specs.Result.{Result, ok, error}
+use Rattle.picture_state.specs.Stop.{Stop, stop, predictionOutside}
 use Rattle.macroblock_head.specs.Predictions.{unlessRefused}
 use Rattle.blocks.specs.Blocks.{predictorOf}
 use Rattle.macroblock.specs.Macroblocks.{skipReset}
@@ -37,14 +38,14 @@ use Rattle.picture_state.proofs.Kept.{motions-kept, predictors-kept, reset-kept
 use Rattle.macroblock_head.proofs.Kept.{still-kept, head-gives}
 use Rattle.picture.proofs.Header.{header-fits, headed-possible}
 use Rattle.picture_state.proofs.Exits.{OnResult, results-as, bind-results}
-use Rattle.picture.proofs.Walk.{Invariant, Keeps, Framed, slices-results}
+use Rattle.picture.proofs.Walk.{Invariant, Keeps, Framed, reconstructedBy, slices-results}
 
--- a picture leaves early with 8 or 9 and a store of n numbers
-abbrev Leaves : ℕ → ℕ → List ℕ → Type 0
-Leaves n k l = ((k ≡ 8) ⊎ (k ≡ 9)) × (length l ≡ n)
+-- a picture leaves early with a store of n numbers
+abbrev Leaves : ℕ → Stop → Type 0
+Leaves n e = length (e .store) ≡ n
 
 -- a way goes on with P, or leaves so
-abbrev pub Ends : {A : Type 0} → ℕ → (A → Type 0) → Result A → Type 0
+abbrev pub Ends : {A : Type 0} → ℕ → (A → Type 0) → Result Stop A → Type 0
 Ends n P = OnResult P (Leaves n)
 
 -- ---- the steps
@@ -92,13 +93,16 @@ start-kept g number q x width h j k =
     )
 
 -- RULES Q9: a prediction that is refused
-refused-ends : (n : ℕ) (o : After) → length (o .store) ≡ n → Ends n (λ (l : List ℕ). length l ≡ n) (unlessRefused o)
+refused-ends : (n address : ℕ) (o : PlaneAfter) → length (o .store) ≡ n → Ends n (λ (l : List ℕ). length l ≡ n) (unlessRefused address o)
 unfolding unlessRefused
-refused-ends n o h = go (o .answer)
+refused-ends n address o h = go (o .answer)
   where
-    go : (a : Predicted) → Ends n (λ (l : List ℕ). length l ≡ n) (elim a as (λ x. Result (List ℕ)) [ Done ↦ ok (o .store) | Refused ↦ error 9 (o .store) ])
+    go : (a : Predicted) → Ends n (λ (l : List ℕ). length l ≡ n) (elim a as (λ x. Result Stop (List ℕ)) [
+      | Done ↦ ok (o .store)
+      | Refused ↦ error (stop (predictionOutside address (o .plane) (o .h) (o .v)) (o .store))
+    ])
     go Done = h
-    go Refused = (inr refl, h)
+    go Refused = h
 
 -- ---- the walk, in a picture of which H says that it is possible; the store has n numbers
 
@@ -130,14 +134,19 @@ keeps H {s} n g m c = record {
       let q = le-no (lit (g .sizes .«mb_size»)) (v (x .«macroblock_address») ⊕ lit i) h in
       moved i (skipReset g x) (skip-kept g (k η)) (rw (skip-address g x) (omega (arith, c .size η)));
   heads = λ t x k. g-when H (λ η. head-gives (g .«picture_type») t (k η));
-  blocks = λ intra number x b h k j. g-as (λ r e. record {
-    slice = λ η.
-        predictors-kept (k η) (predictors-set (x .«dc_predictor») (predictorOf number) (r .predictor) (k η .predictors) (e η .predictor));
-    block = λ η. left-bounded _ r (e η .bounded);
-    outside = λ o l z. (inl refl, z);
-  }) (g-when H (λ η. block-gives _ _ _ _ (k η .predictors (predictorOf number) (omega arith)) (j η) _));
+  blocks = λ intra number x b h k j.
+      let r : CodedBlock → BlockRead = reconstructedBy g m intra number x b in
+      let e : H → (d : CodedBlock) → Coefficients.Kept (r d)
+      = λ η. Coefficients.reconstructed-kept _ _ _ b (k η .predictors (predictorOf number) (omega arith)) (j η) in
+      g-as (λ d u. record {
+        slice = λ η.
+            predictors-kept (k η)
+            (predictors-set (x .«dc_predictor») (predictorOf number) (r d .predictor) (k η .predictors) (e η d .predictor));
+        block = λ η. Coefficients.left-bounded _ (r d) (e η d .bounded);
+        outside = λ o l z. z;
+      }) (g-any _);
   writes = λ q number a f l e. written-length g q number a f l ∙ e;
-  predicts = λ a k h u interpolate l e. refused-ends n _ (planes-length _ _ _ _ _ interpolate l ∙ e);
+  predicts = λ a k h u interpolate l e. refused-ends n a _ (planes-length _ _ _ _ _ interpolate l ∙ e);
 }
 
 -- what a picture leaves
@@ -203,7 +212,7 @@ module _ (H : Type 0) {s : List ℕ} (z : Sizes) (c : Domain H s z) (m : Matrice
       let kept : PictureKept H n x = record { picture = λ η. headed-possible (k .picture η) i; block = k .block; store = k .store } in
       g-if (P.isDecoded h) (λ d. coded-ends x kept) (λ d. g-done kept))
 
--- RULES Q8, Q9: whatever the state, store and stream, a picture leaves early with 8 or 9 only, and the store stays as long as it was
+-- RULES Q8, Q9: whatever the state, store and stream, also where it leaves early, a picture leaves the store as long as it was
 abbrev pub SameLength : List ℕ → P.PictureState → Type 0
 SameLength l f = length (f .store) ≡ length l
 

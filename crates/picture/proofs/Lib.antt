@@ -6,3 +6,5 @@ pub mod Kept
 pub mod Places
 pub mod PictureLoop
 pub mod SlicesStep
+pub mod Stops
+pub mod StopExamples

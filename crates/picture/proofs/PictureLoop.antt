@@ -17,19 +17,21 @@ use Rattle.laws.proofs.Ints.{up, dn, v, lit, le-yes, yes-le, no-le, lt-yes, lt-
 use Rattle.laws.proofs.Tests.{both}
 use Rattle.bits.specs.declared.reader.Reader.{Reader}
 use Rattle.bits.specs.Programs.{many, done, nextStartCode, eqZ, if_then_else_}
-use Rattle.bits.specs.Runs.{Runs, Reading, bitsLeft}
+use Rattle.bits.specs.Runs.{Reading, bitsLeft}
 use Rattle.bits.proofs.Codes.{eqZ-yes, eqZ-no, code-fits}
-use Rattle.bits.proofs.Rules.{Loops, loop-start, loop-on, loop-end, takes-less, r-call, r-yes, r-no, r-done}
+use Rattle.bits.proofs.Rules.{Loops, loop-start, loop-on, takes-less}
 use Rattle.picture_state.specs.declared.types.{Picture.Picture, Context.Context, Matrices.Matrices, Slice.Slice, Progress.Progress}
 use Rattle.picture_state.specs.Possible.{PossiblePicture}
 use Rattle.picture_state.proofs.Possible.{between-of}
-use Rattle.picture_state.specs.State.{sliceState}
-use Rattle.picture_state.specs.Result.{ok}
+use Rattle.picture_state.specs.State.{SliceState, sliceState}
+use Rattle.picture_state.specs.Result.{Result, ok, error}
+use Rattle.picture_state.specs.Stop.{Stop}
 use Rattle.slice.specs.Slices.{slice}
 use Rattle.picture.specs.Pictures as P
 use Rattle.picture.proofs.Fuel.{slices-take}
 use Rattle.picture_state.specs.declared.types.SlicesProgress.{SlicesProgress}
-use Rattle.picture_state.specs.Contracts.{resultOf, StoreFits, ReadInvariant, RefinesInSlice}
+use Rattle.picture_state.specs.Contracts.{Exit, exit, resultOf, numbered, numberedStep, RunsAs, StoreFits, ReadInvariant, RefinesInSlice}
+use Rattle.picture_state.proofs.Results.{t-done, t-yes, t-no, t-call, numbered-ok, error-is-not-ok, error-injective, loop-left, step-continues}
 use Rattle.picture.specs.Contracts.{pictureStateOf, slicesStepOf, RefinesSlicesStep, RefinesSlices}
 use Rattle.picture.specs.CodeResults.{afterSliceOf}
 
@@ -92,19 +94,27 @@ module _ {g : Context} {s : List ℕ} {reader : Reader} {x : Slice} {left : List
   -- a slice that ended with the number n, and behind which the picture ends or not
   behind : (y : Slice) (left₁ : List ℤ) (store₁ : List ℕ) (to : Reader) (n : ℕ) (last : Bool)
       → leZ (pos (g .sizes .«mb_size»)) (y .«macroblock_address» +ℤ pos 1) ≡ last
-      → Runs (P.afterSlice g (pictureStateOf g code x left store .picture) (resultOf n (sliceState y left₁ store₁) store₁)) s to
+      → (w : Result Stop SliceState) → numbered w ≡ resultOf n (sliceState y left₁ store₁) store₁
+      → RunsAs numberedStep (P.afterSlice g (pictureStateOf g code x left store .picture) w) s to
       (slicesStepOf (eqb n 0 && not last) true n (pictureStateOf g code y left₁ store₁)) to
   unfolding P.afterSlice
-  behind y left₁ store₁ to zero true q = r-yes _ q r-done
-  behind y left₁ store₁ to zero false q = r-no _ q r-done
-  behind y left₁ store₁ to (suc n) last q = let z : eqb (suc n) 0 ≡ false = ne-eqb (suc n) 0 (λ e. omega (arith, e)) in rw z r-done
+  behind y left₁ store₁ to zero true q w e = rw (numbered-ok w e) (t-yes _ q (t-done refl))
+  behind y left₁ store₁ to zero false q w e = rw (numbered-ok w e) (t-no _ q (t-done refl))
+  behind y left₁ store₁ to (suc n) last q (ok w) e = absurd (error-is-not-ok (sym e))
+  behind y left₁ store₁ to (suc n) last q (error c) e =
+      let z : eqb (suc n) 0 ≡ false = ne-eqb (suc n) 0 (λ e. omega (arith, e)) in rw z (t-done (ap finish (told c e)))
+    where
+      told : (c : Stop) → _≡_ {A = Result Exit SliceState} (numbered (error c)) (error (exit (suc n) store₁))
+          → _≡_ {A = Result Exit P.PictureState} (numbered (error c)) (error (exit (suc n) store₁))
+      told c e = ap error (error-injective e)
 
   pub turned-slice : P.isSlice code ≡ true → (w : Progress) {left₁ : List ℤ} {store₁ : List ℕ}
       → RefinesInSlice (slice g m (natAbs code) (sliceState x left store)) g s after w left₁ store₁
       → RefinesSlicesStep g m s reader begun x left store (afterSliceOf g code w) left₁ store₁
   unfolding P.slicesStep
   turned-slice e w {left₁} {store₁} p = record {
-    runs = λ before. r-call _ (found .runs) (r-yes _ e (r-call _ (p .runs) (behind (w .state) left₁ store₁ (w .reader) (w .stop) _ refl)));
+    runs = λ before. t-call _ (found .runs) (t-yes _ e
+        (t-call _ (p .runs .runs) (behind (w .state) left₁ store₁ (w .reader) (w .stop) _ refl (p .runs .value) (p .runs .is))));
     reads = p .reads;
     storeFits = p .storeFits;
     few = few;
@@ -115,18 +125,18 @@ module _ {g : Context} {s : List ℕ} {reader : Reader} {x : Slice} {left : List
       (record { reader = after; code = code; state = x; begun = false; continues = t; stop = 0 }) left store
   unfolding P.slicesStep
   turned-other e t q = record {
-    runs = λ before. r-call _ (found .runs) (r-no _ e (picked before t (sym q)));
+    runs = λ before. t-call _ (found .runs) (t-no _ e (picked before t (sym q)));
     reads = record { inside = found .inside; slice = k .slice; block = k .block };
     storeFits = held;
     few = few;
   }
     where
       picked : (before : ℤ) (t : Bool) → (P.isExtra code && not begun) ≡ t
-          → Runs (if P.isExtra code && not begun then done (continue (P.slicesLoopState false (pictureStateOf g code x left store)))
+          → RunsAs numberedStep (if P.isExtra code && not begun then done (continue (P.slicesLoopState false (pictureStateOf g code x left store)))
           else done (finish (ok (pictureStateOf g code x left store)))) s after
           (slicesStepOf t false 0 (pictureStateOf g code x left store)) after
-      picked before true q = r-yes _ q r-done
-      picked before false q = r-no _ q r-done
+      picked before true q = t-yes _ q (t-done refl)
+      picked before false q = t-no _ q (t-done refl)
 
 -- ---- the loop
 
@@ -149,10 +159,10 @@ module _ {g : Context} {m : Matrices} {s : List ℕ} {from₀ : Reader} {f₀ : 
     {r : SlicesProgress} {left₁ : List ℤ} {store₁ : List ℕ} (t : RefinesSlicesStep g m s from begun x left store r left₁ store₁) where
   pub slices-end : r .continues ≡ false → RefinesSlices (P.slices g m f₀) g s from₀ r left₁ store₁
   unfolding P.slices
-  slices-end e = record { runs = loop-end (i .rest) (rw e at (t .runs (i .code))); reads = t .reads; storeFits = t .storeFits; few = t .few }
+  slices-end e = record { runs = loop-left (i .rest) (rw e at (t .runs (i .code))); reads = t .reads; storeFits = t .storeFits; few = t .few }
 
   pub slices-less : r .continues ≡ true → bitsLeft s (r .reader) < bitsLeft s from
-  slices-less e = takes-less (P.slicesStep g m) (slices-take g m s) (rw e at (t .runs (i .code)))
+  slices-less e = takes-less (P.slicesStep g m) (slices-take g m s) (step-continues (rw e at (t .runs (i .code))))
 
   pub slices-on : r .continues ≡ true → length store₁ ≡ length store
       → AtSlices g m s from₀ f₀ (r .begun) (r .reader) (r .state) left₁ store₁
@@ -161,5 +171,5 @@ module _ {g : Context} {m : Matrices} {s : List ℕ} {from₀ : Reader} {f₀ : 
     reads = t .reads;
     storeFits = t .storeFits;
     long = l ∙ i .long;
-    rest = loop-on (i .rest) (rw e at (t .runs (i .code))) (slices-less e);
+    rest = loop-on (i .rest) (step-continues (rw e at (t .runs (i .code)))) (slices-less e);
   }

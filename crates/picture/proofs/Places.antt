@@ -17,6 +17,7 @@ use Rattle.laws.proofs.Tests.{by-case}
 use Rattle.picture_state.specs.declared.types.{Stores.Stores, Sizes.Sizes, Matrices.Matrices, Picture.Picture, Context.Context}
 use Rattle.picture_state.specs.State.{SliceState, sliceState, startCodeAs, storesAs}
 use Rattle.picture_state.specs.Result.{Result, ok, error, ifOk, bindResult, pure}
+use Rattle.picture_state.specs.Stop.{Stop}
 use Rattle.slice.specs.Slices.{isLast, slice}
 use Rattle.picture.specs.Pictures as P
 
@@ -97,16 +98,16 @@ picture-past z m f s a h =
 -- ---- bits are left before a picture start code
 
 -- where a picture went on and its start code is 0, the place e is not the end
-abbrev pub Ahead : List ℕ → ℕ → Result P.PictureState → Type 0
+abbrev pub Ahead : List ℕ → ℕ → Result Stop P.PictureState → Type 0
 Ahead s e (ok f) = f .picture .«start_code» ≡ pos 0 → e < length s * 8
-Ahead s e (error n l) = Unit {0}
+Ahead s e (error q) = Unit {0}
 
 -- a turn from a on that goes on has found a start code
-abbrev StepAhead : List ℕ → ℕ → ℕ → Step P.SlicesLoopState (Result P.PictureState) → Type 0
+abbrev StepAhead : List ℕ → ℕ → ℕ → Step P.SlicesLoopState (Result Stop P.PictureState) → Type 0
 StepAhead s a e (continue x) = (a + 32 ≤ e) × (a + 40 ≤ length s * 8)
 StepAhead s a e (finish w) = Ahead s e w
 
-abbrev OnStep : List ℕ → ℕ → ℕ → Prog (Step P.SlicesLoopState (Result P.PictureState)) → Type 0
+abbrev OnStep : List ℕ → ℕ → ℕ → Prog (Step P.SlicesLoopState (Result Stop P.PictureState)) → Type 0
 OnStep s a e p = StepAhead s a (run p s e .at) (run p s e .value)
 
 -- a start code that is no picture's was found
@@ -115,10 +116,10 @@ pub record Other (s : List ℕ) (a e : ℕ) (c : ℤ) : Type 0 where
   pub five : a + 40 ≤ length s * 8
   pub other : c ≡ pos 0 → ⊥
 
-past-ahead : (g : Context) (p : Picture) (s : List ℕ) (a e f : ℕ) (w : Result SliceState) → Other s a e (p .«start_code») → e ≤ f
+past-ahead : (g : Context) (p : Picture) (s : List ℕ) (a e f : ℕ) (w : Result Stop SliceState) → Other s a e (p .«start_code») → e ≤ f
     → OnStep s a f (P.afterSlice g p w)
 unfolding P.afterSlice run
-past-ahead g p s a e f (error n l) h k = tt
+past-ahead g p s a e f (error q) h k = tt
 past-ahead g p s a e f (ok w) h k =
     by-case (OnStep s a f) (isLast g w) (λ i z. absurd (h .other z)) (λ i. (omega arith, omega arith))
 
@@ -154,10 +155,11 @@ step-ahead g m x s a = go (found s a .code) (found s a .at) (code-ahead s a)
         (λ i. by-case (OnStep s a e) (P.isExtra (pos v) && not (x .begun)) (λ j. (k .0, omega arith)) (λ j z. omega arith))
     go (negsuc v) e h = λ z. absurd (true≢false (sym (ap isCode z)))
 
-abbrev Left : List ℕ → ℕ → Prog (Result P.PictureState) → Type 0
+abbrev Left : List ℕ → ℕ → Prog (Result Stop P.PictureState) → Type 0
 Left s a p = Ahead s (run p s a .at) (run p s a .value)
 
-left-step : (g : Context) (m : Matrices) (d : Result P.PictureState) (s : List ℕ) (a n : ℕ) (t : Step P.SlicesLoopState (Result P.PictureState)) (e : ℕ)
+left-step : (g : Context) (m : Matrices) (d : Result Stop P.PictureState) (s : List ℕ) (a n : ℕ)
+    (t : Step P.SlicesLoopState (Result Stop P.PictureState)) (e : ℕ)
     → length s * 8 - a < suc n
     → StepAhead s a e t
     → ((y : P.SlicesLoopState) (b : ℕ) → length s * 8 - b < n → Left s b (loop n (P.slicesStep g m) d y))
@@ -167,7 +169,7 @@ left-step g m d s a n (continue y) e h k r = r y e (omega arith)
 left-step g m d s a n (finish w) e h k r = k
 
 -- each turn that goes on brings the bits left down, so the fuel is not spent
-slices-ahead : (g : Context) (m : Matrices) (d : Result P.PictureState) (s : List ℕ) (n : ℕ) (x : P.SlicesLoopState) (a : ℕ) → length s * 8 - a < n
+slices-ahead : (g : Context) (m : Matrices) (d : Result Stop P.PictureState) (s : List ℕ) (n : ℕ) (x : P.SlicesLoopState) (a : ℕ) → length s * 8 - a < n
     → Left s a (loop n (P.slicesStep g m) d x)
 unfolding loop
 slices-ahead g m d s zero x a h = let z : ⊥ = omega arith in absurd z
@@ -180,11 +182,11 @@ all-ahead : (g : Context) (m : Matrices) (f : P.PictureState) (s : List ℕ) (a 
 unfolding P.slices
 all-ahead g m f s a h = slices-ahead g m (ok f) s many (P.slicesLoopState false f) a (omega arith)
 
-turned-ahead : (t : Stores) (s : List ℕ) (e : ℕ) (w : Result P.PictureState) → Ahead s e w
+turned-ahead : (t : Stores) (s : List ℕ) (e : ℕ) (w : Result Stop P.PictureState) → Ahead s e w
     → Left s e (ifOk (λ f. pure (P.withPicture (storesAs t (f .picture)) f)) w)
 unfolding ifOk run
 turned-ahead t s e (ok f) k = k
-turned-ahead t s e (error n l) k = tt
+turned-ahead t s e (error q) k = tt
 
 coded-ahead : (z : Sizes) (m : Matrices) (f : P.PictureState) (s : List ℕ) (a : ℕ) → length s ≤ longestStream → Left s a (P.slicesInRoles z m f)
 unfolding P.slicesInRoles bindResult

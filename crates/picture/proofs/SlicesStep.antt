@@ -7,24 +7,23 @@ use lib.Dec.{eqb}
 use lib.IntN.{ℤ}
 use Rattle.bits.specs.declared.reader.Reader.{Reader}
 use Rattle.bits.specs.Programs.{Prog, if_then_else_}
-use Rattle.bits.specs.Runs.{Runs}
-use Rattle.bits.proofs.Rules.{r-yes, r-no, r-done}
 use Rattle.codes.specs.Lent.{Lent, tablesWith}
 use Rattle.tables.proofs.Made.{Bytes64, lent-with, matrix-with}
 use Rattle.picture_state.specs.declared.types.{Matrices.Matrices, Picture.Picture, PictureProgress.PictureProgress, Sizes.Sizes, SlicesProgress.SlicesProgress}
 use Rattle.picture_state.specs.declared.types.Stores.{Stores}
 use Rattle.picture_state.specs.State.{storesAs}
 use Rattle.picture_state.specs.Result.{Result, bindResult, pure}
+use Rattle.picture_state.specs.Stop.{Stop}
 use Rattle.picture.specs.Pictures as P
-use Rattle.picture_state.specs.Contracts.{matrices, matricesIn, resultOf, StoreFits}
+use Rattle.picture_state.specs.Contracts.{matrices, matricesIn, resultOf, RunsNumbered, StoreFits}
 use Rattle.picture.specs.Contracts.{pictureStateOf, RefinesSlices, RefinesPicture}
-use Rattle.picture_state.proofs.Results.{r-bind, r-if-ok}
+use Rattle.picture_state.proofs.Results.{t-done, t-yes, t-no, r-bind, r-if-ok}
 use Rattle.picture.specs.CodeResults.{progressOf}
 
 -- what is done to the value where the way goes on
-r-pure : {A B : Type 0} {q : Prog (Result A)} {s : List ℕ} {from to : Reader} (h : A → B) (n : ℕ) (x : A) (l : List ℕ)
-    → Runs q s from (resultOf n x l) to → Runs (bindResult q (λ y. pure (h y))) s from (resultOf n (h x) l) to
-r-pure h zero x l r = r-bind _ r r-done
+r-pure : {A B : Type 0} {q : Prog (Result Stop A)} {s : List ℕ} {from to : Reader} (h : A → B) (n : ℕ) (x : A) (l : List ℕ)
+    → RunsNumbered q s from (resultOf n x l) to → RunsNumbered (bindResult q (λ y. pure (h y))) s from (resultOf n (h x) l) to
+r-pure h zero x l r = r-bind _ r (t-done refl)
 r-pure h (suc n) x l r = r-if-ok _ r
 
 -- the roles while the slices are read are of stores that are there
@@ -84,7 +83,7 @@ module _ (z : Sizes) (m : Matrices) (p : Picture) (left : List ℤ) (store : Lis
   coded-b : eqb (p .«picture_type») 3 ≡ true → RefinesPicture (P.slices (P.contextOf z p) m (P.pictureState p left store)) s from r left₁ store₁
       → RefinesPicture (P.slicesInRoles z m (P.pictureState p left store)) s from r left₁ store₁
   unfolding P.slicesInRoles
-  coded-b h c = record { runs = r-yes _ h (c .runs); inside = c .inside }
+  coded-b h c = record { runs = t-yes _ h (c .runs); inside = c .inside }
 
   coded-other : eqb (p .«picture_type») 3 ≡ false → {before after : Stores} → before ≡ P.before (p .stores) → after ≡ P.after (p .stores)
       → RefinesPicture (P.slices (P.contextOf z (storesAs before p)) m (during before p left store)) s from r left₁ store₁
@@ -92,7 +91,7 @@ module _ (z : Sizes) (m : Matrices) (p : Picture) (left : List ℤ) (store : Lis
   unfolding P.slicesInRoles
   coded-other h e f c = record {
     runs = rw f
-        (r-no _ h
+        (t-no _ h
         (r-pure (λ f. P.withPicture (storesAs (P.after (p .stores)) (f .picture)) f) (r .stop) (P.pictureState (r .picture) left₁ store₁) store₁
         (rw e at (c .runs))));
     inside = c .inside;

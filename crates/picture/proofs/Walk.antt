@@ -6,14 +6,14 @@ use Prim.Native.Nat.{ℕ, zero, suc, _+_, _-_, _^_, _≤_}
 use native.Mathlib.Omega.{arith}
 use lib.Dec.{eqb, ltb}
 use lib.IntN.{ℤ, pos, natAbs, _+ℤ_}
-use lib.ListN.{getD}
 use lib.Signed.{leZ}
 use Rattle.laws.proofs.Ints.{v, lit, le-yes, abs-by}
 use Rattle.laws.proofs.Tests.{by-case, both}
 use Rattle.bits.specs.Programs.{nonZero, many, nextStartCode}
 use Rattle.bits.proofs.Gives.{Gives, OnStep, g-done, g-any, g-bind, g-if, g-loop, g-bits}
 use Rattle.coefficients.specs.declared.quantiser.Quantiser.{Quantiser}
-use Rattle.coefficients.specs.Blocks.{Filled, BlockRead, blockDataAfter, block}
+use Rattle.coefficients.specs.Blocks.{Filled, BlockRead, blockDataAfter, reconstructed}
+use Rattle.coefficients.specs.Syntax.{CodedBlock, codedBlock}
 use Rattle.coefficients.specs.declared.block.BlockEnd.{BlockEnd}
 use Rattle.coefficients.specs.declared.block.BlockEnd.the-variants.{Whole, Dropped, Outside}
 use Rattle.prediction.specs.Predict.{macroblockAt}
@@ -21,10 +21,11 @@ use Rattle.prediction.specs.Planes.{predictedPlanes}
 use Rattle.picture_state.specs.declared.types.{Context.Context, Matrices.Matrices, Motion.Motion, Slice.Slice, Picture.Picture}
 use Rattle.picture_state.specs.State.{SliceState, sliceState, startCodeAs, sliceAs, addressAs}
 use Rattle.picture_state.specs.Result.{Result, ok, error}
+use Rattle.picture_state.specs.Stop.{Stop, stop, dcOutside}
 use Rattle.macroblock_head.specs.Predictions.{unlessRefused, predictFrom, predictBoth, predict, predictSkipped}
 use Rattle.picture_state.specs.Flags.{flag, isIntra}
 use Rattle.macroblock_head.specs.Heads.{macroblockType, head, pattern}
-use Rattle.blocks.specs.Blocks.{predictorOf, predictorAs, quantiserOf, matrixFor, written, blockEnd, oneBlock, patternBlock, blocks}
+use Rattle.blocks.specs.Blocks.{predictorAs, dcPredictor, quantiserOf, matrixFor, written, blockEnd, oneBlock, patternBlock, blocks}
 use Rattle.macroblock_head.specs.Increments.{increment}
 use Rattle.macroblock.specs.Macroblocks.{isOutside, addressPlus, skipReset, advance, predictUnlessIntra, body, firstMacroblock, laterMacroblock, macroblock}
 use Rattle.slice.specs.Slices.{SliceLoopState, sliceLoopState, sliceStart, isLast, extra, afterMacroblock, sliceStep, slice}
@@ -32,20 +33,25 @@ use Rattle.picture.specs.Pictures as P
 use Rattle.picture_state.proofs.Exits.{OnResult, also-results, bind-results, lift-results, for-results}
 
 -- what is to hold: of the state at the beginning of a slice and later in it, of the left-over coefficients, of the store, of the start code, and of
--- number and store where a picture leaves early
+-- cause and store where a picture leaves early
 pub record Invariant : Type 1 where
   pub start : Slice → Type 0
   pub slice : Slice → Type 0
   pub block : List ℤ → Type 0
   pub store : List ℕ → Type 0
   pub code : ℤ → Type 0
-  pub exit : ℕ → List ℕ → Type 0
+  pub exit : Stop → Type 0
 
--- behind a block with this number: predictor and left-over coefficients, and the exit for a DC value outside
-pub record BlockKept (i : Invariant) (q : Quantiser) (number : ℕ) (x : Slice) (r : BlockRead) : Type 0 where
+-- behind a block with this number and difference: predictor and left-over coefficients, and the exit for a DC value outside
+pub record BlockKept (i : Invariant) (q : Quantiser) (number : ℕ) (x : Slice) (difference : ℤ) (r : BlockRead) : Type 0 where
   pub slice : i .slice (predictorAs number (r .predictor) x)
   pub block : i .block (blockDataAfter q r)
-  pub outside : r .end ≡ Outside → (l : List ℕ) → i .store l → i .exit 8 l
+  pub outside : r .end ≡ Outside → (l : List ℕ) → i .store l
+      → i .exit (stop (dcOutside (natAbs (x .«macroblock_address»)) number (dcPredictor number x) difference) l)
+
+-- the block that comes of what is coded, with the coefficients l left over
+abbrev pub reconstructedBy : Context → Matrices → Bool → ℕ → Slice → List ℤ → CodedBlock → BlockRead
+reconstructedBy g m intra number x l = reconstructed (quantiserOf g intra x) (matrixFor m intra) (dcPredictor number x) l
 
 -- each step keeps it
 pub record Keeps (s : List ℕ) (g : Context) (m : Matrices) (i : Invariant) : Type 0 where
@@ -58,15 +64,15 @@ pub record Keeps (s : List ℕ) (g : Context) (m : Matrices) (i : Invariant) : T
       → i .slice (addressAs (skipReset g x .«macroblock_address» +ℤ pos n) (skipReset g x))
   pub heads : (t : ℕ) (x : Slice) → i .slice x → Gives s (i .slice) (head (g .«picture_type») t x)
   pub blocks : (intra : Bool) (number : ℕ) (x : Slice) (c : List ℤ) → number ≤ 5 → i .slice x → i .block c
-      → Gives s (BlockKept i (quantiserOf g intra x) number x)
-      (block (quantiserOf g intra x) (matrixFor m intra) (ltb number 4) (getD (x .«dc_predictor») (predictorOf number) (pos 0)) c)
+      → Gives s (λ (b : CodedBlock). BlockKept i (quantiserOf g intra x) number x (b .difference) (reconstructedBy g m intra number x c b))
+      (codedBlock intra (ltb number 4) (dcPredictor number x))
   pub writes : (q : Quantiser) (number address : ℕ) (f : Filled) (l : List ℕ) → i .store l → i .store (written g q number address f l)
-  pub predicts : (address k : ℕ) (h v : ℤ) (interpolate : Bool) (l : List ℕ) → i .store l → OnResult (i .store) (i .exit) (unlessRefused
+  pub predicts : (address k : ℕ) (h v : ℤ) (interpolate : Bool) (l : List ℕ) → i .store l → OnResult (i .store) (i .exit) (unlessRefused address
       (predictedPlanes (macroblockAt (g .sizes .«mb_width») (g .sizes .«mb_height») address) k (g .stores .cur) h v interpolate l))
 
 module _ {s : List ℕ} {g : Context} {m : Matrices} {i : Invariant} (c : Keeps s g m i) where
   -- the exits, and a store
-  abbrev O : ℕ → List ℕ → Type 0
+  abbrev O : Stop → Type 0
   O = i .exit
 
   abbrev S : List ℕ → Type 0
@@ -107,16 +113,19 @@ module _ {s : List ℕ} {g : Context} {m : Matrices} {i : Invariant} (c : Keeps 
     block : i .block (w .«block_data»)
     store : S (w .store)
 
-  end-results : (q : Quantiser) (number : ℕ) (w : SliceState) (r : BlockRead) → S (w .store) → BlockKept i q number (w .slice) r
-      → OnResult WorldKept O (blockEnd g q number w r)
+  end-results : (q : Quantiser) (number : ℕ) (w : SliceState) (d : ℤ) (r : BlockRead) → S (w .store) → BlockKept i q number (w .slice) d r
+      → OnResult WorldKept O (blockEnd g q number w d r)
   unfolding blockEnd
-  end-results q number w r k h = go (r .end) (h .outside)
+  end-results q number w d r k h = go (r .end) (h .outside)
     where
-      go : (e : BlockEnd) → (e ≡ Outside → (l : List ℕ) → S l → O 8 l) → OnResult WorldKept O (elim e as (λ x. Result SliceState) [
+      at : List ℕ → Stop
+      at = stop (dcOutside (natAbs (w .slice .«macroblock_address»)) number (dcPredictor number (w .slice)) d)
+
+      go : (e : BlockEnd) → (e ≡ Outside → (l : List ℕ) → S l → O (at l)) → OnResult WorldKept O (elim e as (λ x. Result Stop SliceState) [
         | Whole ↦ ok (sliceState (predictorAs number (r .predictor) (w .slice)) (blockDataAfter q r)
             (written g q number (natAbs (w .slice .«macroblock_address»)) (r .filled) (w .store)))
         | Dropped ↦ ok (sliceState (predictorAs number (r .predictor) (w .slice)) (blockDataAfter q r) (w .store))
-        | Outside ↦ error 8 (w .store)
+        | Outside ↦ error (at (w .store))
       ])
       go Whole o = record { slice = h .slice; block = h .block; store = c .writes q number _ (r .filled) (w .store) k }
       go Dropped o = record { slice = h .slice; block = h .block; store = k }
@@ -125,9 +134,9 @@ module _ {s : List ℕ} {g : Context} {m : Matrices} {i : Invariant} (c : Keeps 
   block-results : (intra : Bool) (number : ℕ) (w : SliceState) → number ≤ 5 → WorldKept w → Gives s (OnResult WorldKept O) (oneBlock g m intra number w)
   unfolding oneBlock
   block-results intra number w h k =
-      lift-results O {P = BlockKept i (quantiserOf g intra (w .slice)) number (w .slice)} _
-      (c .blocks intra number (w .slice) (w .«block_data») h (k .slice) (k .block))
-      (λ r j. g-done (end-results (quantiserOf g intra (w .slice)) number w r (k .store) j))
+      lift-results O _ (c .blocks intra number (w .slice) (w .«block_data») h (k .slice) (k .block))
+      (λ b j. g-done (end-results (quantiserOf g intra (w .slice)) number w (b .difference) (reconstructedBy g m intra number (w .slice) (w .«block_data») b)
+      (k .store) j))
 
   blocks-results : (intra : Bool) (pattern : ℕ) (w : SliceState) → WorldKept w → Gives s (OnResult WorldKept O) (blocks g m intra pattern w)
   unfolding blocks
@@ -176,9 +185,9 @@ module _ {s : List ℕ} {g : Context} {m : Matrices} {i : Invariant} (c : Keeps 
       g-if (leZ (pos (g .sizes .«mb_size»)) (w .slice .«macroblock_address» +ℤ pos n)) (λ e. g-done here)
       (λ e. bind-results O {P = WorldKept} _ (g-done (advance-results n w here e)) (λ x j. body-results x j)))
 
-  past-results : (w : Result SliceState) → OnResult WorldKept O w → Gives s (OnStep SlicingKept (OnResult WorldKept O)) (afterMacroblock g w)
+  past-results : (w : Result Stop SliceState) → OnResult WorldKept O w → Gives s (OnStep SlicingKept (OnResult WorldKept O)) (afterMacroblock g w)
   unfolding afterMacroblock
-  past-results (error n l) h = g-done h
+  past-results (error e) h = g-done h
   past-results (ok w) h =
       g-if (isLast g w) (λ e. g-done h) (λ e. g-bind _ (g-any (nonZero 23)) (λ more u.
       g-if more (λ e. g-done (record { slice = h .slice; block = h .block; store = h .store })) (λ e. g-done h)))
@@ -201,10 +210,10 @@ module _ {s : List ℕ} {g : Context} {m : Matrices} {i : Invariant} (c : Keeps 
     pub store : S (f .store)
 
   -- behind a slice
-  slice-past : (p : Picture) (f : P.PictureState) (w : Result SliceState) → Framed p f → OnResult WorldKept O w
+  slice-past : (p : Picture) (f : P.PictureState) (w : Result Stop SliceState) → Framed p f → OnResult WorldKept O w
       → Gives s (OnStep (λ (x : P.SlicesLoopState). Framed p (x .pictureState)) (OnResult (Framed p) O)) (P.afterSlice g (f .picture) w)
   unfolding P.afterSlice
-  slice-past p f (error n l) k h = g-done h
+  slice-past p f (error e) k h = g-done h
   slice-past p f (ok w) k h =
       let next : Framed p (P.pictureState (sliceAs (w .slice) (f .picture)) (w .«block_data») (w .store)) =
       record { type = k .type; stores = k .stores; code = k .code; slice = h .slice; block = h .block; store = h .store } in

@@ -1,3 +1,4 @@
 pub mod Pictures
 pub mod Contracts
 pub mod CodeResults
+pub mod Stops

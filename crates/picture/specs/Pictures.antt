@@ -10,6 +10,7 @@ use Rattle.bits.specs.Programs.{Prog, done, bind, bits, nextStartCode, eqZ, loo
 use Rattle.picture_state.specs.declared.types.{Context.Context, Motion.Motion, Stores.Stores, Sizes.Sizes, Matrices.Matrices, Picture.Picture}
 use Rattle.picture_state.specs.State.{SliceState, sliceState, fullPxAs, rSizeAs, motionsAs, startCodeAs, typeAs, storesAs, sliceAs}
 use Rattle.picture_state.specs.Result.{Result, ok, error, bindResult, pure}
+use Rattle.picture_state.specs.Stop.{Stop}
 use Rattle.slice.specs.Slices.{isLast, slice}
 
 -- what a picture changes: its state, block_data (the left-over coefficients) and the store
@@ -95,14 +96,14 @@ abbrev pub isSlice : ℤ → Bool
 isSlice c = leZ (pos 1) c && leZ c (pos 0xaf)
 
 -- RULES 7.4: the picture ends where the address has reached the last macroblock; it keeps the code of this slice
-unfoldable pub afterSlice : Context → Picture → Result SliceState → Prog (Step SlicesLoopState (Result PictureState))
-afterSlice g p (error n l) = done (finish (error n l))
+unfoldable pub afterSlice : Context → Picture → Result Stop SliceState → Prog (Step SlicesLoopState (Result Stop PictureState))
+afterSlice g p (error e) = done (finish (error e))
 afterSlice g p (ok w) =
     let f = pictureState (sliceAs (w .slice) p) (w .«block_data») (w .store) in
     if isLast g w then done (finish (ok f)) else done (continue (slicesLoopState true f))
 
 -- RULES 7.3: the next start code; what is neither passed over nor a slice ends the picture and is kept
-unfoldable pub slicesStep : Context → Matrices → SlicesLoopState → Prog (Step SlicesLoopState (Result PictureState))
+unfoldable pub slicesStep : Context → Matrices → SlicesLoopState → Prog (Step SlicesLoopState (Result Stop PictureState))
 slicesStep g m x = do
   c ← nextStartCode
   let p = startCodeAs c (x .pictureState .picture)
@@ -111,7 +112,7 @@ slicesStep g m x = do
       else if isExtra c && not (x .begun) then done (continue (slicesLoopState false f)) else done (finish (ok f))
 
 -- RULES 7.3, 7.4: the slices of a picture, none of them read so far
-unfoldable pub slices : Context → Matrices → PictureState → Prog (Result PictureState)
+unfoldable pub slices : Context → Matrices → PictureState → Prog (Result Stop PictureState)
 slices g m f = loop many (slicesStep g m) (ok f) (slicesLoopState false f)
 
 -- RULES 7.2: the roles of the stores while the slices of an I or P picture are read, and after them
@@ -122,7 +123,7 @@ abbrev pub after : Stores → Stores
 after t = record { cur = t .fwd; fwd = t .bwd; bwd = t .cur }
 
 -- RULES 7.2: the slices, with the turn of the stores
-unfoldable pub slicesInRoles : Sizes → Matrices → PictureState → Prog (Result PictureState)
+unfoldable pub slicesInRoles : Sizes → Matrices → PictureState → Prog (Result Stop PictureState)
 slicesInRoles z m f =
     let p = f .picture in
     if eqb (p .«picture_type») 3 then slices (contextOf z p) m f
@@ -130,7 +131,7 @@ slicesInRoles z m f =
     bindResult (slices (contextOf z q) m (withPicture q f)) λ f₁. pure (withPicture (storesAs (after (p .stores)) (f₁ .picture)) f₁)
 
 -- a picture; one that is not decoded ends behind its header (RULES 8.4)
-unfoldable pub picture : Sizes → Matrices → PictureState → Prog (Result PictureState)
+unfoldable pub picture : Sizes → Matrices → PictureState → Prog (Result Stop PictureState)
 picture z m f = do
   h ← pictureHeader
   let x = withPicture (withPictureHeader h (f .picture)) f

@@ -4,3 +4,4 @@ pub mod Signed
 pub mod Exits
 pub mod Results
 pub mod Ready
+pub mod Runs

@@ -2,4 +2,5 @@ pub mod State
 pub mod Flags
 pub mod Possible
 pub mod Result
+pub mod Stop
 pub mod Contracts

@@ -10,6 +10,7 @@ use Rattle.laws.proofs.Tests.{both}
 use Rattle.bits.specs.Programs.{eqZ}
 use Rattle.picture_state.specs.declared.types.{Matrices.Matrices, Sizes.Sizes}
 use Rattle.picture_state.specs.Result.{Result, ok, error}
+use Rattle.picture_state.specs.Stop.{Stop}
 use Rattle.picture.specs.Pictures.{PictureState}
 use Rattle.playback.specs.declared.outcome.Outcome.the-variants.{Picture, Refused}
 use Rattle.playback.specs.declared.state.State.{State}
@@ -36,11 +37,11 @@ module _ (s : List ℕ) (z : Sizes) (m : Matrices) (x : DecodingState) where
       go false e true i = outputs (reference-picture t r e i)
       go false e false i = keeps-reference t r e i
 
-  past-is : (w : Result PictureState) (a : ℕ) → isPictureReady s (x .state) ≡ true → pictureRun s z m x ≡ record { value = w; at = a }
+  past-is : (w : Result Stop PictureState) (a : ℕ) → isPictureReady s (x .state) ≡ true → pictureRun s z m x ≡ record { value = w; at = a }
       → StepCase s z m x (afterPicture (x .state) (record { value = w; at = a }))
   unfolding afterPicture
   past-is (ok f) a t r = shown-is f a t r
-  past-is (error n l) a t r = aborts t r
+  past-is (error e) a t r = aborts t r
 
   searched-is : StepCase s z m x (searched s z m x)
   unfolding searched flushed decoded

@@ -13,6 +13,7 @@ use Rattle.bits.proofs.Programs.{run-most}
 use Rattle.picture_state.specs.declared.types.{Matrices.Matrices, Sizes.Sizes}
 use Rattle.picture_state.specs.Possible.{between}
 use Rattle.picture_state.specs.Result.{Result}
+use Rattle.picture_state.specs.Stop.{Stop}
 use Rattle.picture.specs.Pictures.{PictureState, picture}
 use Rattle.picture_state.proofs.Possible.{picture-of, picture-by}
 use Rattle.picture.proofs.Kept.{Ends, StaysPossible, picture-kept}
@@ -64,10 +65,10 @@ module _ (s : List ℕ) (z : Sizes) (m : Matrices) (short : length s ≤ longest
   step-goes x k (outputs h) = tt
   step-goes x k (keeps-reference {f} {a} i r b h) =
       let kept = picture-kept z m (pictureStateOf x) s (position (x .state)) (k .across) (k .down) (k .size) (picture-by (k .picture)) (k .block) short bytes in
-      let j = subst (λ (o : Out (Result PictureState)). Ends (length (x .store)) (StaysPossible (x .store)) (o .value)) r kept in
+      let j = subst (λ (o : Out (Result Stop PictureState)). Ends (length (x .store)) (StaysPossible (x .store)) (o .value)) r kept in
       let inside = run-most (picture z m (pictureStateOf x)) s (position (x .state)) longestStream (k .position) short in
       record {
-        position = subst (λ (o : Out (Result PictureState)). o .at ≤ lastPosition) r inside;
+        position = subst (λ (o : Out (Result Stop PictureState)). o .at ≤ lastPosition) r inside;
         across = k .across;
         down = k .down;
         size = k .size;

@@ -10,15 +10,18 @@ use Rattle.bits.specs.Programs.{eqZ}
 use Rattle.bits.specs.Runs.{Runs, positionOf, readerAt}
 use Rattle.bits.specs.declared.reader.Reader.{Reader}
 use Rattle.picture_state.specs.declared.types.{Matrices.Matrices, Picture.Picture, Sizes.Sizes}
-use Rattle.picture.specs.Pictures.{pictureState, picture}
-use Rattle.picture_state.specs.Contracts.{resultOf}
+use Rattle.picture_state.specs.Result.{Result, ok, error}
+use Rattle.picture_state.specs.Stop.{Stop}
+use Rattle.picture.specs.Pictures.{PictureState, pictureState, picture}
+use Rattle.picture_state.specs.Contracts.{resultOf, numbered, RunsNumbered}
+use Rattle.picture_state.proofs.Results.{numbered-ok, error-is-not-ok, error-injective}
 use Rattle.playback.specs.declared.outcome.Outcome.the-variants.{Refused}
 use Rattle.playback.specs.declared.outcome.StepResult.{StepResult}
 use Rattle.playback.specs.declared.state.State.{State}
 use Rattle.playback.specs.State.{position, startCode, stateAfterPicture}
 use Rattle.playback.specs.Search.{nextPicture, isFollowed}
 use Rattle.playback.specs.Display.{shown, flushed}
-use Rattle.playback.specs.Steps.{DecodingState, decodingState, withState, LoopEnd, finished, withStore, pictureStateOf}
+use Rattle.playback.specs.Steps.{DecodingState, decodingState, withState, LoopEnd, finished, aborted, withStore, pictureStateOf}
 use Rattle.playback.specs.Steps.{pictureRun, afterPicture, decoded, searched, pictureStep, pictures}
 use Rattle.playback.specs.StepResults.{endOf, stepOf}
 use Rattle.playback.proofs.TwoSteps.{Holds, isStop, goes-held, held-stops}
@@ -26,19 +29,21 @@ use Rattle.playback.proofs.TwoSteps.{Holds, isStop, goes-held, held-sto
 -- ---- the picture
 
 module _ (s : List ℕ) (z : Sizes) (m : Matrices) (x : DecodingState) (q : Picture) (c : List ℤ) (l : List ℕ) {to : Reader} (n : ℕ)
-    (r : Runs (picture z m (pictureStateOf x)) s (readerAt (position (x .state))) (resultOf n (pictureState q c l) l) to) where
+    (r : RunsNumbered (picture z m (pictureStateOf x)) s (readerAt (position (x .state))) (resultOf n (pictureState q c l) l) to) where
   pub decoded-out : (n ≡ 0 → ⊥) → (t : StepResult) → _≡_ {A = Step DecodingState LoopEnd} (finish (endOf n t c l)) (decoded s z m x)
   unfolding decoded afterPicture
-  decoded-out g t = go n g r
+  decoded-out g t = go n g (r .value) (r .runs) (r .is)
     where
-      go : (n : ℕ) → (n ≡ 0 → ⊥) → Runs (picture z m (pictureStateOf x)) s (readerAt (position (x .state))) (resultOf n (pictureState q c l) l) to
+      go : (n : ℕ) → (n ≡ 0 → ⊥) → (v : Result Stop PictureState) → Runs (picture z m (pictureStateOf x)) s (readerAt (position (x .state))) v to
+          → numbered v ≡ resultOf n (pictureState q c l) l
           → _≡_ {A = Step DecodingState LoopEnd} (finish (endOf n t c l)) (afterPicture (x .state) (pictureRun s z m x))
-      go zero g r = absurd (g refl)
-      go (suc n) g r = rw (r .is)
+      go zero g v r h = absurd (g refl)
+      go (suc n) g (ok f) r h = absurd (error-is-not-ok (sym h))
+      go (suc n) g (error e) r h = let k = error-injective (sym h) in rw (r .is) (λ i. finish (aborted (k i .number) (k i .store)))
 
   pub decoded-on : n ≡ 0 → withStore c l (shown (stateAfterPicture (pictureState q c l) (positionOf to) (x .state))) ≡ decoded s z m x
   unfolding decoded afterPicture
-  decoded-on h = let k = rw h at (r .is) in rw k
+  decoded-on h = let k = numbered-ok (r .value) (rw h at (r .is)) in rw (r .runs .is, k)
 
 -- ---- behind the search
 

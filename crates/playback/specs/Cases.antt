@@ -9,6 +9,7 @@ use Rattle.laws.specs.Loops.{Step, continue, finish}
 use Rattle.bits.specs.Programs.{eqZ}
 use Rattle.picture_state.specs.declared.types.{Matrices.Matrices, Sizes.Sizes}
 use Rattle.picture_state.specs.Result.{ok, error}
+use Rattle.picture_state.specs.Stop.{Stop, errorCode}
 use Rattle.picture.specs.Pictures.{PictureState}
 use Rattle.playback.specs.declared.outcome.Shown.{Shown}
 use Rattle.playback.specs.declared.outcome.Outcome.the-variants.{Picture, Refused}
@@ -63,7 +64,7 @@ pub data StepCase (s : List ℕ) (z : Sizes) (m : Matrices) (x : DecodingState) 
       → hasReferenceFrame (x .state) ≡ false
       → StepCase s z m x (continue (stateLeftBy f (hasReferenceFrameAs true (stateAfterPicture f a (x .state)))))
   -- RULES Q8, Q9: the picture leaves early
-  aborts : {n a : ℕ} {l : List ℕ} → isPictureReady s (x .state) ≡ true → pictureRun s z m x ≡ record { value = error n l; at = a }
-      → StepCase s z m x (finish (aborted n l))
+  aborts : {e : Stop} {a : ℕ} → isPictureReady s (x .state) ≡ true → pictureRun s z m x ≡ record { value = error e; at = a }
+      → StepCase s z m x (finish (aborted (errorCode (e .cause)) (e .store)))
   -- RULES Q7: no picture to decode, and none to flush
   is-seven : isPictureReady s (x .state) ≡ false → isFlush s (x .state) ≡ false → StepCase s z m x (finish (finished (Refused 7) x))

@@ -6,6 +6,7 @@ use Rattle.laws.specs.Loops.{Step, continue, finish, iterate}
 use Rattle.bits.specs.Programs.{Out, run, eqZ, if_then_else_}
 use Rattle.picture_state.specs.declared.types.{Matrices.Matrices, Sizes.Sizes}
 use Rattle.picture_state.specs.Result.{Result, ok, error}
+use Rattle.picture_state.specs.Stop.{Stop, errorCode}
 use Rattle.picture.specs.Pictures.{PictureState, pictureState, picture}
 use Rattle.playback.specs.declared.outcome.Outcome.{Outcome}
 use Rattle.playback.specs.declared.outcome.Outcome.the-variants.{Refused}
@@ -41,15 +42,15 @@ withStore c l (finish g) = finish (finished (g .outcome) (decodingState (g .stat
 abbrev pub pictureStateOf : DecodingState → PictureState
 pictureStateOf x = pictureState (x .state .picture) (x .«block_data») (x .store)
 
--- RULES Q8, Q9, 8.5: what a picture's run gives
-unfoldable pub afterPicture : State → Out (Result PictureState) → Step DecodingState LoopEnd
+-- RULES Q8, Q9, 8.5: what a picture's run gives; one that stops gives the number of its cause
+unfoldable pub afterPicture : State → Out (Result Stop PictureState) → Step DecodingState LoopEnd
 afterPicture x o = elim (o .value) [
   | ok f ↦ withStore (f .«block_data») (f .store) (shown (stateAfterPicture f (o .at) x))
-  | error n l ↦ finish (aborted n l)
+  | error e ↦ finish (aborted (errorCode (e .cause)) (e .store))
 ]
 
 -- the run of the picture at the state's place
-abbrev pub pictureRun : List ℕ → Sizes → Matrices → DecodingState → Out (Result PictureState)
+abbrev pub pictureRun : List ℕ → Sizes → Matrices → DecodingState → Out (Result Stop PictureState)
 pictureRun s z m x = run (picture z m (pictureStateOf x)) s (position (x .state))
 
 -- that picture is decoded

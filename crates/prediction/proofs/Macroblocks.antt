@@ -17,7 +17,7 @@ use Rattle.prediction.specs.declared.planes.Plane.{Plane}
 use Rattle.prediction.specs.declared.planes.Plane.the-variants.{Y, Cr, Cb}
 use Rattle.prediction.specs.declared.predict.Predicted.{Predicted}
 use Rattle.prediction.specs.declared.predict.Predicted.the-variants.{Done, Refused}
-use Rattle.prediction.specs.Planes.{macroblocks, blockSize, planeOf, planeLength, planeStart, After, inPlane, thenPlane, ofStores, predictedPlanes}
+use Rattle.prediction.specs.Planes.{macroblocks, blockSize, planeOf, planeLength, planeStart, PlaneAfter, inPlane, thenPlane, ofStores, predictedPlanes}
 use Rattle.prediction.specs.Predict.{Inside, BlockInPlane, macroblockAt, blockOf, bytes, chroma}
 use Rattle.prediction.specs.Writers.{lumaAddress, chromaAddress, blockWidth, blockAddress}
 use Rattle.prediction.proofs.Places.{at-place, block-in}
@@ -143,29 +143,29 @@ unfolding half0
 half-most (pos a) n h = omega arith
 half-most (negsuc a) n h = omega (arith, neg-abs (pos (suc a / 2)))
 
-next-done : (o : After) (f : List ℕ → After) → o .answer ≡ Done → thenPlane o f ≡ f (o .store)
+next-done : (o : PlaneAfter) (f : List ℕ → PlaneAfter) → o .answer ≡ Done → thenPlane o f ≡ f (o .store)
 unfolding thenPlane
 next-done o f e = ap (λ (a : Predicted). elim a [ Done ↦ f (o .store) | Refused ↦ o ]) e
 
-next-refused : (o : After) (f : List ℕ → After) → o .answer ≡ Refused → thenPlane o f ≡ o
+next-refused : (o : PlaneAfter) (f : List ℕ → PlaneAfter) → o .answer ≡ Refused → thenPlane o f ≡ o
 unfolding thenPlane
 next-refused o f e = ap (λ (a : Predicted). elim a [ Done ↦ f (o .store) | Refused ↦ o ]) e
 
 module _ (m : Macroblock) (from to : ℕ) (h v : ℤ) (interpolate : Bool) (store : List ℕ) where
-  abbrev first : After
+  abbrev first : PlaneAfter
   first = ofStores m from to interpolate Y h v store
 
-  abbrev second : After
+  abbrev second : PlaneAfter
   second = ofStores m from to interpolate Cr (chroma h) (chroma v) (first .store)
 
   -- what follows Cr, and Y
-  abbrev after-cr : List ℕ → After
+  abbrev after-cr : List ℕ → PlaneAfter
   after-cr = ofStores m from to interpolate Cb (chroma h) (chroma v)
 
-  abbrev after-y : List ℕ → After
+  abbrev after-y : List ℕ → PlaneAfter
   after-y s = thenPlane (ofStores m from to interpolate Cr (chroma h) (chroma v) s) after-cr
 
-  abbrev third : After
+  abbrev third : PlaneAfter
   third = after-cr (second .store)
 
   pub first-refused : first .answer ≡ Refused → predictedPlanes m from to h v interpolate store ≡ first

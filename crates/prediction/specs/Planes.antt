@@ -48,10 +48,21 @@ storesBytes n = 1152 * n
 abbrev pub planeStart : ℕ → Plane → ℕ → ℕ
 planeStart k p n = k * storeLength n + offset p n
 
--- the lent memory after a prediction, and the prediction's answer
+-- the lent memory after the prediction of a block, and its answer
 pub record After : Type 0 where
   pub store : List ℕ
   pub answer : Predicted
+
+-- the same of a macroblock's planes, with the plane that was the last, and h and v in half samples of that plane
+pub record PlaneAfter : Type 0 where
+  pub plane : Plane
+  pub h : ℤ
+  pub v : ℤ
+  pub store : List ℕ
+  pub answer : Predicted
+
+abbrev pub ofPlane : Plane → ℤ → ℤ → After → PlaneAfter
+ofPlane q h v o = record { plane = q; h = h; v = v; store = o .store; answer = o .answer }
 
 -- what is done with the block at p of the plane that begins at `to`, from the plane at `from`
 unfoldable pub follow : Fetch → BlockPosition → ℕ → ℕ → ℤ → ℤ → Bool → List ℕ → After
@@ -68,15 +79,17 @@ abbrev pub inPlane : BlockPosition → ℕ → ℕ → ℤ → ℤ → Bool → 
 inPlane p from to h v = follow (fetch p h v) p from to h v
 
 -- a refusal ends the prediction
-unfoldable pub thenPlane : After → (List ℕ → After) → After
+unfoldable pub thenPlane : PlaneAfter → (List ℕ → PlaneAfter) → PlaneAfter
 thenPlane o f = elim (o .answer) [ Done ↦ f (o .store) | Refused ↦ o ]
 
 -- the plane q of the store number `to` from that of the store number `from`
-abbrev pub ofStores : Macroblock → ℕ → ℕ → Bool → Plane → ℤ → ℤ → List ℕ → After
-ofStores m from to interpolate q h v = inPlane (blockOf m (blockSize q)) (planeStart from q (macroblocks m)) (planeStart to q (macroblocks m)) h v interpolate
+abbrev pub ofStores : Macroblock → ℕ → ℕ → Bool → Plane → ℤ → ℤ → List ℕ → PlaneAfter
+ofStores m from to interpolate q h v store =
+    ofPlane q h v
+    (inPlane (blockOf m (blockSize q)) (planeStart from q (macroblocks m)) (planeStart to q (macroblocks m)) h v interpolate store)
 
 -- RULES 6.2, 6.10: Y, then Cr and Cb with the vector halved; h and v are in half samples
-unfoldable pub predictedPlanes : Macroblock → ℕ → ℕ → ℤ → ℤ → Bool → List ℕ → After
+unfoldable pub predictedPlanes : Macroblock → ℕ → ℕ → ℤ → ℤ → Bool → List ℕ → PlaneAfter
 predictedPlanes m from to h v interpolate store =
     thenPlane (ofStores m from to interpolate Y h v store) (λ s.
     thenPlane (ofStores m from to interpolate Cr (chroma h) (chroma v) s) (ofStores m from to interpolate Cb (chroma h) (chroma v)))

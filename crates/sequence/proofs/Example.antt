@@ -27,6 +27,7 @@ use Rattle.transform.specs.Idct.{columns, rows as rowPass, idct}
 use Rattle.prediction.specs.Standard.{formed}
 use Rattle.prediction.specs.Writers.{overwrite, addBlock, blockAddress}
 use Rattle.picture_state.specs.Result.{Result, ok, error, andThen, ifOk, bindResult, lift}
+use Rattle.standard.specs.Standard.Words.{Forbidden}
 use Rattle.macroblock_head.specs.Heads.{macroblockType}
 use Rattle.slice.specs.Slices.{extraStep, extra}
 use Rattle.standard.specs.Rules.{rust}
@@ -79,20 +80,20 @@ abbrev opened-by : CallResult Opening
 opened-by = opening stream (replicate 2304 7)
 
 -- the pictures of the stream s, behind the opening o
-abbrev decoded : List ℕ → CallResult Opening → Result (List S.Decoded)
+abbrev decoded : List ℕ → CallResult Opening → Result Forbidden (List S.Decoded)
 decoded s o = pictures rust (o .decoder .sequence .sizes) (o .decoder .sequence .matrices) s many (initialState (o .store)) (position (o .decoder))
 
-abbrev types : Result (List S.Decoded) → List ℕ
+abbrev types : Result Forbidden (List S.Decoded) → List ℕ
 types (ok ds) = map (λ (d : S.Decoded). d .header .«picture_coding_type») ds
-types (error n l) = []
+types (error d) = []
 
 -- what is shown: the number of a store, and the samples 15 to 17 of the first row of its plane Y
 abbrev seen : S.Decoded → List ℕ
 seen p = storeOf p ∷ take 3 (drop (768 * storeOf p + 15) (p .pels))
 
-abbrev rows : Result (List S.Decoded) → List (List ℕ)
+abbrev rows : Result Forbidden (List S.Decoded) → List (List ℕ)
 rows (ok ds) = map seen (shown (allButLast ds))
-rows (error n l) = []
+rows (error d) = []
 
 pub record Sequence : Type 0 where
   pub ready : opened-by .answer ≡ Ready

@@ -9,19 +9,20 @@ use Rattle.bits.specs.Bits.{Found}
 use Rattle.bits.specs.Programs.{Out, run, eqZ}
 use Rattle.picture_state.specs.declared.types.{Sizes.Sizes, Matrices.Matrices}
 use Rattle.picture_state.specs.Result.{Result, ok, error, andThen}
+use Rattle.standard.specs.Standard.Words.{Forbidden}
 use Rattle.standard.specs.Standard.Words.{conforms, forbidden}
 use Rattle.standard.specs.Standard as S
 use Rattle.standard.proofs.Related.{Rule}
 use Rattle.sequence.specs.Sequence.{nextPictureOrEnd, SequenceState, stateAfterDecoded, stateAfterPicture, isLast, before, pictures}
 
-also-on : {A B : Type 0} (w : Result A) (k : A → Result B) {y : B} → andThen w k ≡ ok y → (x : A) × (w ≡ ok x) × (k x ≡ ok y)
+also-on : {A B : Type 0} (w : Result Forbidden A) (k : A → Result Forbidden B) {y : B} → andThen w k ≡ ok y → (x : A) × (w ≡ ok x) × (k x ≡ ok y)
 unfolding andThen
 also-on (ok x) k e = (x, refl, e)
-also-on (error n l) k e = absurd (false≢true (ap conforms e))
+also-on (error d) k e = absurd (false≢true (ap conforms e))
 
-abbrev listOf : Result (List S.Decoded) → List S.Decoded
+abbrev listOf : Result Forbidden (List S.Decoded) → List S.Decoded
 listOf (ok ds) = ds
-listOf (error n l) = []
+listOf (error d) = []
 
 abbrev headOf : S.Decoded → List S.Decoded → S.Decoded
 headOf d [] = d
@@ -41,17 +42,18 @@ before-is : (s : List ℕ) (a : ℕ) (d : S.Decoded) (ds : List S.Decoded) {c : 
 before-is s a d [] h = go (isLast s a) h
   where
     go : {c : S.Decoded} {cs : List S.Decoded} (t : Bool) → cond t (ok (d ∷ [])) forbidden ≡ ok (c ∷ cs) → (d ≡ c) × ([] ≡ cs)
-    go true h = (ap (λ (w : Result (List S.Decoded)). headOf d (listOf w)) h, ap (λ (w : Result (List S.Decoded)). tailOf (listOf w)) h)
+    go true h = (ap (λ (w : Result Forbidden (List S.Decoded)). headOf d (listOf w)) h, ap (λ (w : Result Forbidden (List S.Decoded)). tailOf (listOf w)) h)
     go false h = absurd (false≢true (ap conforms h))
-before-is s a d (e ∷ ds) h = (ap (λ (w : Result (List S.Decoded)). headOf d (listOf w)) h, ap (λ (w : Result (List S.Decoded)). tailOf (listOf w)) h)
+before-is s a d (e ∷ ds) h =
+    (ap (λ (w : Result Forbidden (List S.Decoded)). headOf d (listOf w)) h, ap (λ (w : Result Forbidden (List S.Decoded)). tailOf (listOf w)) h)
 
 before-some : {X : Type 0} (s : List ℕ) (a : ℕ) (d : S.Decoded) (ds : List S.Decoded) → before s a d ds ≡ ok [] → X
 before-some {X} s a d [] h = go (isLast s a) h
   where
     go : (t : Bool) → cond t (ok (d ∷ [])) forbidden ≡ ok [] → X
-    go true h = absurd (false≢true (ap (λ (w : Result (List S.Decoded)). isEmpty (listOf w)) h))
+    go true h = absurd (false≢true (ap (λ (w : Result Forbidden (List S.Decoded)). isEmpty (listOf w)) h))
     go false h = absurd (false≢true (ap conforms h))
-before-some s a d (e ∷ ds) h = absurd (false≢true (ap (λ (w : Result (List S.Decoded)). isEmpty (listOf w)) h))
+before-some s a d (e ∷ ds) h = absurd (false≢true (ap (λ (w : Result Forbidden (List S.Decoded)). isEmpty (listOf w)) h))
 
 pub last-is : (s : List ℕ) (a : ℕ) (d : S.Decoded) → before s a d [] ≡ ok (d ∷ []) → isLast s a ≡ true
 last-is s a d h = go (isLast s a) h
@@ -61,7 +63,7 @@ last-is s a d h = go (isLast s a) h
     go false h = absurd (false≢true (ap conforms h))
 
 module _ (rule : Rule) (s : List ℕ) (z : Sizes) (m : Matrices) where
-  abbrev pub coded : SequenceState → ℕ → Out (Result S.Decoded)
+  abbrev pub coded : SequenceState → ℕ → Out (Result Forbidden S.Decoded)
   coded x a = run (S.picture (rule .rules) z m (x .stores) (x .forward) (x .backward) (x .pels)) s a
 
   -- a picture c, and those behind it
@@ -95,7 +97,7 @@ module _ (rule : Rule) (s : List ℕ) (z : Sizes) (m : Matrices) where
           record { fuel = n; f = f; following = q; code = b; value = u; may = t; rest = v .1; before = j }))
 
       none : (t : Bool) → cond t (ok []) forbidden ≡ ok (c ∷ cs) → Begun x a c cs
-      none true h = absurd (true≢false (ap (λ (w : Result (List S.Decoded)). isEmpty (listOf w)) h))
+      none true h = absurd (true≢false (ap (λ (w : Result Forbidden (List S.Decoded)). isEmpty (listOf w)) h))
       none false h = absurd (false≢true (ap conforms h))
 
       go : (f : Found) → nextPictureOrEnd m s a ≡ ok f → (t : Bool) → eqZ (f .code) (pos 0xb7) ≡ t

@@ -17,6 +17,7 @@ use Rattle.bits.specs.Programs.{Out, done, run, bind, eqZ, loop, continueWith, 
 use Rattle.bits.proofs.Start.{Searched, first, none, found-on, found-is-first}
 use Rattle.picture_state.specs.declared.types.Matrices.{Matrices}
 use Rattle.picture_state.specs.Result.{Result, ok, error}
+use Rattle.standard.specs.Standard.Words.{Forbidden}
 use Rattle.standard.specs.Standard.Words.{forbidden, conforms}
 use Rattle.sequence.specs.Sequence.{isSkipped, followStep, nextPictureOrEnd}
 
@@ -108,9 +109,9 @@ pub record Next (s : List ℕ) (n a : ℕ) (f : Found) : Type 0 where
   pub at : f .at ≡ (byte + 4) * 8
   pub runs : run (loop n (findStep (pos 0)) (negsuc 0) tt) s a ≡ record { value = pos 0; at = f .at }
 
-abbrev foundIn : Found → Result Found → Found
+abbrev foundIn : Found → Result Forbidden Found → Found
 foundIn d (ok f) = f
-foundIn d (error n l) = d
+foundIn d (error e) = d
 
 is-zero : (c : ℤ) → eqZ c (pos 0) ≡ true → c ≡ pos 0
 is-zero (pos n) e = ap pos (eqb-true n 0 e)
@@ -129,7 +130,7 @@ passed-code : (m : Matrices) (s : List ℕ) (c : ℤ) (e : ℕ) → isSkipped m 
 passed-code m s (pos n) e h = refl
 passed-code m s (negsuc n) e h = absurd (false≢true h)
 
-abbrev follows : Matrices → List ℕ → ℕ → ℕ → Result Found
+abbrev follows : Matrices → List ℕ → ℕ → ℕ → Result Forbidden Found
 follows m s n a = iterate n (followStep m s) (λ a. forbidden) a
 
 follows-finds : (m : Matrices) (s : List ℕ) (n a : ℕ) (f : Found) → follows m s n a ≡ ok f → eqZ (f .code) (pos 0xb7) ≡ false → Next s n a f
@@ -151,7 +152,8 @@ follows-finds m s (suc n) a f h e = go (found s a) refl (eqZ c (pos 0) || eqZ c 
     stands g (none w q) z = absurd (true≢false (ap (λ (k : ℤ). eqZ k (pos 0)) (sym z ∙ ap (λ (f : Found). f .code) q)))
 
     go : (g : Found) → found s a ≡ g → (t : Bool) → (eqZ (g .code) (pos 0) || eqZ (g .code) (pos 0xb7)) ≡ t → (u : Bool) → isSkipped m s g ≡ u
-        → _≡_ {A = Result Found} (elim (cond t (finish (ok g)) (cond u (continue (g .at)) (finish forbidden))) [ continue y ↦ follows m s n y | finish v ↦ v ])
+        → _≡_ {A = Result Forbidden Found}
+        (elim (cond t (finish (ok g)) (cond u (continue (g .at)) (finish forbidden))) [ continue y ↦ follows m s n y | finish v ↦ v ])
         (ok f)
         → ((b : ℕ) → follows m s n b ≡ ok f → Next s n b f) → Next s (suc n) a f
     go g q true t u p h r =

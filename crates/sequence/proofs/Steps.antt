@@ -12,6 +12,7 @@ use Rattle.bits.specs.Programs.{Out, run, eqZ, many, findStartCode}
 use Rattle.picture_state.specs.declared.types.{Stores.Stores, Sizes.Sizes, Matrices.Matrices}
 use Rattle.picture_state.specs.State.{freshBlock}
 use Rattle.picture_state.specs.Result.{Result, ok}
+use Rattle.standard.specs.Standard.Words.{Forbidden}
 use Rattle.picture.specs.Pictures.{PictureState}
 use Rattle.standard.specs.Standard as S
 use Rattle.standard.proofs.Agreement.{agreed}
@@ -41,7 +42,7 @@ pub record Waiting (x : SequenceState) (a : ℕ) (y : DecodingState) : Type 0 wh
 
 module _ (rule : Rule) (s : List ℕ) (long : length s ≤ longestStream) (z : Sizes) (m : Matrices) (x : SequenceState) (a : ℕ) (y : DecodingState)
     (w : Waiting x a y) (f : Found) (n : Next s many a f) where
-  abbrev theirs : Stores → List ℕ → Out (Result S.Decoded)
+  abbrev theirs : Stores → List ℕ → Out (Result Forbidden S.Decoded)
   theirs t l = run (S.picture (rule .rules) z m t (x .forward) (x .backward) l) s (f .at)
 
   -- the state behind the search
@@ -76,9 +77,9 @@ module _ (rule : Rule) (s : List ℕ) (long : length s ≤ longestStream) (z : S
     pub read : Picture
     read =
         let ours = agreed (picture-agrees rule s long z m (pictureStateOf (withState found y)) (x .forward) (x .backward) (f .at) (w .begun) (w .left))
-        (ap (λ (o : Out (Result S.Decoded)). o .value) same ∙ h) in
+        (ap (λ (o : Out (Result Forbidden S.Decoded)). o .value) same ∙ h) in
         record {
           pictureState = ours .0;
-          reads = ours .1 ∙ ap (λ (o : Out (Result S.Decoded)). record { value = ok (ours .0); at = o .at }) same;
+          reads = ours .1 ∙ ap (λ (o : Out (Result Forbidden S.Decoded)). record { value = ok (ours .0); at = o .at }) same;
           result = ours .2;
         }

@@ -10,7 +10,7 @@ use Rattle.bits.specs.Bits.{Found, readAt, found}
 use Rattle.bits.specs.Programs.{run, eqZ, many, findStartCode, if_then_else_}
 use Rattle.picture_state.specs.declared.types.{Stores.Stores, Sizes.Sizes, Matrices.Matrices}
 use Rattle.picture_state.specs.Result.{Result, ok, andThen}
-use Rattle.standard.specs.Standard.Words.{forbidden}
+use Rattle.standard.specs.Standard.Words.{Forbidden, forbidden}
 use Rattle.standard.specs.Standard.State.{Direction, Rules}
 use Rattle.standard.specs.Standard.{Decoded, picture}
 use Rattle.header.specs.Sequences.{size, rest}
@@ -41,13 +41,13 @@ isSkipped m s f =
     || (eqZ (f .code) (pos 0xb3) && sameMatrices m s (f .at))
 
 -- one start code, from the place a on: of a picture (00), of the end (B7), or of what is passed over
-abbrev pub followStep : Matrices → List ℕ → ℕ → Step ℕ (Result Found)
+abbrev pub followStep : Matrices → List ℕ → ℕ → Step ℕ (Result Forbidden Found)
 followStep m s a =
     let f = found s a in
     if eqZ (f .code) (pos 0) || eqZ (f .code) (pos 0xb7) then finish (ok f) else if isSkipped m s f then continue (f .at) else finish forbidden
 
 -- on to the next picture_start_code or sequence_end_code
-unfoldable pub nextPictureOrEnd : Matrices → List ℕ → ℕ → Result Found
+unfoldable pub nextPictureOrEnd : Matrices → List ℕ → ℕ → Result Forbidden Found
 nextPictureOrEnd m s a = iterate many (followStep m s) (λ a. forbidden) a
 
 -- what goes from one picture to the next; `held`: has an I or P picture been decoded?
@@ -76,7 +76,7 @@ stateAfterDecoded x d = record {
 }
 
 -- the first picture is an I picture
-abbrev pub stateAfterPicture : SequenceState → Decoded → Result SequenceState
+abbrev pub stateAfterPicture : SequenceState → Decoded → Result Forbidden SequenceState
 stateAfterPicture x d = if x .hasReferenceFrame || eqb (d .header .«picture_coding_type») 1 then ok (stateAfterDecoded x d) else forbidden
 
 -- 2.4.1: start codes stand nowhere else, so behind the last picture's own no other picture start code is found
@@ -84,12 +84,12 @@ abbrev pub isLast : List ℕ → ℕ → Bool
 isLast s a = eqZ (run (findStartCode (pos 0)) s a .value) (negsuc 0)
 
 -- a picture, from the place a on, before those behind it
-abbrev pub before : List ℕ → ℕ → Decoded → List Decoded → Result (List Decoded)
+abbrev pub before : List ℕ → ℕ → Decoded → List Decoded → Result Forbidden (List Decoded)
 before s a d [] = if isLast s a then ok (d ∷ []) else forbidden
 before s a d (e ∷ ds) = ok (d ∷ e ∷ ds)
 
 -- 2.4.2.2, 2.4.2.4: the pictures up to sequence_end_code, at least one, in the order of the stream
-unfoldable pub pictures : Rules → Sizes → Matrices → List ℕ → ℕ → SequenceState → ℕ → Result (List Decoded)
+unfoldable pub pictures : Rules → Sizes → Matrices → List ℕ → ℕ → SequenceState → ℕ → Result Forbidden (List Decoded)
 pictures r z m s zero x a = forbidden
 pictures r z m s (suc n) x a =
     andThen (nextPictureOrEnd m s a) λ f.

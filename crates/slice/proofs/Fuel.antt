@@ -19,6 +19,7 @@ use Rattle.bits.proofs.Start.{first}
 use Rattle.picture_state.specs.declared.types.{Context.Context, Matrices.Matrices}
 use Rattle.picture_state.specs.State.{SliceState, sliceState}
 use Rattle.picture_state.specs.Result.{Result, ok, error, bindResult, lift}
+use Rattle.picture_state.specs.Stop.{Stop}
 use Rattle.macroblock_head.specs.Increments.{increment}
 use Rattle.macroblock.specs.Macroblocks.{macroblock}
 use Rattle.slice.specs.Slices.{SliceLoopState, isLast, extraStep, extra, afterMacroblock, sliceStep}
@@ -43,12 +44,12 @@ macroblock-takes : (g : Context) (m : Matrices) (first : Bool) (w : SliceState) 
 unfolding macroblock bindResult lift
 macroblock-takes g m begins w s a h = lt-of-lt-of-le (first-takes s a h) (le-trans (bind-on increment _ s a) (bind-on (bind increment _) _ s a))
 
-past-takes : (g : Context) (s : List ℕ) (a : ℕ) (w : Result SliceState) (e : ℕ) → a ≤ e → (a < length s * 8 → a < e)
+past-takes : (g : Context) (s : List ℕ) (a : ℕ) (w : Result Stop SliceState) (e : ℕ) → a ≤ e → (a < length s * 8 → a < e)
     → Takes (length s * 8) a (run (afterMacroblock g w) s e .value) (run (afterMacroblock g w) s e .at)
 unfolding afterMacroblock run bind
-past-takes g s a (error n l) e h k = tt
+past-takes g s a (error q) e h k = tt
 past-takes g s a (ok w) e h k =
-    let Ends : Prog (Step SliceLoopState (Result SliceState)) → Type 0 = λ p. Takes (length s * 8) a (run p s e .value) (run p s e .at) in
+    let Ends : Prog (Step SliceLoopState (Result Stop SliceState)) → Type 0 = λ p. Takes (length s * 8) a (run p s e .value) (run p s e .at) in
     by-case Ends (isLast g w) (λ q. tt) (λ q.
     by-case Ends (has s e 23 && not (eqb (readAt s e 23) 0)) (λ q. let i = leb-true 23 (length s * 8 - e) (both _ _ q .0) in (k (omega arith), omega arith))
     (λ q. tt))
@@ -62,6 +63,6 @@ slice-takes g m s x a =
 
 -- RULES 7.6
 pub slice-fuel : (g : Context) (m : Matrices) (s : List ℕ) → length s ≤ longestStream → (n : ℕ) → many ≤ n
-    → (d e : Result SliceState) (x : SliceLoopState) (a : ℕ)
+    → (d e : Result Stop SliceState) (x : SliceLoopState) (a : ℕ)
     → run (loop n (sliceStep g m) d x) s a ≡ run (loop many (sliceStep g m) e x) s a
 slice-fuel g m s l n h d e x a = enough s (sliceStep g m) (slice-takes g m s) l n h d e x a

@@ -1,2 +1,3 @@
 pub mod Fuel
 pub mod SliceLoop
+pub mod Stops

@@ -1,5 +1,5 @@
 -- A slice: its extra bytes, its start, and the loop over its macroblocks. Assumes nothing.
-use mathlib.Core.Path.{_≡_, refl, sym, _∙_}
+use mathlib.Core.Path.{_≡_, refl, ap, sym, _∙_}
 use mathlib.Core.Bool.{Bool, true, false, cond, false≢true}
 use mathlib.Core.List.{List}
 use Prim.Native.Nat.{ℕ, _+_, _-_, _*_, _≤_, _<_}
@@ -21,7 +21,8 @@ use Rattle.bits.specs.Runs.{Runs, Inside, Reading, bitsLeft}
 use Rattle.bits.proofs.Gives.{given-by, g-bits}
 use Rattle.bits.proofs.Rules.{Loops, loop-start, loop-on, loop-end, takes-less, r-call, r-yes, r-no, r-done, r-reads}
 use Rattle.picture_state.specs.State.{SliceState, sliceState}
-use Rattle.picture_state.specs.Result.{Result, ok}
+use Rattle.picture_state.specs.Result.{Result, ok, error}
+use Rattle.picture_state.specs.Stop.{Stop}
 use Rattle.picture_state.specs.Possible.{PossibleSlice}
 use Rattle.macroblock.specs.Macroblocks.{macroblock}
 use Rattle.slice.specs.Slices.{sliceLoopState, extraStep, extra, afterMacroblock, sliceStep, sliceStart, slice}
@@ -31,9 +32,9 @@ use Rattle.picture_state.proofs.Kept.{predictors-reset}
 use Rattle.slice.proofs.Fuel.{extra-takes, slice-takes}
 use Rattle.picture_state.specs.declared.types.{Context.Context, Matrices.Matrices, Slice.Slice, Progress.Progress}
 use Rattle.slice.specs.Contracts.{sliceStepOf, macroblocks, RefinesAfterMacroblock, RefinesMacroblocks}
-use Rattle.picture_state.specs.Contracts.{StoreFits, ReadInvariant, RefinesInSlice}
+use Rattle.picture_state.specs.Contracts.{Exit, exit, numbered, numberedStep, RunsAs, RunsNumbered, StoreFits, ReadInvariant, RefinesInSlice}
 use Rattle.macroblock.specs.Contracts.{AddressAdds, IncrementInvariant}
-use Rattle.picture_state.proofs.Results.{way-out}
+use Rattle.picture_state.proofs.Results.{t-done, t-yes, t-no, t-call, numbered-ok, error-is-not-ok, loop-left, step-continues, way-out}
 
 -- ---- the extra bytes
 
@@ -106,11 +107,11 @@ module _ {s : List ℕ} {reader from to : Reader} {g : Context} {x : Slice} {lef
         later = λ z. absurd (false≢true (sym z));
       }
 
-  pub slice-runs : (m : Matrices) {y : Slice} → y ≡ sliceStart g number q x → {w : Result SliceState} {end : Reader}
-      → Runs (macroblocks g m (ok (sliceState x left store)) (sliceState y left store)) s to w end
-      → Runs (slice g m number (sliceState x left store)) s reader w end
+  pub slice-runs : (m : Matrices) {y : Slice} → y ≡ sliceStart g number q x → {w : Result Exit SliceState} {end : Reader}
+      → RunsNumbered (macroblocks g m (ok (sliceState x left store)) (sliceState y left store)) s to w end
+      → RunsNumbered (slice g m number (sliceState x left store)) s reader w end
   unfolding slice
-  slice-runs m i r = r-call _ scale-read (r-call _ (e .runs) (rw i at r))
+  slice-runs m i r = t-call _ scale-read (t-call _ (e .runs) (rw i at r))
 
 -- ---- behind a macroblock
 
@@ -124,25 +125,34 @@ module _ {g : Context} {s : List ℕ} {reader : Reader} {x : Slice} {n : ℕ} wh
   pub goes-stop : (n ≡ 0 → ⊥) → RefinesAfterMacroblock g s reader x n false
   unfolding afterMacroblock
   goes-stop h =
-      record { runs = λ left store. rw (way-out (sliceState x left store) store h) r-done; later = λ z. absurd (false≢true z) }
+      record {
+        runs = λ w left store k. left-so w (sliceState x left store) store (k ∙ way-out (sliceState x left store) store h);
+        later = λ z. absurd (false≢true z);
+      }
+    where
+      left-so : (w : Result Stop SliceState) (y : SliceState) (store : List ℕ) → numbered w ≡ error (exit n store)
+          → RunsAs numberedStep (afterMacroblock g w) s reader (sliceStepOf false n y store) reader
+      left-so (ok v) y store k = absurd (error-is-not-ok (sym k))
+      left-so (error e) y store k = t-done (ap finish (k ∙ sym (way-out y store h)))
 
   pub goes-last : n ≡ 0 → leZ (pos (g .sizes .«mb_size»)) (x .«macroblock_address» +ℤ pos 1) ≡ true → RefinesAfterMacroblock g s reader x n false
   unfolding afterMacroblock
-  goes-last z e = record { runs = λ left store. rw z (r-yes _ e r-done); later = λ z. absurd (false≢true z) }
+  goes-last z e = record { runs = λ w left store k. rw (z, numbered-ok w (rw z at k)) (t-yes _ e (t-done refl)); later = λ z. absurd (false≢true z) }
 
   pub goes-more : n ≡ 0 → leZ (pos (g .sizes .«mb_size»)) (x .«macroblock_address» +ℤ pos 1) ≡ false → {more : Bool} {to : Reader}
       → Reading (nonZero 23) s reader more to → to ≡ reader → RefinesAfterMacroblock g s reader x n more
   unfolding afterMacroblock
   goes-more z e {more} r same =
       record {
-        runs = λ left store. rw z (r-no _ e (r-call _ (rw same at (r .runs)) (picked more (sliceState x left store) store)));
+        runs = λ w left store k. rw (z, numbered-ok w (rw z at k))
+            (t-no _ e (t-call _ (rw same at (r .runs)) (picked more (sliceState x left store) store)));
         later = λ m. e;
       }
     where
       picked : (t : Bool) (w : SliceState) (store : List ℕ)
-          → Runs (cond t (done (continue (sliceLoopState false w))) (done (finish (ok w)))) s reader (sliceStepOf t 0 w store) reader
-      picked true w store = r-done
-      picked false w store = r-done
+          → RunsAs numberedStep (cond t (done (continue (sliceLoopState false w))) (done (finish (ok w)))) s reader (sliceStepOf t 0 w store) reader
+      picked true w store = t-done refl
+      picked false w store = t-done refl
 
 -- ---- the loop
 
@@ -151,7 +161,7 @@ pub record AtMacroblock (g : Context) (m : Matrices) (s : List ℕ) (from₀ : R
     (first : Bool) (from : Reader) (x : Slice) (left : List ℤ) (store : List ℕ) : Type 0 where
   pub awaits : IncrementInvariant g s from first x left store
   pub long : length store ≡ length store₀
-  pub rest : (w₀ : Result SliceState)
+  pub rest : (w₀ : Result Stop SliceState)
       → Loops many (sliceStep g m) w₀ (sliceLoopState true (sliceState x₀ left₀ store₀)) s from₀
       (sliceLoopState first (sliceState x left store)) from (bitsLeft s from)
 
@@ -164,22 +174,22 @@ module _ {g : Context} {m : Matrices} {s : List ℕ} {from₀ : Reader} {x₀ : 
     (i : AtMacroblock g m s from₀ x₀ left₀ store₀ first from x left store) {r : Progress} {left₁ : List ℤ} {store₁ : List ℕ}
     (p : RefinesInSlice (macroblock g m first (sliceState x left store)) g s from r left₁ store₁)
     {more : Bool} (q : RefinesAfterMacroblock g s (r .reader) (r .state) (r .stop) more) where
-  macroblock-step : Runs (sliceStep g m (sliceLoopState first (sliceState x left store))) s from
+  macroblock-step : RunsAs numberedStep (sliceStep g m (sliceLoopState first (sliceState x left store))) s from
       (sliceStepOf more (r .stop) (sliceState (r .state) left₁ store₁) store₁) (r .reader)
   unfolding sliceStep
-  macroblock-step = r-call _ (p .runs) (q .runs left₁ store₁)
+  macroblock-step = t-call _ (p .runs .runs) (q .runs (p .runs .value) left₁ store₁ (p .runs .is))
 
   pub slice-end : more ≡ false → RefinesMacroblocks (λ w₀. macroblocks g m w₀ (sliceState x₀ left₀ store₀)) g s from₀ r left₁ store₁
   slice-end e =
-      record { passed = λ w₀. record { runs = loop-end (i .rest w₀) (rw e at macroblock-step); reads = p .reads; storeFits = p .storeFits } }
+      record { passed = λ w₀. record { runs = loop-left (i .rest w₀) (rw e at macroblock-step); reads = p .reads; storeFits = p .storeFits } }
 
   pub slice-less : more ≡ true → bitsLeft s (r .reader) < bitsLeft s from
-  slice-less e = takes-less (sliceStep g m) (slice-takes g m s) (rw e at macroblock-step)
+  slice-less e = takes-less (sliceStep g m) (slice-takes g m s) (step-continues (rw e at macroblock-step))
 
   pub slice-on : more ≡ true → length store₁ ≡ length store
       → AtMacroblock g m s from₀ x₀ left₀ store₀ false (r .reader) (r .state) left₁ store₁
   slice-on e l = record {
     awaits = record { reads = p .reads; storeFits = p .storeFits; begins = λ z. absurd (false≢true z); later = λ z. q .later e };
     long = l ∙ i .long;
-    rest = λ w₀. loop-on (i .rest w₀) (rw e at macroblock-step) (slice-less e);
+    rest = λ w₀. loop-on (i .rest w₀) (step-continues (rw e at macroblock-step)) (slice-less e);
   }

@@ -10,6 +10,7 @@ use Rattle.bits.specs.Programs.{Prog, done, bind, bits, skips, nonZero, loop, m
 use Rattle.picture_state.specs.declared.types.{Context.Context, Matrices.Matrices, Slice.Slice}
 use Rattle.picture_state.specs.State.{SliceState, withSlice, zeroed}
 use Rattle.picture_state.specs.Result.{Result, ok, error}
+use Rattle.picture_state.specs.Stop.{Stop}
 use Rattle.macroblock.specs.Macroblocks.{macroblock}
 
 -- RULES 7.5: while one bit read is 1, 8 bits are passed over
@@ -37,8 +38,8 @@ abbrev pub sliceLoopState : Bool → SliceState → SliceLoopState
 sliceLoopState first w = record { first = first; sliceState = w }
 
 -- RULES 7.6: the slice ends at the last macroblock, or where the next 23 bits are all 0 or not there
-unfoldable pub afterMacroblock : Context → Result SliceState → Prog (Step SliceLoopState (Result SliceState))
-afterMacroblock g (error n l) = done (finish (error n l))
+unfoldable pub afterMacroblock : Context → Result Stop SliceState → Prog (Step SliceLoopState (Result Stop SliceState))
+afterMacroblock g (error e) = done (finish (error e))
 afterMacroblock g (ok w) =
     if isLast g w then done (finish (ok w))
     else do
@@ -46,7 +47,7 @@ afterMacroblock g (ok w) =
       if more then done (continue (sliceLoopState false w)) else done (finish (ok w))
 
 -- RULES 7.6: one macroblock, and whether another follows
-unfoldable pub sliceStep : Context → Matrices → SliceLoopState → Prog (Step SliceLoopState (Result SliceState))
+unfoldable pub sliceStep : Context → Matrices → SliceLoopState → Prog (Step SliceLoopState (Result Stop SliceState))
 sliceStep g m x = do
   w ← macroblock g m (x .first) (x .sliceState)
   afterMacroblock g w
@@ -62,7 +63,7 @@ sliceStart g number q s = record {
 }
 
 -- RULES 7.5, 7.6: slice n, from behind its start code on
-unfoldable pub slice : Context → Matrices → ℕ → SliceState → Prog (Result SliceState)
+unfoldable pub slice : Context → Matrices → ℕ → SliceState → Prog (Result Stop SliceState)
 slice g m number w = do
   q ← bits 5
   extra

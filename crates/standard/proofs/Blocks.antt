@@ -36,9 +36,11 @@ use Rattle.prediction.specs.Writers.{setConst, overwrite, addConst, addBlock, b
 use Rattle.picture_state.specs.declared.types.{Context.Context, Matrices.Matrices}
 use Rattle.picture_state.specs.State.{SliceState, sliceState, predictorsAs, freshBlock}
 use Rattle.picture_state.specs.Result.{Result, ok, error, ifOk, bindResult, lift, fromResult, pure}
+use Rattle.picture_state.specs.Stop.{Stop}
 use Rattle.picture_state.specs.Flags.{flag}
 use Rattle.blocks.specs.Blocks as O
 use Rattle.standard.specs.Standard as S
+use Rattle.standard.specs.Standard.Words.{Forbidden}
 use Rattle.standard.proofs.Agreement.{ResultIs, Agree, a-same, a-pure, a-lift, a-bind, a-shall, a-for, lift-bind, lift-bind-on}
 use Rattle.standard.proofs.Related.{Own, own, sliceOf, eights, Rule, coding}
 use Rattle.standard.specs.Rules.{times}
@@ -97,17 +99,18 @@ lone-next x r z l =
           ∙ l .zeros (omega arith) k p;
     }
 
-is-also : {A : Type 0} {P Q : A → Type 0} (w : Result A) → ((x : A) → P x → Q x) → ResultIs P w → ResultIs Q w
+is-also : {A : Type 0} {P Q : A → Type 0} (w : Result Forbidden A) → ((x : A) → P x → Q x) → ResultIs P w → ResultIs Q w
 is-also (ok x) k p = k x p
-is-also (error n l) k p = tt
+is-also (error d) k p = tt
 
 -- such a step of the standard's alone
-a-way : {A C D : Type 0} {Q : C → D → Type 0} {s : List ℕ} {a : ℕ} {q : Prog (Result D)} (P : A → Type 0) (w : Result A) (F : A → Prog (Result C))
+a-way : {A C D : Type 0} {Q : C → D → Type 0} {s : List ℕ} {a : ℕ} {q : Prog (Result Stop D)} (P : A → Type 0) (w : Result Forbidden A)
+    (F : A → Prog (Result Forbidden C))
     → ResultIs P w
     → ((x : A) → P x → Agree Q s a (F x) q) → Agree Q s a (bindResult (fromResult w) F) q
 unfolding bindResult ifOk bind run
 a-way P (ok x) F p k = k x p
-a-way P (error n l) F p k = record { is = tt }
+a-way P (error d) F p k = record { is = tt }
 
 module _ (rule : Rule) (g : Context) (m : Matrices) (f b : S.Direction) (intra : Bool) (scale : ℕ) where
   abbrev their : S.Coding
@@ -160,7 +163,7 @@ module _ (rule : Rule) (g : Context) (m : Matrices) (f b : S.Direction) (intra :
   coefficients-same : (x : S.Filled) (p : PairsEnd) → Lone x → ResultIs (λ y. (p .end ≡ Whole) × Placed x (p .pairs) y) (S.coefficients their intra scale x p)
   coefficients-same x p l = go (p .end)
     where
-      all : Result S.Filled
+      all : Result Forbidden S.Filled
       all = S.reconstructed their intra scale x (p .pairs)
 
       go : (e : BlockEnd) → ResultIs (λ y. (e ≡ Whole) × Placed x (p .pairs) y) (elim e [ Whole ↦ all | Dropped ↦ S.forbidden | Outside ↦ S.forbidden ])
@@ -339,14 +342,16 @@ module _ (rule : Rule) (g : Context) (m : Matrices) (f b : S.Direction) (A : ℤ
   ours o l = sliceState (sliceOf G A q for back o) freshBlock l
 
   -- behind block i the predictors are dcs, nothing is left over, and the pels are the standard's
-  block-ends : (intra : Bool) (i : ℕ) (o : Own) (predictor : ℤ) (dcs : List ℤ) (y : S.Filled) (l : List ℕ) (r : B.BlockRead) → r ≡ wholeOf predictor y → Lone y
+  block-ends : (intra : Bool) (i : ℕ) (o : Own) (predictor : ℤ) (dcs : List ℤ) (y : S.Filled) (l : List ℕ) (difference : ℤ) (r : B.BlockRead)
+      → r ≡ wholeOf predictor y → Lone y
       → set (dcsOf o) (O.predictorOf i) predictor ≡ dcs
-      → O.blockEnd g (quantiser intra q) i (ours o l) r
+      → O.blockEnd g (quantiser intra q) i (ours o l) difference r
       ≡ ok (sliceState (predictorsAs dcs (sliceOf G A q for back o)) freshBlock (S.written G intra i (natAbs A) y l))
   unfolding O.blockEnd B.blockDataAfter
-  block-ends intra i o predictor dcs y l r e lone d =
+  block-ends intra i o predictor dcs y l difference r e lone d =
       let pels = written-same rule g m f b intra q i (natAbs A) y l lone in
-      ap (O.blockEnd g (quantiser intra q) i (ours o l)) e ∙ (λ j. ok (sliceState (predictorsAs (d j) (sliceOf G A q for back o)) freshBlock (pels j)))
+      ap (O.blockEnd g (quantiser intra q) i (ours o l) difference) e
+      ∙ (λ j. ok (sliceState (predictorsAs (d j) (sliceOf G A q for back o)) freshBlock (pels j)))
 
   -- intra block i; o has our predictors
   module _ (isFar : Bool) (i : ℕ) (h : i < 6) (x : S.Blocks) (o : Own) (before : leftOf isFar i (x .past) ≡ eights o) where
@@ -361,21 +366,18 @@ module _ (rule : Rule) (g : Context) (m : Matrices) (f b : S.Direction) (A : ℤ
     dcFilled recon = record { recon = set (replicate 64 (pos 0)) 0 recon; n = 1 }
 
     -- the standard's steps behind the DC value
-    abbrev theirEnd : ℤ → S.Filled → Prog (Result S.Blocks)
+    abbrev theirEnd : ℤ → S.Filled → Prog (Result Forbidden S.Blocks)
     theirEnd recon y = pure (record { past = S.pastAs i recon (x .past); pels = S.written G true i (natAbs A) y (x .pels) })
 
-    abbrev theirPairs : ℤ → Prog (Result S.Blocks)
+    abbrev theirPairs : ℤ → Prog (Result Forbidden S.Blocks)
     theirPairs recon = bindResult (lift (pairs 1)) (λ p. bindResult (fromResult (S.coefficients G true q (dcFilled recon) p)) (theirEnd recon))
 
     -- ours
     abbrev made : CodedBlock → B.BlockRead
     made c = B.reconstructed (quantiser true q) (m .«intra_quant_matrix») pred freshBlock c
 
-    abbrev readEnd : B.BlockRead → Prog (Result SliceState)
-    readEnd r = fromResult (O.blockEnd g (quantiser true q) i (ours o (x .pels)) r)
-
-    abbrev ourEnd : CodedBlock → Prog (Result SliceState)
-    ourEnd c = readEnd (made c)
+    abbrev ourEnd : CodedBlock → Prog (Result Stop SliceState)
+    ourEnd c = fromResult (O.blockEnd g (quantiser true q) i (ours o (x .pels)) (c .difference) (made c))
 
     abbrev ourPairs : Bool → ℤ → Prog CodedBlock
     ourPairs inside d = cond inside (bind (pairs 1) (λ p. done (coded d p))) (done (coded d (pairsEnd [] Outside)))
@@ -402,8 +404,8 @@ module _ (rule : Rule) (g : Context) (m : Matrices) (f b : S.Direction) (A : ℤ
       end-agrees p y e c =
           let n = ownAs i dc o in
           let t = component isFar (x .past) o dc i h before in
-          a-same (ap (λ (w : Result SliceState). run (fromResult w) s e)
-          (sym (block-ends true i o dc (dcsOf n) y (x .pels) (made (coded d p)) (made-is p y c) (c .1 .lone) (t .dcs))))
+          a-same (ap (λ (w : Result Stop SliceState). run (fromResult w) s e)
+          (sym (block-ends true i o dc (dcsOf n) y (x .pels) d (made (coded d p)) (made-is p y c) (c .1 .lone) (t .dcs))))
           (a-pure (record { y = n .y; cb = n .cb; cr = n .cr; is = refl; past = t .past }))
 
       pairs-agree : (e : ℕ) → Agree After s e (theirPairs (pos 8 *ℤ dc)) (bindResult (lift (ourPairs (dcInside dc) d)) ourEnd)
@@ -424,15 +426,14 @@ module _ (rule : Rule) (g : Context) (m : Matrices) (f b : S.Direction) (A : ℤ
         ∙ ap (λ (z : ℤ). pos 8 *ℤ (pred +ℤ z)) e
 
     intra-agrees : (a : ℕ) → Agree After s a (S.intraBlock G isFar q (natAbs A) i x) (O.oneBlock g m true i (ours o (x .pels)))
-    unfolding S.intraBlock O.oneBlock B.block codedBlock intraCoded bindResult ifOk lift bind
+    unfolding S.intraBlock O.oneBlock codedBlock intraCoded bindResult ifOk lift bind
     intra-agrees a =
-        let theirs : ℤ → Prog (Result S.Blocks) = λ recon.
+        let theirs : ℤ → Prog (Result Forbidden S.Blocks) = λ recon.
         bindResult (S.shall (leZ (negℤ (pos 2048)) recon && leZ recon (pos 2047))) (λ z. theirPairs recon) in
-        a-same (sym (lift-bind-on (intraCoded (ltb i 4) pred) (λ c. done (made c)) readEnd s a)) (
         a-same (sym (lift-bind-on (dcDifference (ltb i 4)) (λ d. ourPairs (dcInside (pred +ℤ d)) d) ourEnd s a)) (
         a-bind _ _ (dc-agrees s i a) (λ zz d e c.
         subst (λ (recon : ℤ). Agree After s e (theirs recon) (bindResult (lift (ourPairs (dcInside (pred +ℤ d)) d)) ourEnd)) (sym (recon-is zz d c))
-        (a-shall _ _ (λ z. pairs-agree d (eight-inside (pred +ℤ d) z) e)))))
+        (a-shall _ _ (λ z. pairs-agree d (eight-inside (pred +ℤ d) z) e))))
 
   intra-block : (isFar fs bs : Bool) (i : ℕ) → i < 6 → (x : S.Blocks) (w : SliceState) (a : ℕ) → Intra isFar i G A q for back fs bs x w
       → Agree (Intra isFar (suc i) G A q for back fs bs) s a (S.intraBlock G isFar q (natAbs A) i x) (O.oneBlock g m true i w)
@@ -442,16 +443,15 @@ module _ (rule : Rule) (g : Context) (m : Matrices) (f b : S.Direction) (A : ℤ
 
   inter-block : (o : Own) (p : S.Pasts) (i : ℕ) → i < 6 → (x : S.Blocks) (w : SliceState) (a : ℕ) → Inter G A q for back o p x w
       → Agree (Inter G A q for back o p) s a (S.nonIntraBlock G q (natAbs A) i x) (O.oneBlock g m false i w)
-  unfolding S.nonIntraBlock O.oneBlock B.block codedBlock otherCoded B.reconstructed bindResult ifOk lift bind
+  unfolding S.nonIntraBlock O.oneBlock codedBlock otherCoded B.reconstructed bindResult ifOk lift bind
   inter-block o past i h x w a r =
       let pred = getD (dcsOf o) (O.predictorOf i) (pos 0) in
       let Q = quantiser false q in
       let matrix = m .«non_intra_quant_matrix» in
-      let E : B.BlockRead → Prog (Result SliceState) = λ r. fromResult (O.blockEnd g Q i (ours o (x .pels)) r) in
-      let E′ : CodedBlock → Prog (Result SliceState) = λ c. E (B.reconstructed Q matrix pred freshBlock c) in
+      let E : CodedBlock → Prog (Result Stop SliceState) = λ c.
+      fromResult (O.blockEnd g Q i (ours o (x .pels)) (c .difference) (B.reconstructed Q matrix pred freshBlock c)) in
       subst (λ (w : SliceState). Agree (Inter G A q for back o past) s a (S.nonIntraBlock G q (natAbs A) i x) (O.oneBlock g m false i w)) (sym (r .is)) (
-      a-same (sym (lift-bind-on otherCoded (λ c. done (B.reconstructed Q matrix pred freshBlock c)) E s a)) (
-      a-same (sym (lift-bind-on (pairs 0) (λ p. done (coded (pos 0) p)) E′ s a)) (
+      a-same (sym (lift-bind-on (pairs 0) (λ p. done (coded (pos 0) p)) E s a)) (
       a-lift (pairs 0) (pairs 0) _ _ refl (
       let p = run (pairs 0) s a .value in
       let from : S.Filled = record { recon = replicate 64 (pos 0); n = 0 } in
@@ -459,9 +459,9 @@ module _ (rule : Rule) (g : Context) (m : Matrices) (f b : S.Direction) (A : ℤ
       let made : B.BlockRead = record { filled = B.allPlaced Q matrix (B.filled freshBlock 0) (p .pairs); predictor = pred; end = p .end } in
       let filled = ap (λ (l : List ℤ). B.allPlaced Q matrix (B.filled l 0) (p .pairs)) (sym times-zero) ∙ c .1 .same in
       let read : made ≡ wholeOf pred y = λ j. record { filled = filled j; predictor = pred; end = c .0 j } in
-      a-same (ap (λ (w : Result SliceState). run (fromResult w) s (run (pairs 0) s a .at))
-      (sym (block-ends false i o pred (dcsOf o) y (x .pels) made read (c .1 .lone) (kept-dcs o i h))))
-      (a-pure (record { is = refl; past = r .past })))))))
+      a-same (ap (λ (w : Result Stop SliceState). run (fromResult w) s (run (pairs 0) s a .at))
+      (sym (block-ends false i o pred (dcsOf o) y (x .pels) (pos 0) made read (c .1 .lone) (kept-dcs o i h))))
+      (a-pure (record { is = refl; past = r .past }))))))
 
   -- ---- all six
 

@@ -30,6 +30,7 @@ use Rattle.picture_state.specs.Result.{Result, ok, error, andThen, ifOk, bindRe
 use Rattle.macroblock_head.specs.Heads.{macroblockType}
 use Rattle.slice.specs.Slices.{extraStep, extra}
 use Rattle.standard.specs.Standard as S
+use Rattle.standard.specs.Standard.Words.{Forbidden}
 use Rattle.standard.specs.Rules.{rust, printed}
 
 abbrev context : ℕ → Context
@@ -49,20 +50,20 @@ direction = record { «full_pel_vector» = false; «r_size» = 0 }
 abbrev pels : List ℕ
 pels = replicate 1152 7 ++ replicate 1152 50 ++ replicate 1152 90
 
-abbrev slice : S.Rules → ℕ → List ℕ → Result S.Variables
+abbrev slice : S.Rules → ℕ → List ℕ → Result Forbidden S.Variables
 slice rules type stream =
     let g : S.Coding = record { context = context type; matrices = matrices; forward = direction; backward = direction; rules = rules } in
     run (S.slice g 1 pels) stream 0 .value
 
 -- where the slice conforms: its last macroblock_address, macroblock_type, dct_dc_y_past, recon_right_for_prev
-abbrev variables : Result S.Variables → List ℤ
+abbrev variables : Result Forbidden S.Variables → List ℤ
 variables (ok v) = v .«previous_macroblock_address» ∷ pos (v .«macroblock_type») ∷ v .past .y ∷ v .forPrev .right ∷ []
-variables (error n l) = []
+variables (error d) = []
 
 -- and a pel of each macroblock, in the first row of Y
-abbrev row : Result S.Variables → List ℕ
+abbrev row : Result Forbidden S.Variables → List ℕ
 row (ok v) = getD (v .pels) 0 0 ∷ getD (v .pels) 16 0 ∷ getD (v .pels) 32 0 ∷ []
-row (error n l) = []
+row (error d) = []
 
 abbrev intraBytes : List ℕ
 intraBytes = 0x08 ∷ 0x07 ∷ 0xf6 ∷ 0xd2 ∷ 0x94 ∷ 0x88 ∷ 0xb9 ∷ 0x4a ∷ 0x52 ∷ 0x22 ∷ 0xa2 ∷ 0x94 ∷ 0xa5 ∷ 0x22 ∷ 0x20 ∷ 0x00 ∷ 0x00 ∷ 0x01 ∷ 0x00 ∷ 0x00 ∷ []

@@ -9,8 +9,10 @@ use Rattle.bits.specs.Bits.{has, readAt, afterRead}
 use Rattle.bits.specs.Programs.{Prog, done, skip, run, bind, bits}
 use Rattle.picture_state.specs.declared.types.{Motion.Motion, Picture.Picture}
 use Rattle.picture_state.specs.Result.{Result, ok, ifOk, bindResult, lift, pure}
+use Rattle.picture_state.specs.Stop.{Stop}
 use Rattle.picture.specs.Pictures as P
 use Rattle.standard.specs.Standard as S
+use Rattle.standard.specs.Standard.Words.{Forbidden}
 use Rattle.standard.proofs.Agreement.{Meets, Agree, a-same, a-pure, a-bind, a-shall, lift-bind}
 use Rattle.standard.proofs.Related.{motionOf}
 use Rattle.standard.proofs.Slice.{Begun}
@@ -26,12 +28,13 @@ module _ (s : List ℕ) where
       go false = tt
 
   -- a look ahead of the standard's
-  nextbits-their : {C D : Type 0} {Q : C → D → Type 0} (n a : ℕ) (f : ℕ → Prog (Result C)) {q : Prog (Result D)} → ((x : ℕ) → Agree Q s a (f x) q)
+  nextbits-their : {C D : Type 0} {Q : C → D → Type 0} (n a : ℕ) (f : ℕ → Prog (Result Forbidden C)) {q : Prog (Result Stop D)}
+      → ((x : ℕ) → Agree Q s a (f x) q)
       → Agree Q s a (bindResult (S.nextbits n) f) q
   unfolding bindResult ifOk bind run
   nextbits-their {C} {D} {Q} n a f {q} k = record { is = go (has s a n) }
     where
-      p : Bool → Prog (Result C)
+      p : Bool → Prog (Result Forbidden C)
       p h = bind (cond h (pure (readAt s a n)) (done S.forbidden)) (ifOk f)
 
       go : (h : Bool) → Meets Q (run (p h) s a .value) (run (p h) s a .at) (run q s a .value) (run q s a .at)
@@ -55,16 +58,16 @@ module _ (s : List ℕ) where
       told : ℕ → ℕ → S.Direction
       told x f = record { «full_pel_vector» = not (eqb x 0); «r_size» = f - 1 }
 
-      theirs′ : ℕ → ℕ → Prog (Result S.Direction)
+      theirs′ : ℕ → ℕ → Prog (Result Forbidden S.Direction)
       theirs′ x f = bindResult (S.shall (not (eqb f 0))) (λ z. pure (told x f))
 
-      theirs : ℕ → Prog (Result S.Direction)
+      theirs : ℕ → Prog (Result Forbidden S.Direction)
       theirs x = bindResult (S.field 3) (theirs′ x)
 
       last : ℕ → ℕ → Prog P.Direction
       last x f = done (P.present (not (eqb x 0)) f)
 
-      ours : ℕ → Prog (Result P.Direction)
+      ours : ℕ → Prog (Result Stop P.Direction)
       ours x = lift (bind (bits 3) (last x))
 
       directed : (x f : ℕ) → eqb f 0 ≡ false → Directed (told x f) (P.present (not (eqb x 0)) f)
@@ -81,7 +84,7 @@ module _ (s : List ℕ) where
     found-header type f b = record { «picture_coding_type» = type; forward = f; backward = b }
 
     -- extra_bit_picture
-    abbrev ends : ℕ → S.Direction → S.Direction → Prog (Result S.Header)
+    abbrev ends : ℕ → S.Direction → S.Direction → Prog (Result Forbidden S.Header)
     ends type f b = bindResult (S.nextbits 1) (λ x. bindResult (S.shall (eqb x 0)) (λ z. pure (found-header type f b)))
 
     ends-agree : {type : ℕ} {f b : S.Direction} {x : P.PictureHeader} {e : ℕ} → Headed p (found-header type f b) x
@@ -89,7 +92,7 @@ module _ (s : List ℕ) where
     ends-agree {type} {f} {b} {x} {e} r = nextbits-their 1 e (λ y. bindResult (S.shall (eqb y 0)) (λ z. pure (found-header type f b)))
         (λ y. a-shall (eqb y 0) (λ z. pure (found-header type f b)) (λ z. a-pure r))
 
-    abbrev directions : ℕ → Prog (Result S.Header)
+    abbrev directions : ℕ → Prog (Result Forbidden S.Header)
     directions type = bindResult (cond (eqb type 1) (pure df) S.direction) (λ f. bindResult (cond (eqb type 3) S.direction (pure db)) (ends type f))
 
     abbrev m : Motion
@@ -174,7 +177,7 @@ module _ (s : List ℕ) where
         a-same (sym (lift-bind (bits 16) (λ d. ours t d type) s e)) (a-bind _ _ (field-bits 16 e) (λ x d e i.
         a-shall _ _ (λ h. by-type t d type e (eqb type 1) refl (eqb type 2) refl (eqb type 3) refl h))))))))
       where
-        delayed : ℕ → Prog (Result S.Header)
+        delayed : ℕ → Prog (Result Forbidden S.Header)
         delayed type = bindResult (S.field 16) (λ delay. bindResult (S.shall (eqb type 1 || eqb type 2 || eqb type 3)) (λ z. directions type))
 
         typed : ℕ → ℕ → Prog P.PictureHeader

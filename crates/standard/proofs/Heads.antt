@@ -19,9 +19,11 @@ use Rattle.motion.proofs.Standard.{standard-step}
 use Rattle.picture_state.specs.declared.types.{Motion.Motion, Slice.Slice}
 use Rattle.picture_state.specs.State.{scaleAs, motionsAs, dcReset}
 use Rattle.picture_state.specs.Result.{Result, ifOk, bindResult, lift, pure}
+use Rattle.picture_state.specs.Stop.{Stop}
 use Rattle.macroblock_head.specs.Heads as O
 use Rattle.picture_state.specs.Flags.{flag}
 use Rattle.standard.specs.Standard as S
+use Rattle.standard.specs.Standard.Words.{Forbidden}
 use Rattle.standard.proofs.Agreement.{Agree, a-same, a-pure, a-lift, a-bind, a-as, lift-bind, lift-bind-on}
 use Rattle.standard.proofs.Related.{In, motionOf, Own, own, sliceOf}
 
@@ -87,7 +89,7 @@ module _ {s : List ℕ} where
       go false = a-pure refl
 
 -- the steps of the standard behind the type t, up to its vectors
-abbrev pub their : {C : Type 0} → S.Coding → ℕ → ℕ → S.Vector → S.Vector → (ℕ → S.Vector → S.Vector → Prog (Result C)) → Prog (Result C)
+abbrev pub their : {C : Type 0} → S.Coding → ℕ → ℕ → S.Vector → S.Vector → (ℕ → S.Vector → S.Vector → Prog (Result Forbidden C)) → Prog (Result Forbidden C)
 their g t q f b F = bindResult (cond (flag t 16) (lift (bits 5)) (pure q)) (λ q. bindResult (S.forVector g t f) (λ f. bindResult (S.backVector g t b) (F q f)))
 
 -- our predictors behind a macroblock that is not intra
@@ -96,7 +98,7 @@ reset t = own (flag t 8) (flag t 4) (pos 128) (pos 128) (pos 128)
 
 module _ {C D : Type 0} {Q : C → D → Type 0} {s : List ℕ} (g : S.Coding) (A : ℤ) (q : ℕ) (f b₀ : S.Vector) (o : Own) (t : ℕ) (i : In (g .forward) f)
     (j : In (g .backward) b₀)
-    (F : ℕ → S.Vector → S.Vector → Prog (Result C)) (G : Slice → Prog (Result D)) where
+    (F : ℕ → S.Vector → S.Vector → Prog (Result Forbidden C)) (G : Slice → Prog (Result Stop D)) where
   -- not intra
   pub inter-head : flag t 1 ≡ false
       → ((q : ℕ) (f b : S.Vector) (e : ℕ) → In (g .forward) f → In (g .backward) b

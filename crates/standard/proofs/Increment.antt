@@ -18,10 +18,13 @@ use Rattle.codes.specs.Codes.{macroblockAddressIncrement}
 use Rattle.codes.specs.Standard.{code, macroblockAddressIncrementCodes}
 use Rattle.codes.proofs.Standard.{agrees-macroblock-address-increment}
 use Rattle.picture_state.specs.Result.{Result, ok, ifOk, bindResult, lift, pure}
+use Rattle.picture_state.specs.Stop.{Stop}
 use Rattle.macroblock_head.specs.Increments as O
 use Rattle.standard.specs.Standard as S
+use Rattle.standard.specs.Standard.Words.{Forbidden}
 use Rattle.macroblock_head.proofs.Fuel.{increment-fuel}
-use Rattle.standard.proofs.Agreement.{Meets, Agree, run-lift, a-by, a-same}
+use Rattle.standard.proofs.Agreement.{Meets, Agree, a-by, a-same}
+use Rattle.picture_state.proofs.Runs.{run-lift}
 
 mem-at : {A : Type 0} (d : A) (xs : List A) (k : ℕ) → k < length xs → List·Memᴰ (getD xs k d) xs
 mem-at d [] k h = let z : ⊥ = omega arith in absurd z
@@ -58,14 +61,14 @@ module _ (s : List ℕ) (a : ℕ) (h : has s a 11 ≡ true) where
 -- ---- the two loops
 
 module _ (s : List ℕ) where
-  bind-bind : {A B C : Type 0} (p : Prog A) (k : A → Prog (Result B)) (f : B → Prog (Result C)) (a : ℕ)
+  bind-bind : {A B C : Type 0} (p : Prog A) (k : A → Prog (Result Forbidden B)) (f : B → Prog (Result Forbidden C)) (a : ℕ)
       → run (bindResult (bind p k) f) s a ≡ run (bindResult (k (run p s a .value)) f) s (run p s a .at)
   unfolding bindResult
   bind-bind p k f a =
-      run-bind (bind p k) (ifOk f) s a ∙ ap (λ (o : Out (Result _)). run (ifOk f (o .value)) s (o .at)) (run-bind p k s a)
+      run-bind (bind p k) (ifOk f) s a ∙ ap (λ (o : Out (Result Forbidden _)). run (ifOk f (o .value)) s (o .at)) (run-bind p k s a)
       ∙ sym (run-bind (k (run p s a .value)) (ifOk f) s (run p s a .at))
 
-  abbrev ours : ℕ → ℕ → Prog (Result ℕ)
+  abbrev ours : ℕ → ℕ → Prog (Result Stop ℕ)
   ours n x = lift (loop n O.incrementStep 0 x)
 
   on-by : (n m x y a e : ℕ) → n ≡ suc m → run (O.incrementStep x) s a ≡ record { value = continue y; at = e } → run (ours n x) s a ≡ run (ours m y) s e
@@ -86,10 +89,10 @@ module _ (s : List ℕ) where
 
   module _ (word : ℕ) (f : ℕ → ℕ) where
     -- the standard's turn by what it looks at
-    abbrev their : ℕ → Prog (Step ℕ (Result ℕ))
+    abbrev their : ℕ → Prog (Step ℕ (Result Forbidden ℕ))
     their = S.whileStep 11 word f
 
-    abbrev looked : Bool → Bool → ℕ → Prog (Step ℕ (Result ℕ))
+    abbrev looked : Bool → Bool → ℕ → Prog (Step ℕ (Result Forbidden ℕ))
     looked h t x = cond h (cond t (skip 11 (done (continue (f x)))) (done (finish (ok x)))) (done (finish S.forbidden))
 
     their-on : (x a : ℕ) → has s a 11 ≡ true → eqb (readAt s a 11) word ≡ true → run (their x) s a ≡ record { value = continue (f x); at = a + 11 }
@@ -106,12 +109,12 @@ module _ (s : List ℕ) where
     unfolding S.whileStep run
     their-none x a h = ap (λ (h : Bool). run (looked h (eqb (readAt s a 11) word) x) s a) h
 
-    rest : {C : Type 0} → (ℕ → Prog (Result C)) → (n : ℕ) → Out (Step ℕ (Result ℕ)) → Out (Result C)
+    rest : {C : Type 0} → (ℕ → Prog (Result Forbidden C)) → (n : ℕ) → Out (Step ℕ (Result Forbidden ℕ)) → Out (Result Forbidden C)
     rest F n o = run (bindResult (continueWith (loop n their S.forbidden) (o .value)) F) s (o .at)
 
   module _ {C : Type 0} {R : C → ℕ → Type 0} (word : ℕ) (f : ℕ → ℕ) (P : ℕ → Type 0) (kept : (x : ℕ) → P x → P (f x))
       (turns : (x a : ℕ) → P x → has s a 11 ≡ true → readAt s a 11 ≡ word → run (O.incrementStep x) s a ≡ record { value = continue (f x); at = a + 11 })
-      (F : ℕ → Prog (Result C)) where
+      (F : ℕ → Prog (Result Forbidden C)) where
     whiles : (n m x a : ℕ) → n ≤ m → P x → ((y e i : ℕ) → P y → m ≤ i + n → Agree R s e (F y) (ours i y))
         → Agree R s a (bindResult (loop n (their word f) S.forbidden x) F) (ours m x)
     unfolding loop bindResult ifOk bind run rest
@@ -153,10 +156,10 @@ module _ (s : List ℕ) where
   unfolding O.incrementStep run
   stops x a h = let n = small (run macroblockAddressIncrement s a .value) h in run-bind macroblockAddressIncrement _ s a ∙ rw (n .0, n .1)
 
-  abbrev final : ℕ → Prog (Result ℕ)
+  abbrev final : ℕ → Prog (Result Forbidden ℕ)
   final x = bindResult (lift macroblockAddressIncrement) (λ c. bindResult (S.shall (leb 1 c && leb c 33)) (λ u. pure (x + c)))
 
-  ended : (x c e : ℕ) (b : Bool) → Out (Result ℕ)
+  ended : (x c e : ℕ) (b : Bool) → Out (Result Forbidden ℕ)
   ended x c e b = run (bindResult (S.shall b) (λ u. pure (x + c))) s e
 
   last-code : (m x a : ℕ) → 1 ≤ m → Agree Increment s a (final x) (ours s m x)
@@ -182,7 +185,7 @@ module _ (s : List ℕ) where
       rw z (whiles s 8 (λ x. x + 33) (λ x. Unit {0}) (λ x u. tt) (λ x a u h e. adds s a h x e) final many i 0 e (omega arith) tt
       (λ y e k u h. last-code k y e (omega arith))))
 
-  plains : (p q : Prog ℕ) (a : ℕ) → run p s a ≡ run q s a → run (lift p) s a ≡ run (lift q) s a
+  plains : (p q : Prog ℕ) (a : ℕ) → run p s a ≡ run q s a → _≡_ {A = Out (Result Stop ℕ)} (run (lift p) s a) (run (lift q) s a)
   unfolding lift
   plains p q a e = run-bind p _ s a ∙ ap (λ (o : Out ℕ). run (done (ok (o .value))) s (o .at)) e ∙ sym (run-bind q _ s a)
 

@@ -15,7 +15,9 @@ use Rattle.bits.specs.Programs.{Prog, done, run, bind}
 use Rattle.codes.specs.Codes.{codeBlockPattern}
 use Rattle.picture_state.specs.declared.types.{Context.Context, Matrices.Matrices, Slice.Slice}
 use Rattle.picture_state.specs.State.{SliceState, sliceState, freshBlock}
+use Rattle.bits.proofs.Programs.{run-bind}
 use Rattle.picture_state.specs.Result.{Result, ok, error, ifOk, bindResult, lift, fromResult, pure}
+use Rattle.picture_state.specs.Stop.{Stop}
 use Rattle.macroblock_head.specs.Heads as H
 use Rattle.picture_state.specs.Flags.{flag}
 use Rattle.macroblock_head.specs.Heads.{macroblockType}
@@ -23,7 +25,8 @@ use Rattle.macroblock_head.specs.Predictions as P
 use Rattle.blocks.specs.Blocks as O
 use Rattle.macroblock.specs.Macroblocks as M
 use Rattle.standard.specs.Standard as S
-use Rattle.standard.proofs.Agreement.{Meets, Agree, a-pure, a-step, a-lift, a-bind, a-shall, a-after}
+use Rattle.standard.specs.Standard.Words.{Forbidden}
+use Rattle.standard.proofs.Agreement.{Agree, a-by, a-pure, a-step, a-lift, a-bind, a-shall, a-after}
 use Rattle.standard.proofs.Related.{In, Own, own, sliceOf, eights, pastStart, forNext, backNext, Related, Rule, coding}
 use Rattle.standard.proofs.Increment.{increment-agrees}
 use Rattle.standard.proofs.Heads.{zero-in, their, reset, inter-head, intra-head}
@@ -32,12 +35,9 @@ use Rattle.standard.proofs.Blocks.{left-six, intra-blocks, inter-blocks
 use Rattle.standard.proofs.Types.{intra-alone, no-backward}
 
 -- one program for both
-a-same-both : {s : List ℕ} (p : Prog (Result ℕ)) (a : ℕ) → Agree _≡_ s a p p
-a-same-both {s} p a = record { is = go (run p s a .value) }
-  where
-    go : (w : Result ℕ) → Meets _≡_ w (run p s a .at) w (run p s a .at)
-    go (ok x) = (refl, refl)
-    go (error n l) = tt
+a-same-both : {s : List ℕ} (p : Prog ℕ) (a : ℕ) → Agree _≡_ s a (lift p) (lift p)
+unfolding lift run
+a-same-both {s} p a = a-by _ _ (run-bind p (λ v. done (ok v)) s a) (run-bind p (λ v. done (ok v)) s a) (refl, refl)
 
 either : {X : Type 0} (b : Bool) → (b ≡ true → X) → (b ≡ false → X) → X
 either true p q = p refl
@@ -82,13 +82,13 @@ module _ (rule : Rule) (g : Context) (m : Matrices) (df db : S.Direction) (s : L
   }
 
   -- the steps behind the vectors
-  abbrev theirRest : Bool → Bool → ℕ → S.Vector → S.Vector → Prog (Result S.Variables)
+  abbrev theirRest : Bool → Bool → ℕ → S.Vector → S.Vector → Prog (Result Forbidden S.Variables)
   theirRest intra pattern q for back =
       bindResult (fromResult (cond intra (ok l) (S.predicted G t (natAbs A) for back l))) (λ p.
       bindResult (cond pattern (lift codeBlockPattern) (pure 0)) (λ cbp.
       bindResult (S.blocks G intra (S.far A x) cbp q (natAbs A) (record { past = x .past; pels = p })) (λ b. pure (after intra q for back b))))
 
-  abbrev oursRest : Bool → Bool → Slice → Prog (Result SliceState)
+  abbrev oursRest : Bool → Bool → Slice → Prog (Result Stop SliceState)
   oursRest intra pattern y =
       bindResult (fromResult (cond intra (ok l) (P.predict g (natAbs (y .«macroblock_address»)) y l))) (λ l.
       bindResult (lift (cond pattern (codeBlockPattern) (cond intra (done 63) (done 0)))) (λ c. O.blocks g m intra c (sliceState y freshBlock l)))
@@ -134,20 +134,20 @@ module _ (rule : Rule) (g : Context) (m : Matrices) (df db : S.Direction) (s : L
       (yes-le (v (x .«past_intra_address»)) (v (x .«previous_macroblock_address») ⊕ lit n)
       (omega (arith, le-yes (v (x .«past_intra_address»)) (v (x .«previous_macroblock_address»)) order))))))))
     where
-      theirBlocks : List ℕ → ℕ → Prog (Result S.Variables)
+      theirBlocks : List ℕ → ℕ → Prog (Result Forbidden S.Variables)
       theirBlocks p cbp = bindResult (S.blocks G false (S.far A x) cbp q (natAbs A) (record { past = x .past; pels = p })) (λ b′. pure (after false q f b b′))
 
-      afterPrediction : List ℕ → Prog (Result S.Variables)
+      afterPrediction : List ℕ → Prog (Result Forbidden S.Variables)
       afterPrediction p = bindResult (cond (flag t 2) (lift codeBlockPattern) (pure 0)) (theirBlocks p)
 
-      ourBlocks : List ℕ → ℕ → Prog (Result SliceState)
+      ourBlocks : List ℕ → ℕ → Prog (Result Stop SliceState)
       ourBlocks p c = O.blocks g m false c (sliceState (sliceOf G A q f b (reset t)) freshBlock p)
 
-      ourPattern : List ℕ → Prog (Result SliceState)
+      ourPattern : List ℕ → Prog (Result Stop SliceState)
       ourPattern p = bindResult (lift (cond (flag t 2) (codeBlockPattern) (done 0))) (ourBlocks p)
 
       patterns : (b : Bool) (e : ℕ) → Agree _≡_ s e (cond b (lift codeBlockPattern) (pure 0)) (lift (cond b (codeBlockPattern) (done 0)))
-      patterns true e = a-same-both _ e
+      patterns true e = a-same-both codeBlockPattern e
       patterns false e = a-pure refl
 
       for-is : (p2 : Bool) → (flag t 8 ≡ false → p2 ≡ true → f ≡ S.zero-vector) → (h8 : Bool) → flag t 8 ≡ h8
@@ -181,8 +181,8 @@ module _ (rule : Rule) (g : Context) (m : Matrices) (df db : S.Direction) (s : L
       let f = S.forStart C first u x in
       let b = S.backStart C first u x in
       let o = r .o in
-      let F : ℕ → S.Vector → S.Vector → Prog (Result S.Variables) = theirRest rule g m df db s first n x l t (flag t 1) (flag t 2) in
-      let K : Slice → Prog (Result SliceState) = oursRest rule g m df db s first n x l t (flag t 1) (flag t 2) in
+      let F : ℕ → S.Vector → S.Vector → Prog (Result Forbidden S.Variables) = theirRest rule g m df db s first n x l t (flag t 1) (flag t 2) in
+      let K : Slice → Prog (Result Stop SliceState) = oursRest rule g m df db s first n x l t (flag t 1) (flag t 2) in
       let intra : S.inTable (g .«picture_type») t ≡ true → flag t 1 ≡ true
       → Agree (Related C false) s e (their C t (x .«quantizer_scale») f b F)
       (bindResult (lift (H.head (g .«picture_type») t (sliceOf C A (x .«quantizer_scale») f b o))) K) = λ tab h.
@@ -254,7 +254,7 @@ module _ (rule : Rule) (g : Context) (m : Matrices) (df db : S.Direction) (s : L
       subst (λ (k : ℕ). Agree (Related C false) s e (counted first x n) (cond first (M.firstMacroblock g m k w) (M.laterMacroblock g m k w))) (i .same) (
       a-shall _ _ (λ h. go first x w r n (i .some) e h)))
     where
-      counted : Bool → S.Variables → ℕ → Prog (Result S.Variables)
+      counted : Bool → S.Variables → ℕ → Prog (Result Forbidden S.Variables)
       counted first x n =
           bindResult (S.shall (leZ (pos 0) (x .«previous_macroblock_address» +ℤ pos n) && ltZ (x .«previous_macroblock_address» +ℤ pos n)
           (pos (g .sizes .«mb_size»)))) (λ z.

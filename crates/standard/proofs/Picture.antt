@@ -12,9 +12,12 @@ use Rattle.bits.proofs.Programs.{run-bind}
 use Rattle.picture_state.specs.declared.types.{Sizes.Sizes, Matrices.Matrices, Stores.Stores, Picture.Picture}
 use Rattle.picture_state.specs.State.{storesAs, freshBlock}
 use Rattle.picture_state.specs.Result.{Result, error, bindResult, pure}
+use Rattle.picture_state.specs.Stop.{Stop}
 use Rattle.picture.specs.Pictures as P
 use Rattle.standard.specs.Standard as S
-use Rattle.standard.proofs.Agreement.{Agree, run-lift, a-same, a-pure, a-bind, a-after, left-forbidden}
+use Rattle.standard.specs.Standard.Words.{Forbidden}
+use Rattle.standard.proofs.Agreement.{Agree, a-same, a-pure, a-bind, a-after, left-forbidden}
+use Rattle.picture_state.proofs.Runs.{run-lift}
 use Rattle.standard.proofs.Related.{Rule, coding}
 use Rattle.standard.proofs.Slice.{Begun}
 use Rattle.standard.proofs.Slices.{slices-agree}
@@ -31,7 +34,7 @@ pub record RefinesDecoded (d : S.Decoded) (f : P.PictureState) : Type 0 where
 
 module _ (rule : Rule) (s : List ℕ) (long : length s ≤ longestStream) (z : Sizes) (m : Matrices) where
   -- behind the header
-  abbrev theirs : S.Direction → S.Direction → ℕ → Stores → Stores → List ℕ → Prog (Result S.Decoded)
+  abbrev theirs : S.Direction → S.Direction → ℕ → Stores → Stores → List ℕ → Prog (Result Forbidden S.Decoded)
   theirs f b type before after l =
       bindResult (S.slices (coding rule (record { «picture_type» = type; sizes = z; stores = before }) m f b) l) (λ x.
       pure (record { header = record { «picture_coding_type» = type; forward = f; backward = b }; stores = after; pels = x }))
@@ -82,11 +85,11 @@ module _ (rule : Rule) (s : List ℕ) (long : length s ≤ longestStream) (z : S
   picture-agrees y df db a b none =
       let p = y .picture in
       let x : P.PictureHeader → P.PictureState = λ h. P.withPicture (P.withPictureHeader h p) y in
-      let K : Bool → P.PictureHeader → Prog (Result P.PictureState) = λ t h. cond t (P.slicesInRoles z m (x h)) (pure (x h)) in
-      let K′ : P.PictureHeader → Prog (Result P.PictureState) = λ h. K (P.isDecoded h) h in
+      let K : Bool → P.PictureHeader → Prog (Result Stop P.PictureState) = λ t h. cond t (P.slicesInRoles z m (x h)) (pure (x h)) in
+      let K′ : P.PictureHeader → Prog (Result Stop P.PictureState) = λ h. K (P.isDecoded h) h in
       a-same (run-lift P.pictureHeader K′ s a ∙ sym (run-bind P.pictureHeader K′ s a)) (
       a-bind _ _ (header-agrees s p df db b a) (λ h k e r.
-      let their : ℕ → Prog (Result S.Decoded) = λ type.
+      let their : ℕ → Prog (Result Forbidden S.Decoded) = λ type.
       theirs (h .forward) (h .backward) type (S.references type (p .stores)) (S.rolesAfter type (p .stores)) (y .store) in
       a-same (ap (λ (t : Bool). run (K t k) s e) (sym (r .decoded))) (
       subst (λ (type : ℕ). Agree RefinesDecoded s e (their type) (P.slicesInRoles z m (x k))) (r .type) (
@@ -95,5 +98,5 @@ module _ (rule : Rule) (s : List ℕ) (long : length s ≤ longestStream) (z : S
   -- so a picture that conforms never ends with 8 or 9 (RULES Q8, Q9)
   pub never-leaves : (y : P.PictureState) (df db : S.Direction) (a : ℕ) → Begun df db (y .picture .slice) → y .«block_data» ≡ freshBlock
       → S.conforms (run (S.picture (rule .rules) z m (y .picture .stores) df db (y .store)) s a .value) ≡ true
-      → (n : ℕ) (k : List ℕ) → run (P.picture z m y) s a .value ≡ error n k → ⊥
-  never-leaves y df db a b none c n k e = absurd (true≢false (sym c ∙ left-forbidden (picture-agrees y df db a b none) n k e))
+      → (q : Stop) → run (P.picture z m y) s a .value ≡ error q → ⊥
+  never-leaves y df db a b none c q e = absurd (true≢false (sym c ∙ left-forbidden (picture-agrees y df db a b none) q e))

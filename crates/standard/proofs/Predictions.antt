@@ -19,33 +19,39 @@ use Rattle.prediction.specs.declared.planes.Plane.the-variants.{Y, Cr, Cb}
 use Rattle.prediction.specs.declared.predict.Predicted.{Predicted}
 use Rattle.prediction.specs.declared.predict.Predicted.the-variants.{Done, Refused}
 use Rattle.prediction.specs.Predict.{BlockInPlane, blockOf, macroblockAt, width, height, bytes, address, fetch, predicted, chroma, inHalves}
-use Rattle.prediction.specs.Planes.{After, blockSize, macroblocks, planeStart, follow, thenPlane, ofStores, predictedPlanes}
+use Rattle.prediction.specs.Planes.{PlaneAfter, ofPlane, blockSize, macroblocks, planeStart, follow, thenPlane, ofStores, predictedPlanes}
 use Rattle.prediction.specs.Samples.{storedSample}
 use Rattle.prediction.specs.Standard.{whole, chrominance, pel, interpolated, InPicture}
 use Rattle.prediction.proofs.Standard as L
 use Rattle.picture_state.specs.Result.{Result, ok, error, andThen}
+use Rattle.picture_state.specs.Stop.{Stop}
 use Rattle.macroblock_head.specs.Predictions as P
 use Rattle.standard.specs.Standard as S
+use Rattle.standard.specs.Standard.Words.{Forbidden}
 use Rattle.standard.proofs.Agreement.{ResultMeets}
 use Rattle.standard.proofs.Related.{motionOf}
 
-pub also-meets : {A B C D : Type 0} {R : A → B → Type 0} (Q : C → D → Type 0) (w : Result A) (u : Result B) (f : A → Result C) (k : B → Result D)
+pub also-meets : {A B C D : Type 0} {R : A → B → Type 0} (Q : C → D → Type 0) (w : Result Forbidden A) (u : Result Stop B)
+    (f : A → Result Forbidden C) (k : B → Result Stop D)
     → ResultMeets R w u
     → ((x : A) (y : B) → R x y → ResultMeets Q (f x) (k y)) → ResultMeets Q (andThen w f) (andThen u k)
 unfolding andThen
 also-meets Q (ok x) (ok y) f k h m = m x y h
-also-meets Q (ok x) (error n l) f k h m = absurd h
-also-meets Q (error n l) u f k h m = tt
+also-meets Q (ok x) (error d) f k h m = absurd h
+also-meets Q (error d) u f k h m = tt
 
 -- a refusal ends the prediction and leaves with 9
-refused-next : (o : After) (f : List ℕ → After) → P.unlessRefused (thenPlane o f) ≡ andThen (P.unlessRefused o) (λ l. P.unlessRefused (f l))
+refused-next : (n : ℕ) (o : PlaneAfter) (f : List ℕ → PlaneAfter)
+    → P.unlessRefused n (thenPlane o f) ≡ andThen (P.unlessRefused n o) (λ l. P.unlessRefused n (f l))
 unfolding P.unlessRefused thenPlane andThen
-refused-next o f = go (o .answer) (o .store)
+refused-next n o f = go (o .answer)
   where
-    go : (a : Predicted) (l : List ℕ) → P.unlessRefused (thenPlane (record { store = l; answer = a }) f)
-        ≡ andThen (P.unlessRefused (record { store = l; answer = a })) (λ l. P.unlessRefused (f l))
-    go Done l = refl
-    go Refused l = refl
+    answered : Predicted → PlaneAfter
+    answered a = record { plane = o .plane; h = o .h; v = o .v; store = o .store; answer = a }
+
+    go : (a : Predicted) → P.unlessRefused n (thenPlane (answered a) f) ≡ andThen (P.unlessRefused n (answered a)) (λ l. P.unlessRefused n (f l))
+    go Done = refl
+    go Refused = refl
 
 size-of : (q : Plane) → (blockSize q ≡ 8) ⊎ (blockSize q ≡ 16)
 size-of Y = inr refl
@@ -60,7 +66,7 @@ averaged true a b = L.two-rounded a b
 averaged false a b = refl
 
 -- the planes of Cr and Cb behind that of Y
-abbrev rest : S.Coding → Macroblock → ℕ → Bool → ℤ → ℤ → List ℕ → Result (List ℕ)
+abbrev rest : S.Coding → Macroblock → ℕ → Bool → ℤ → ℤ → List ℕ → Result Forbidden (List ℕ)
 rest g m k average right down l =
     andThen (S.predictedPlane g m k average Cr (chrominance right) (chrominance down) l)
     (S.predictedPlane g m k average Cb (chrominance right) (chrominance down))
@@ -106,10 +112,10 @@ module _ (p : BlockPosition) (size : (p .size ≡ 8) ⊎ (p .size ≡ 16)) (righ
       ∙ averaged average (getD d (address p + y * width p + x) 0) (pel s (width p) right down (p .row * p .size + y) (p .column * p .size + x)))
 
 -- one plane
-plane-meets : (g : S.Coding) (m : Macroblock) (k : ℕ) (average : Bool) (q : Plane) (right down : ℤ) (l : List ℕ)
-    → ResultMeets _≡_ (S.predictedPlane g m k average q right down l) (P.unlessRefused (ofStores m k (g .context .stores .cur) average q right down l))
+plane-meets : (g : S.Coding) (n : ℕ) (m : Macroblock) (k : ℕ) (average : Bool) (q : Plane) (right down : ℤ) (l : List ℕ)
+    → ResultMeets _≡_ (S.predictedPlane g m k average q right down l) (P.unlessRefused n (ofStores m k (g .context .stores .cur) average q right down l))
 unfolding S.predictedPlane P.unlessRefused follow
-plane-meets g m k average q right down l = go (S.inPicture p right down) refl
+plane-meets g n m k average q right down l = go (S.inPicture p right down) refl
   where
     p : BlockPosition
     p = blockOf m (blockSize q)
@@ -122,7 +128,7 @@ plane-meets g m k average q right down l = go (S.inPicture p right down) refl
 
     go : (t : Bool) → S.inPicture p right down ≡ t
         → ResultMeets _≡_ (cond t (ok (putMid to (bytes p) l (S.pels p (midOf from (bytes p) l) (midOf to (bytes p) l) right down average))) S.forbidden)
-        (P.unlessRefused (follow (fetch p right down) p from to right down average l))
+        (P.unlessRefused n (ofPlane q right down (follow (fetch p right down) p from to right down average l)))
     go true e =
         rw (L.is-copied (placed p (size-of q) right down e) right down (inside p (size-of q) right down e))
         (ap (putMid to (bytes p) l) (sym (pels-same p (size-of q) right down e (midOf from (bytes p) l) (midOf to (bytes p) l) average)))
@@ -136,19 +142,19 @@ from-meets g address k d set x average l =
     let m = macroblockAt (g .context .sizes .«mb_width») (g .context .sizes .«mb_height») address in
     let right = inHalves (d .«full_pel_vector») (x .right) in
     let down = inHalves (d .«full_pel_vector») (x .down) in
-    let plane = plane-meets g m k average in
+    let plane = plane-meets g address m k average in
     let ours = ofStores m k (g .context .stores .cur) average in
     subst (ResultMeets _≡_ (S.predictedFrom g address k d x average l))
-    (sym (refused-next (ours Y right down l) (λ s. thenPlane (ours Cr (chroma right) (chroma down) s) (ours Cb (chroma right) (chroma down))))) (
-    also-meets _≡_ (S.predictedPlane g m k average Y right down l) (P.unlessRefused (ours Y right down l)) _ _ (plane Y right down l) (λ a b e.
+    (sym (refused-next address (ours Y right down l) (λ s. thenPlane (ours Cr (chroma right) (chroma down) s) (ours Cb (chroma right) (chroma down))))) (
+    also-meets _≡_ (S.predictedPlane g m k average Y right down l) (P.unlessRefused address (ours Y right down l)) _ _ (plane Y right down l) (λ a b e.
     subst (λ (b : List ℕ). ResultMeets _≡_ (rest g m k average right down a)
-    (P.unlessRefused (thenPlane (ours Cr (chroma right) (chroma down) b) (ours Cb (chroma right) (chroma down))))) e (
+    (P.unlessRefused address (thenPlane (ours Cr (chroma right) (chroma down) b) (ours Cb (chroma right) (chroma down))))) e (
     subst (ResultMeets _≡_ (rest g m k average right down a))
-    (sym (refused-next (ours Cr (chroma right) (chroma down) a) (ours Cb (chroma right) (chroma down)))) (
+    (sym (refused-next address (ours Cr (chroma right) (chroma down) a) (ours Cb (chroma right) (chroma down)))) (
     rw (L.chrominance-is right, L.chrominance-is down)
     (also-meets _≡_ (S.predictedPlane g m k average Cr (chrominance right) (chrominance down) a)
-    (P.unlessRefused (ours Cr (chrominance right) (chrominance down) a)) _ _
+    (P.unlessRefused address (ours Cr (chrominance right) (chrominance down) a)) _ _
     (plane Cr (chrominance right) (chrominance down) a) (λ a b e.
     subst (λ (b : List ℕ). ResultMeets _≡_ (S.predictedPlane g m k average Cb (chrominance right) (chrominance down) a)
-    (P.unlessRefused (ours Cb (chrominance right) (chrominance down) b))) e
+    (P.unlessRefused address (ours Cb (chrominance right) (chrominance down) b))) e
     (plane Cb (chrominance right) (chrominance down) a)))))))

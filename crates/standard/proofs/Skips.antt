@@ -12,10 +12,12 @@ use Rattle.laws.proofs.Tests.{both}
 use Rattle.laws.proofs.Ints.{v, lit, _⊕_, _⊖_, le-yes, lt-yes, yes-lt}
 use Rattle.picture_state.specs.State.{SliceState, sliceState, freshBlock}
 use Rattle.picture_state.specs.Result.{Result, ok, error, andThen}
+use Rattle.picture_state.specs.Stop.{Stop}
 use Rattle.macroblock_head.specs.Predictions as P
 use Rattle.macroblock.specs.Macroblocks as M
 use Rattle.picture_state.specs.Flags.{flag}
 use Rattle.standard.specs.Standard as S
+use Rattle.standard.specs.Standard.Words.{Forbidden}
 use Rattle.standard.proofs.Agreement.{ResultMeets}
 use Rattle.standard.proofs.Related.{In, motionOf, Own, own, sliceOf, eights, pastStart, forNext, backNext, Related}
 use Rattle.standard.proofs.Heads.{zero-in}
@@ -29,28 +31,28 @@ module _ (g : S.Coding) (A : ℤ) (q : ℕ) (for back : S.Vector) (o : Own) (t a
   unfolding S.predicted P.predict P.predictBoth andThen
   predicted-meets e = go (eqb (g .context .«picture_type») 3) e
     where
-      X : Result (List ℕ)
+      X : Result Forbidden (List ℕ)
       X = S.predictedFrom g address (g .context .stores .fwd) (g .forward) for false l
 
-      X′ : Result (List ℕ)
+      X′ : Result Stop (List ℕ)
       X′ = P.predictFrom (g .context) address (g .context .stores .fwd) (motionOf (g .forward) (o .forSet) for) false l
 
-      Y : List ℕ → Result (List ℕ)
+      Y : List ℕ → Result Forbidden (List ℕ)
       Y = S.predictedFrom g address (g .context .stores .bwd) (g .backward) back true
 
-      Y′ : List ℕ → Result (List ℕ)
+      Y′ : List ℕ → Result Stop (List ℕ)
       Y′ = P.predictFrom (g .context) address (g .context .stores .bwd) (motionOf (g .backward) (o .backSet) back) true
 
-      Z : Result (List ℕ)
+      Z : Result Forbidden (List ℕ)
       Z = S.predictedFrom g address (g .context .stores .bwd) (g .backward) back false l
 
-      Z′ : Result (List ℕ)
+      Z′ : Result Stop (List ℕ)
       Z′ = P.predictFrom (g .context) address (g .context .stores .bwd) (motionOf (g .backward) (o .backSet) back) false l
 
-      idle : (w u : Result (List ℕ)) → ResultMeets _≡_ w u → ResultMeets _≡_ w (andThen u (λ l. ok l))
+      idle : (w : Result Forbidden (List ℕ)) (u : Result Stop (List ℕ)) → ResultMeets _≡_ w u → ResultMeets _≡_ w (andThen u (λ l. ok l))
       idle (ok x) (ok y) h = h
-      idle (ok x) (error n l) h = h
-      idle (error n l) u h = tt
+      idle (ok x) (error d) h = h
+      idle (error d) u h = tt
 
       flags : (F B : Bool)
           → ResultMeets _≡_ (cond (F && B) (andThen X Y) (cond F X (cond B Z S.forbidden))) (cond F (andThen X′ (λ l. cond B (Y′ l) (ok l))) Z′)
@@ -104,12 +106,13 @@ far-by true x n h l =
 far-by false x n h l =
     yes-lt (lit 1) (v (x .«previous_macroblock_address») ⊕ lit n ⊖ v (x .«past_intra_address»)) (omega (arith, le-yes (v (x .«past_intra_address»)) (v _) h))
 
-right-meets : {A B D : Type 0} {R : A → B → Type 0} (Q : A → D → Type 0) (w : Result A) (u : Result B) (k : B → Result D) → ResultMeets R w u
+right-meets : {A B D : Type 0} {R : A → B → Type 0} (Q : A → D → Type 0) (w : Result Forbidden A) (u : Result Stop B) (k : B → Result Stop D)
+    → ResultMeets R w u
     → ((x : A) (y : B) → R x y → ResultMeets Q (ok x) (k y)) → ResultMeets Q w (andThen u k)
 unfolding andThen
 right-meets Q (ok x) (ok y) k h m = m x y h
-right-meets Q (ok x) (error n l) k h m = absurd h
-right-meets Q (error n l) u k h m = tt
+right-meets Q (ok x) (error d) k h m = absurd h
+right-meets Q (error d) u k h m = tt
 
 not-true : (b : Bool) → not b ≡ true → b ≡ false
 not-true true e = absurd (false≢true e)

@@ -17,10 +17,13 @@ use Rattle.bits.proofs.Programs.{run-bind}
 use Rattle.picture_state.specs.declared.types.{Context.Context, Matrices.Matrices, Slice.Slice}
 use Rattle.picture_state.specs.State.{SliceState, withSlice, freshBlock}
 use Rattle.picture_state.specs.Result.{Result, ok, error}
+use Rattle.picture_state.specs.Stop.{Stop}
 use Rattle.macroblock.specs.Macroblocks as M
 use Rattle.slice.specs.Slices as O
 use Rattle.standard.specs.Standard as S
-use Rattle.standard.proofs.Agreement.{Meets, StepMeets, Agree, run-lift, a-by, a-loop}
+use Rattle.standard.specs.Standard.Words.{Forbidden}
+use Rattle.standard.proofs.Agreement.{Meets, StepMeets, Agree, a-by, a-loop}
+use Rattle.picture_state.proofs.Runs.{run-lift}
 use Rattle.standard.proofs.Related.{motionOf, own, Related, Rule, coding}
 use Rattle.standard.proofs.Heads.{zero-in}
 use Rattle.standard.proofs.Macroblock.{macroblock-agrees}
@@ -43,12 +46,12 @@ module _ (rule : Rule) (g : Context) (m : Matrices) (df db : S.Direction) (s : L
   abbrev C : S.Coding
   C = coding rule g m df db
 
-  abbrev Turns : Out (Step S.SliceLoopState (Result S.Variables)) → Out (Step O.SliceLoopState (Result SliceState)) → Type 0
+  abbrev Turns : Out (Step S.SliceLoopState (Result Forbidden S.Variables)) → Out (Step O.SliceLoopState (Result Stop SliceState)) → Type 0
   Turns o u = StepMeets (Between C) (Related C false) (o .value) (o .at) (u .value) (u .at)
 
   -- the end of a slice
   module _ (x : S.Variables) (w : SliceState) (e : ℕ) (r : Related C false x w) where
-    abbrev theirs : Bool → Bool → Bool → Prog (Step S.SliceLoopState (Result S.Variables))
+    abbrev theirs : Bool → Bool → Bool → Prog (Step S.SliceLoopState (Result Forbidden S.Variables))
     theirs h z more = cond (not h) (done (finish S.forbidden))
         (cond z (done (finish (ok x))) (cond more (done (continue (record { first = false; variables = x }))) (done (finish S.forbidden))))
 
@@ -91,9 +94,9 @@ module _ (rule : Rule) (g : Context) (m : Matrices) (df db : S.Direction) (s : L
         go true p = at-last p (has s e 23) (eqb (readAt s e 23) 0) isMore refl
         go false p = before-last (has s e 23) (eqb (readAt s e 23) 0) isMore
 
-  left : (n : ℕ) (l : List ℕ) (e : ℕ) (u : Out (Step O.SliceLoopState (Result SliceState))) → Turns (run (S.afterMacroblock C (error n l)) s e) u
+  left : (d : Forbidden) (e : ℕ) (u : Out (Step O.SliceLoopState (Result Stop SliceState))) → Turns (run (S.afterMacroblock C (error d)) s e) u
   unfolding S.afterMacroblock run
-  left n l e u = tt
+  left d e u = tt
 
   step-meets : (x : S.SliceLoopState) (y : O.SliceLoopState) (a : ℕ) → Between C x y → Turns (run (S.sliceStep C x) s a) (run (O.sliceStep g m y) s a)
   unfolding S.sliceStep O.sliceStep
@@ -109,12 +112,12 @@ module _ (rule : Rule) (g : Context) (m : Matrices) (df db : S.Direction) (s : L
       )
       (go (o .value) (o .at) (u .value) (u .at) (r .is))
     where
-      go : (x : Result S.Variables) (e : ℕ) (y : Result SliceState) (j : ℕ) → Meets (Related C false) x e y j
+      go : (x : Result Forbidden S.Variables) (e : ℕ) (y : Result Stop SliceState) (j : ℕ) → Meets (Related C false) x e y j
           → Turns (run (S.afterMacroblock C x) s e) (run (O.afterMacroblock g y) s j)
       go (ok x) e (ok y) j m = subst (λ (j : ℕ). Turns (run (S.afterMacroblock C (ok x)) s e) (run (O.afterMacroblock g (ok y)) s j)) (m .0)
           (past-meets x y e (m .1))
-      go (ok x) e (error n l) j m = absurd m
-      go (error n l) e y j m = left n l e _
+      go (ok x) e (error d) j m = absurd m
+      go (error d) e y j m = left d e _
 
   -- ---- the whole
 

@@ -17,9 +17,11 @@ use Rattle.bits.proofs.Programs.{run-bind}
 use Rattle.picture_state.specs.declared.types.{Context.Context, Matrices.Matrices, Stores.Stores, Picture.Picture}
 use Rattle.picture_state.specs.State.{SliceState, sliceState, startCodeAs, sliceAs, freshBlock}
 use Rattle.picture_state.specs.Result.{Result, ok, error}
+use Rattle.picture_state.specs.Stop.{Stop}
 use Rattle.slice.specs.Slices as O
 use Rattle.picture.specs.Pictures as P
 use Rattle.standard.specs.Standard as S
+use Rattle.standard.specs.Standard.Words.{Forbidden}
 use Rattle.standard.proofs.Agreement.{Meets, StepMeets, Agree, a-loop}
 use Rattle.standard.proofs.Related.{forNext, backNext, Related, Rule, coding}
 use Rattle.standard.proofs.Slice.{Begun, slice-agrees}
@@ -63,7 +65,7 @@ module _ (rule : Rule) (g : Context) (m : Matrices) (df db : S.Direction) (s : L
     pub same : y .begun ≡ x .begun
     pub shown : Shown (x .pels) (y .pictureState)
 
-  abbrev Turns : Out (Step S.SlicesLoopState (Result (List ℕ))) → Out (Step P.SlicesLoopState (Result P.PictureState)) → Type 0
+  abbrev Turns : Out (Step S.SlicesLoopState (Result Forbidden (List ℕ))) → Out (Step P.SlicesLoopState (Result Stop P.PictureState)) → Type 0
   Turns o u = StepMeets Kept Ended (o .value) (o .at) (u .value) (u .at)
 
   past-meets : (p : Picture) → p .«picture_type» ≡ ty → p .stores ≡ st → eqZ (p .«start_code») (pos 0) ≡ false
@@ -109,9 +111,9 @@ module _ (rule : Rule) (g : Context) (m : Matrices) (df db : S.Direction) (s : L
           let z : ⊥ = omega arith in
           absurd z
 
-  left : (n : ℕ) (l : List ℕ) (e : ℕ) (u : Out (Step P.SlicesLoopState (Result P.PictureState))) → Turns (run (S.afterSlice C (error n l)) s e) u
+  left : (d : Forbidden) (e : ℕ) (u : Out (Step P.SlicesLoopState (Result Stop P.PictureState))) → Turns (run (S.afterSlice C (error d)) s e) u
   unfolding S.afterSlice run
-  left n l e u = tt
+  left d e u = tt
 
   -- a slice, in the frame that has kept its start code
   slice-meets : (c : ℤ) (l : List ℕ) (p : Picture) → p .«picture_type» ≡ ty → p .stores ≡ st → eqZ (p .«start_code») (pos 0) ≡ false
@@ -124,12 +126,12 @@ module _ (rule : Rule) (g : Context) (m : Matrices) (df db : S.Direction) (s : L
       (go (run (S.slice C (natAbs c) (w .store)) s e .value) (run (S.slice C (natAbs c) (w .store)) s e .at) _ _
       (slice-agrees rule g m df db s long (natAbs c) w e b none .is)))
     where
-      go : (x : Result S.Variables) (e : ℕ) (y : Result SliceState) (j : ℕ) → Meets (Related C false) x e y j
+      go : (x : Result Forbidden S.Variables) (e : ℕ) (y : Result Stop SliceState) (j : ℕ) → Meets (Related C false) x e y j
           → Turns (run (S.afterSlice C x) s e) (run (P.afterSlice g p y) s j)
       go (ok x) e (ok y) j m = subst (λ (j : ℕ). Turns (run (S.afterSlice C (ok x)) s e) (run (P.afterSlice g p (ok y)) s j)) (m .0)
           (past-meets p pt ps pc x y e (m .1))
-      go (ok x) e (error n l) j m = absurd m
-      go (error n l) e y j m = left n l e _
+      go (ok x) e (error d) j m = absurd m
+      go (error d) e y j m = left d e _
 
   turn-meets : (x : S.SlicesLoopState) (y : P.SlicesLoopState) (a : ℕ) → Kept x y → Turns (run (S.slicesStep C x) s a) (run (P.slicesStep g m y) s a)
   unfolding S.slicesStep P.slicesStep bind run

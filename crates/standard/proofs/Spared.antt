@@ -25,43 +25,46 @@ use Rattle.prediction.specs.Writers.{overwrite, addBlock, blockAddress, blockWi
 use Rattle.picture_state.specs.declared.types.{Stores.Stores, Sizes.Sizes, Matrices.Matrices}
 use Rattle.picture_state.specs.Result.{Result, ok, error, andThen, ifOk, bindResult, forBelow}
 use Rattle.standard.specs.Standard as S
+use Rattle.standard.specs.Standard.Words.{Forbidden}
 use Rattle.standard.proofs.Agreement.{ResultIs}
 
 -- ---- rules
 
-is-also : {A B : Type 0} (P : A → Type 0) (Q : B → Type 0) (w : Result A) (f : A → Result B) → ResultIs P w → ((x : A) → P x → ResultIs Q (f x))
+is-also : {A B : Type 0} (P : A → Type 0) (Q : B → Type 0) (w : Result Forbidden A) (f : A → Result Forbidden B) → ResultIs P w
+    → ((x : A) → P x → ResultIs Q (f x))
     → ResultIs Q (andThen w f)
 unfolding andThen
 is-also P Q (ok x) f h k = k x h
-is-also P Q (error n l) f h k = tt
+is-also P Q (error d) f h k = tt
 
 module _ {s : List ℕ} where
-  g-onward : {A B : Type 0} {P : A → Type 0} {Q : B → Type 0} {p : Prog (Result A)} (f : A → Prog (Result B)) → Gives s (ResultIs P) p
+  g-onward : {A B : Type 0} {P : A → Type 0} {Q : B → Type 0} {p : Prog (Result Forbidden A)} (f : A → Prog (Result Forbidden B)) → Gives s (ResultIs P) p
       → ((x : A) → P x → Gives s (ResultIs Q) (f x)) → Gives s (ResultIs Q) (bindResult p f)
   unfolding bindResult ifOk
   g-onward {A} {B} {P} {Q} {p} f g k = g-bind (ifOk f) g go
     where
-      go : (w : Result A) → ResultIs P w → Gives s (ResultIs Q) (ifOk f w)
+      go : (w : Result Forbidden A) → ResultIs P w → Gives s (ResultIs Q) (ifOk f w)
       go (ok x) h = k x h
-      go (error n l) h = g-done tt
+      go (error d) h = g-done tt
 
-  g-each : {A : Type 0} {P : A → Type 0} (n : ℕ) (f : ℕ → A → Prog (Result A)) → ((i : ℕ) (x : A) → P x → Gives s (ResultIs P) (f i x)) → {x : A} → P x
+  g-each : {A : Type 0} {P : A → Type 0} (n : ℕ) (f : ℕ → A → Prog (Result Forbidden A)) → ((i : ℕ) (x : A) → P x → Gives s (ResultIs P) (f i x))
+      → {x : A} → P x
       → Gives s (ResultIs P) (forBelow n f x)
   unfolding ifOk
   g-each {A} {P} n f keeps h = g-for n (λ i. ifOk (f i)) go h
     where
-      go : (i : ℕ) → i < n → (w : Result A) → ResultIs P w → Gives s (ResultIs P) (ifOk (f i) w)
+      go : (i : ℕ) → i < n → (w : Result Forbidden A) → ResultIs P w → Gives s (ResultIs P) (ifOk (f i) w)
       go i k (ok x) h = keeps i x h
-      go i k (error n l) h = g-done tt
+      go i k (error d) h = g-done tt
 
   -- whatever the first gives
-  g-then : {A B : Type 0} {Q : B → Type 0} (p : Prog (Result A)) (f : A → Prog (Result B)) → ((x : A) → Gives s (ResultIs Q) (f x))
+  g-then : {A B : Type 0} {Q : B → Type 0} (p : Prog (Result Forbidden A)) (f : A → Prog (Result Forbidden B)) → ((x : A) → Gives s (ResultIs Q) (f x))
       → Gives s (ResultIs Q) (bindResult p f)
   g-then {A} {B} {Q} p f k = g-onward {P = λ x. Unit {0}} f (record { value = λ a. go (run p s a .value) }) (λ x u. k x)
     where
-      go : (w : Result A) → ResultIs (λ x. Unit {0}) w
+      go : (w : Result Forbidden A) → ResultIs (λ x. Unit {0}) w
       go (ok x) = tt
-      go (error n l) = tt
+      go (error d) = tt
 
 -- ---- lengths
 
@@ -217,10 +220,10 @@ module _ (g : S.Coding) (l : List ℕ) (three : g .context .stores .cur * (384 *
 
     -- ---- slices
 
-    past-spared : (w : Result S.Variables) → ResultIs Variables w
+    past-spared : (w : Result Forbidden S.Variables) → ResultIs Variables w
         → Gives s (OnStep (λ (x : S.SliceLoopState). Variables (x .variables)) (ResultIs Variables)) (S.afterMacroblock g w)
     unfolding S.afterMacroblock run
-    past-spared (error n l) h = g-done tt
+    past-spared (error d) h = g-done tt
     past-spared (ok v) h = record { value = λ a. go (has s a 23) (eqb (readAt s a 23) 0) (S.isMore g v) a }
       where
         go : (t u more : Bool) (a : ℕ) → OnStep (λ (x : S.SliceLoopState). Variables (x .variables)) (ResultIs Variables)
@@ -238,9 +241,9 @@ module _ (g : S.Coding) (l : List ℕ) (three : g .context .stores .cur * (384 *
         g-loop (λ (x : S.SliceLoopState). Variables (x .variables)) many (S.sliceStep g) S.forbidden
         (λ y i. g-bind (S.afterMacroblock g) (macroblock-spared (y .first) (y .variables) i) past-spared) tt _ h))
 
-    past-slice-spared : (w : Result S.Variables) → ResultIs Variables w → Gives s (OnStep Slices (ResultIs Same)) (S.afterSlice g w)
+    past-slice-spared : (w : Result Forbidden S.Variables) → ResultIs Variables w → Gives s (OnStep Slices (ResultIs Same)) (S.afterSlice g w)
     unfolding S.afterSlice
-    past-slice-spared (error n l) h = g-done tt
+    past-slice-spared (error d) h = g-done tt
     past-slice-spared (ok v) h = g-if (S.isMore g v) (λ e. g-done h) (λ e. g-done h)
 
     step-spared : (x : S.SlicesLoopState) → Slices x → Gives s (OnStep Slices (ResultIs Same)) (S.slicesStep g x)

@@ -14,7 +14,7 @@ use Rattle.macroblock_head.specs.Heads.{macroblockType}
 use Rattle.slice.specs.Slices.{extra}
 
 -- 2.4.2.7: macroblock_stuffing, macroblock_escape (each adds 33), macroblock_address_increment (Table B.1)
-unfoldable pub increment : Prog (Result ℕ)
+unfoldable pub increment : Prog (Result Forbidden ℕ)
 increment = do
   while 11 0b00000001111 (λ x. x) 0
   escapes ← while 11 0b00000001000 (λ x. x + 33) 0
@@ -23,7 +23,7 @@ increment = do
   pure (escapes + code)
 
 -- 2.4.2.7: from macroblock_type on, at the address n behind the last one, which was of the type `last`
-unfoldable pub codedMacroblock : Coding → Bool → ℕ → ℕ → Variables → List ℕ → Prog (Result Variables)
+unfoldable pub codedMacroblock : Coding → Bool → ℕ → ℕ → Variables → List ℕ → Prog (Result Forbidden Variables)
 codedMacroblock g first n last v l = do
   let address = v .«previous_macroblock_address» +ℤ pos n
   t ← lift (macroblockType (g .context .«picture_type»))
@@ -46,7 +46,7 @@ codedMacroblock g first n last v l = do
   })
 
 -- 2.4.3.6: macroblock_address = previous_macroblock_address + macroblock_address_increment, in the picture; the macroblocks between are skipped
-unfoldable pub macroblock : Coding → Bool → Variables → Prog (Result Variables)
+unfoldable pub macroblock : Coding → Bool → Variables → Prog (Result Forbidden Variables)
 macroblock g first v = do
   n ← increment
   let address = v .«previous_macroblock_address» +ℤ pos n
@@ -64,14 +64,14 @@ abbrev pub isMore : Coding → Variables → Bool
 isMore g v = ltZ (v .«previous_macroblock_address» +ℤ pos 1) (pos (g .context .sizes .«mb_size»))
 
 -- 2.4.2.6: do macroblock() while (nextbits() != '000 0000 0000 0000 0000 0000')
-unfoldable pub afterMacroblock : Coding → Result Variables → Prog (Step SliceLoopState (Result Variables))
-afterMacroblock g (error n l) = done (finish (error n l))
+unfoldable pub afterMacroblock : Coding → Result Forbidden Variables → Prog (Step SliceLoopState (Result Forbidden Variables))
+afterMacroblock g (error e) = done (finish (error e))
 afterMacroblock g (ok v) = look 23 λ h x.
     if not h then done (finish forbidden)
     else if eqb x 0 then done (finish (ok v))
     else if isMore g v then done (continue (record { first = false; variables = v })) else done (finish forbidden)
 
-unfoldable pub sliceStep : Coding → SliceLoopState → Prog (Step SliceLoopState (Result Variables))
+unfoldable pub sliceStep : Coding → SliceLoopState → Prog (Step SliceLoopState (Result Forbidden Variables))
 sliceStep g x = bind (macroblock g (x .first) (x .variables)) (afterMacroblock g)
 
 -- 2.4.3.6: previous_macroblock_address = (slice_vertical_position - 1) * mb_width - 1. 2.4.4.1: past_intra_address = -2. What else stands is not used
@@ -88,14 +88,14 @@ sliceStart g position q l = record {
 }
 
 -- 2.4.2.6: quantizer_scale, extra_information_slice, macroblocks
-unfoldable pub slice : Coding → ℕ → List ℕ → Prog (Result Variables)
+unfoldable pub slice : Coding → ℕ → List ℕ → Prog (Result Forbidden Variables)
 slice g position l = do
   q ← lift (bits 5)
   lift extra
   loop many (sliceStep g) forbidden (record { first = true; variables = sliceStart g position q l })
 
 -- 2.4.2.5, 2.4.3.4: full_pel_.._vector, .._f_code; .._r_size = .._f_code - 1, and 0 is forbidden
-unfoldable pub direction : Prog (Result Direction)
+unfoldable pub direction : Prog (Result Forbidden Direction)
 direction = do
   full ← field 1
   code ← field 3
@@ -109,7 +109,7 @@ pub record Header : Type 0 where
   pub backward : Direction
 
 -- 2.4.3.4: picture_coding_type is I, P or B; extra_bit_picture is 0, since extra_information_picture is reserved, and next_start_code() passes it over
-unfoldable pub header : Direction → Direction → Prog (Result Header)
+unfoldable pub header : Direction → Direction → Prog (Result Forbidden Header)
 header f b = do
   temporal ← field 10
   type ← field 3
@@ -127,18 +127,18 @@ pub record SlicesLoopState : Type 0 where
   pub pels : List ℕ
 
 -- 2.4.2.5: do slice() while a slice start code follows, which one does until the last macroblock is reached (2.4.3.5)
-unfoldable pub afterSlice : Coding → Result Variables → Prog (Step SlicesLoopState (Result (List ℕ)))
-afterSlice g (error n l) = done (finish (error n l))
+unfoldable pub afterSlice : Coding → Result Forbidden Variables → Prog (Step SlicesLoopState (Result Forbidden (List ℕ)))
+afterSlice g (error e) = done (finish (error e))
 afterSlice g (ok v) = if isMore g v then done (continue (record { begun = true; pels = v .pels })) else done (finish (ok (v .pels)))
 
 -- 2.4.2.5: next_start_code(), then a slice (01 to AF); before the first one extension data (B5) and user data (B2), which end at the next start code
-unfoldable pub slicesStep : Coding → SlicesLoopState → Prog (Step SlicesLoopState (Result (List ℕ)))
+unfoldable pub slicesStep : Coding → SlicesLoopState → Prog (Step SlicesLoopState (Result Forbidden (List ℕ)))
 slicesStep g x = bind nextStartCode λ c.
     if leZ (pos 1) c && leZ c (pos 0xaf) then bind (slice g (natAbs c) (x .pels)) (afterSlice g)
     else if (eqZ c (pos 0xb2) || eqZ c (pos 0xb5))
     && not (x .begun) then done (continue (record { begun = false; pels = x .pels })) else done (finish forbidden)
 
-unfoldable pub slices : Coding → List ℕ → Prog (Result (List ℕ))
+unfoldable pub slices : Coding → List ℕ → Prog (Result Forbidden (List ℕ))
 slices g l = loop many (slicesStep g) forbidden (record { begun = false; pels = l })
 
 -- 2.4.4: the store `bwd` has the last I or P picture decoded, `fwd` the one before it. A P picture is predicted from the last, a B picture from both
@@ -155,7 +155,7 @@ pub record Decoded : Type 0 where
   pub pels : List ℕ
 
 -- 2.4.2.5: header and slices; f and b stand for a direction of which the header says nothing
-unfoldable pub picture : Rules → Sizes → Matrices → Stores → Direction → Direction → List ℕ → Prog (Result Decoded)
+unfoldable pub picture : Rules → Sizes → Matrices → Stores → Direction → Direction → List ℕ → Prog (Result Forbidden Decoded)
 picture r z m t f b l = do
   h ← header f b
   let type = h .«picture_coding_type»

@@ -6,7 +6,7 @@ use Rattle.prediction.specs.{Planes.planeOf, Planes.planeLength, Writers.overwr
 use Rattle.blocks.specs.Blocks.{matrixFor}
 use Rattle.standard.specs.Standard.Words.{Bool, true, false, _&&_, _||_, List, [], _∷_, ℕ, _+_, _-_, _^_, eqb, ltb, ℤ, pos, negℤ, _+ℤ_}
 use Rattle.standard.specs.Standard.Words.{_-ℤ_, _*ℤ_, getD, set, replicate, ltZ, leZ, midOf, putMid, Prog, bits, if_then_else_, macroblockAt, planeStart}
-use Rattle.standard.specs.Standard.Words.{Result, ok, lift, fromResult, pure, forBelow, _>>=_, _>>_, flag, forbidden, shall}
+use Rattle.standard.specs.Standard.Words.{Result, ok, lift, fromResult, pure, forBelow, _>>=_, _>>_, flag, Forbidden, forbidden, shall}
 use Rattle.standard.specs.Standard.State.{Coding, Pasts, pasts, Variables}
 
 -- dct_recon so far, row by row, and how many places of the zig-zag order are used
@@ -15,7 +15,7 @@ pub record Filled : Type 0 where
   pub n : ℕ
 
 -- 2.4.3.7: i = i + run + 1; dct_zz[i] = level. 2.4.4.1, 2.4.4.2: dct_recon[m][n], where scan[m][n] is i
-unfoldable pub reconstructed : Coding → Bool → ℕ → Filled → List Pair → Result Filled
+unfoldable pub reconstructed : Coding → Bool → ℕ → Filled → List Pair → Result Forbidden Filled
 reconstructed g intra scale f [] = ok f
 reconstructed g intra scale f (p ∷ ps) =
     let position = getD zigZag (f .n + p .run) 0 in
@@ -25,11 +25,11 @@ reconstructed g intra scale f (p ∷ ps) =
     else forbidden
 
 -- up to end_of_block, within the 64 places
-abbrev pub coefficients : Coding → Bool → ℕ → Filled → PairsEnd → Result Filled
+abbrev pub coefficients : Coding → Bool → ℕ → Filled → PairsEnd → Result Forbidden Filled
 coefficients g intra scale f p = elim (p .end) [ Whole ↦ reconstructed g intra scale f (p .pairs) | Dropped ↦ forbidden | Outside ↦ forbidden ]
 
 -- 2.4.2.8, 2.4.3.7: dct_dc_size_.., dct_dc_differential, and dct_zz[0] from them
-unfoldable pub dctDc : ℕ → Prog (Result ℤ)
+unfoldable pub dctDc : ℕ → Prog (Result Forbidden ℤ)
 dctDc i = do
   size ← lift (dcSize (ltb i 4))
   if eqb size 0 then pure (pos 0) else do
@@ -64,7 +64,7 @@ written g intra i address f l =
     putMid start size l (if intra then overwrite before (blockAddress m i) (blockWidth m i) x else addBlock before (blockAddress m i) (blockWidth m i) x)
 
 -- 2.4.4.1: dct_dc_.._past = dct_recon[0][0], in the 12 bits that the transform takes (Annex A)
-unfoldable pub intraBlock : Coding → Bool → ℕ → ℕ → ℕ → Blocks → Prog (Result Blocks)
+unfoldable pub intraBlock : Coding → Bool → ℕ → ℕ → ℕ → Blocks → Prog (Result Forbidden Blocks)
 intraBlock g isFar scale address i b = do
   zz ← dctDc i
   let recon = dcPredictor isFar i (b .past) +ℤ pos 8 *ℤ zz
@@ -74,7 +74,7 @@ intraBlock g isFar scale address i b = do
   pure (record { past = pastAs i recon (b .past); pels = written g true i address f (b .pels) })
 
 -- 2.4.4.2
-unfoldable pub nonIntraBlock : Coding → ℕ → ℕ → ℕ → Blocks → Prog (Result Blocks)
+unfoldable pub nonIntraBlock : Coding → ℕ → ℕ → ℕ → Blocks → Prog (Result Forbidden Blocks)
 nonIntraBlock g scale address i b = do
   p ← lift (pairs 0)
   f ← fromResult (coefficients g false scale (record { recon = replicate 64 (pos 0); n = 0 }) p)
@@ -85,10 +85,10 @@ abbrev pub patternCode : Bool → ℕ → ℕ → Bool
 patternCode intra cbp i = flag cbp (2 ^ (5 - i)) || intra
 
 -- 2.4.2.8: block(i), if (pattern_code[i])
-abbrev pub block : Coding → Bool → Bool → ℕ → ℕ → ℕ → ℕ → Blocks → Prog (Result Blocks)
+abbrev pub block : Coding → Bool → Bool → ℕ → ℕ → ℕ → ℕ → Blocks → Prog (Result Forbidden Blocks)
 block g intra isFar cbp scale address i b =
     if patternCode intra cbp i then (if intra then intraBlock g isFar scale address i b else nonIntraBlock g scale address i b) else pure b
 
 -- 2.4.2.7: for (i = 0; i < 6; i++) block(i)
-unfoldable pub blocks : Coding → Bool → Bool → ℕ → ℕ → ℕ → Blocks → Prog (Result Blocks)
+unfoldable pub blocks : Coding → Bool → Bool → ℕ → ℕ → ℕ → Blocks → Prog (Result Forbidden Blocks)
 blocks g intra isFar cbp scale address b = forBelow 6 (block g intra isFar cbp scale address) b

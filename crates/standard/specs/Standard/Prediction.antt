@@ -7,7 +7,7 @@ use Rattle.prediction.specs.Predict.{blockOf, width, height, bytes, address, in
 use Rattle.prediction.specs.{Planes.blockSize, Planes.macroblocks, Standard.whole, Standard.half, Standard.chrominance, Standard.pel, Standard.interpolated}
 use Rattle.standard.specs.Standard.Words.{Bool, true, false, not, _&&_, _||_, List, ℕ, zero, suc, _+_, _-_, _*_, eqb, ltb, leb, ℤ, pos, natAbs}
 use Rattle.standard.specs.Standard.Words.{_+ℤ_, getD, leZ, midOf, putMid, Prog, if_then_else_, macroblockAt, planeStart, Result, ok, andThen}
-use Rattle.standard.specs.Standard.Words.{lift, pure, _>>=_, _>>_, forbidden}
+use Rattle.standard.specs.Standard.Words.{lift, pure, _>>=_, _>>_, Forbidden, forbidden}
 use Rattle.standard.specs.Standard.State.{Vector, zero-vector, Direction, Coding, Variables}
 use Rattle.standard.specs.Standard.State.{«macroblock_motion_forward», «macroblock_motion_backward», «macroblock_intra»}
 
@@ -22,18 +22,18 @@ abbrev pub backStart : Coding → Bool → ℕ → Variables → Vector
 backStart g first t v = if first || not (eqb (g .context .«picture_type») 3) || «macroblock_intra» t then zero-vector else v .backPrev
 
 -- 2.4.2.7, 2.4.4.2: motion_horizontal_.., then motion_vertical_.., each with its residual
-unfoldable pub vector : Direction → Vector → Prog (Result Vector)
+unfoldable pub vector : Direction → Vector → Prog (Result Forbidden Vector)
 vector d prev = do
   right ← lift (standardVector (d .«r_size») (prev .right))
   down ← lift (standardVector (d .«r_size») (prev .down))
   pure (record { right = right; down = down })
 
 -- 2.4.4.2: without data the vector is 0 in a P picture. 2.4.4.3: in a B picture it is the one before
-unfoldable pub forVector : Coding → ℕ → Vector → Prog (Result Vector)
+unfoldable pub forVector : Coding → ℕ → Vector → Prog (Result Forbidden Vector)
 forVector g t prev =
     if «macroblock_motion_forward» t then vector (g .forward) prev else if eqb (g .context .«picture_type») 2 then pure zero-vector else pure prev
 
-unfoldable pub backVector : Coding → ℕ → Vector → Prog (Result Vector)
+unfoldable pub backVector : Coding → ℕ → Vector → Prog (Result Forbidden Vector)
 backVector g t prev = if «macroblock_motion_backward» t then vector (g .backward) prev else pure prev
 
 -- the n samples at `from`, moved by a component in half samples, are among the first `size`
@@ -55,7 +55,7 @@ pels p s d right down average =
     if average then interpolated (getD d (address p + i * width p + j) 0) x else x) (p .size)
 
 -- one plane of the picture, from that of the store number k
-unfoldable pub predictedPlane : Coding → Macroblock → ℕ → Bool → Plane → ℤ → ℤ → List ℕ → Result (List ℕ)
+unfoldable pub predictedPlane : Coding → Macroblock → ℕ → Bool → Plane → ℤ → ℤ → List ℕ → Result Forbidden (List ℕ)
 predictedPlane g m k average q right down l =
     let p = blockOf m (blockSize q) in
     let from = planeStart k q (macroblocks m) in
@@ -63,7 +63,7 @@ predictedPlane g m k average q right down l =
     if inPicture p right down then ok (putMid to (bytes p) l (pels p (midOf from (bytes p) l) (midOf to (bytes p) l) right down average)) else forbidden
 
 -- from one reference: a full-pel vector is doubled, and for Cr and Cb the vector is halved
-unfoldable pub predictedFrom : Coding → ℕ → ℕ → Direction → Vector → Bool → List ℕ → Result (List ℕ)
+unfoldable pub predictedFrom : Coding → ℕ → ℕ → Direction → Vector → Bool → List ℕ → Result Forbidden (List ℕ)
 predictedFrom g address k d x average l =
     let m = macroblockAt (g .context .sizes .«mb_width») (g .context .sizes .«mb_height») address in
     let right = inHalves (d .«full_pel_vector») (x .right) in
@@ -72,7 +72,7 @@ predictedFrom g address k d x average l =
     andThen (predictedPlane g m k average Cr (chrominance right) (chrominance down) l) (predictedPlane g m k average Cb (chrominance right) (chrominance down))
 
 -- 2.4.4.3 (B): by macroblock_motion_forward and macroblock_motion_backward. 2.4.4.2 (P): forward, by the vector 0 where there is none
-unfoldable pub predicted : Coding → ℕ → ℕ → Vector → Vector → List ℕ → Result (List ℕ)
+unfoldable pub predicted : Coding → ℕ → ℕ → Vector → Vector → List ℕ → Result Forbidden (List ℕ)
 predicted g t address for back l =
     let forward = predictedFrom g address (g .context .stores .fwd) (g .forward) for false l in
     let backward = predictedFrom g address (g .context .stores .bwd) (g .backward) back in
@@ -82,13 +82,13 @@ predicted g t address for back l =
     else if «macroblock_motion_backward» t then backward false l else forbidden
 
 -- 2.4.4.4: n macroblocks from this address on, all of the type t and with these vectors
-unfoldable pub skippedFrom : Coding → ℕ → Vector → Vector → ℕ → ℕ → List ℕ → Result (List ℕ)
+unfoldable pub skippedFrom : Coding → ℕ → Vector → Vector → ℕ → ℕ → List ℕ → Result Forbidden (List ℕ)
 skippedFrom g t for back address zero l = ok l
 skippedFrom g t for back address (suc n) l = andThen (predicted g t address for back l) (skippedFrom g t for back (address + 1) n)
 
 -- 2.4.4.4: the pels with n - 1 macroblocks skipped. P: by the vector 0. B: type and vectors are those of the macroblock before. None is skipped before
 -- the first macroblock of a slice, where an increment says where the slice begins (2.4.3.6), in an I picture, or in a B picture behind an intra macroblock
-unfoldable pub skipped : Coding → Bool → ℕ → Variables → Result (List ℕ)
+unfoldable pub skipped : Coding → Bool → ℕ → Variables → Result Forbidden (List ℕ)
 skipped g first n v =
     let from = natAbs (v .«previous_macroblock_address» +ℤ pos 1) in
     let t = v .«macroblock_type» in

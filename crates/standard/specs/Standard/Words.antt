@@ -11,30 +11,33 @@ pub use Rattle.picture_state.specs.Result.{Result, ok, error, andThen, lift, fr
 pub use Rattle.picture_state.specs.{declared.types.Context.Context, declared.types.Matrices.Matrices, Flags.flag}
 
 -- the stream breaks a rule that a decoder relies on: nothing more is said of it
-abbrev pub forbidden : {A : Type 0} → Result A
-forbidden = error 0 []
+pub data Forbidden : Type 0 where
+  notAllowed : Forbidden
+
+abbrev pub forbidden : {A : Type 0} → Result Forbidden A
+forbidden = error notAllowed
 
 -- a run that was not ended so: as far as it has read, the stream conforms
-abbrev pub conforms : {A : Type 0} → Result A → Bool
+abbrev pub conforms : {E A : Type 0} → Result E A → Bool
 conforms (ok x) = true
-conforms (error n l) = false
+conforms (error e) = false
 
 -- "shall"
-abbrev pub shall : Bool → Prog (Result (Unit {0}))
+abbrev pub shall : Bool → Prog (Result Forbidden (Unit {0}))
 shall b = if b then pure tt else done forbidden
 
 -- 2.3, nextbits(): the next n bits, which are there
-abbrev pub nextbits : ℕ → Prog (Result ℕ)
+abbrev pub nextbits : ℕ → Prog (Result Forbidden ℕ)
 nextbits n = look n (λ h v. if h then pure v else done forbidden)
 
 -- 2.2, a field of n bits, which are there
-unfoldable pub field : ℕ → Prog (Result ℕ)
+unfoldable pub field : ℕ → Prog (Result Forbidden ℕ)
 field n = look n (λ h v. if h then skip n (pure v) else done forbidden)
 
 -- while (nextbits() == word, of n bits): they are passed over, and x becomes f x
-unfoldable pub whileStep : ℕ → ℕ → (ℕ → ℕ) → ℕ → Prog (Step ℕ (Result ℕ))
+unfoldable pub whileStep : ℕ → ℕ → (ℕ → ℕ) → ℕ → Prog (Step ℕ (Result Forbidden ℕ))
 whileStep n word f x =
     look n (λ h v. if h then (if eqb v word then skip n (done (continue (f x))) else done (finish (ok x))) else done (finish forbidden))
 
-unfoldable pub while : ℕ → ℕ → (ℕ → ℕ) → ℕ → Prog (Result ℕ)
+unfoldable pub while : ℕ → ℕ → (ℕ → ℕ) → ℕ → Prog (Result Forbidden ℕ)
 while n word f x = loop many (whileStep n word f) forbidden x

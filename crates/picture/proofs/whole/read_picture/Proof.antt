@@ -1,8 +1,8 @@
-use mathlib.Core.Path.{sym, _∙_}
+use mathlib.Core.Path.{refl, sym, _∙_}
 use mathlib.Core.List.{List}
 use Prim.Native.Nat.{ℕ}
 use Rattle.bits.proofs.Gives.{given-by}
-use Rattle.bits.proofs.Rules.{r-call, r-yes, r-no, r-done}
+use Rattle.picture_state.proofs.Results.{t-call, t-yes, t-no, t-done}
 use Rattle.picture_state.specs.declared.types.{Picture.Picture, Sizes.Sizes}
 use Rattle.picture_state.specs.Possible.{PossiblePicture}
 use Rattle.picture.specs.Pictures.{contextOf, picture}
@@ -56,8 +56,8 @@ returns c =
     let r = d .read-slices-in-roles .ensures in
     record {
       runs =
-          r-call _ (h .read-picture-header .ensures .runs)
-          (r-yes _ (sym (t .before .is-decoded .ensures) ∙ t .if1 .taken) (rw (w .with-header .ensures) at (r .runs)));
+          t-call _ (h .read-picture-header .ensures .runs)
+          (t-yes _ (sym (t .before .is-decoded .ensures) ∙ t .if1 .taken) (rw (w .with-header .ensures) at (r .runs)));
       inside = r .inside;
     }
 
@@ -68,7 +68,7 @@ returns-2 c =
     let h = header w in
     let r = h .read-picture-header .ensures in
     record {
-      runs = rw (w .with-header .ensures) (r-call _ (r .runs) (r-no _ (sym (c .before .is-decoded .ensures) ∙ c .if1 .left) r-done));
+      runs = rw (w .with-header .ensures) (t-call _ (r .runs) (t-no _ (sym (c .before .is-decoded .ensures) ∙ c .if1 .left) (t-done refl)));
       inside = r .inside;
     }
 

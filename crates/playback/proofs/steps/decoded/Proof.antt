@@ -4,7 +4,7 @@ use mathlib.Core.Path.{_∙_}
 use borrow.Author.Needs.{needs}
 use Rattle.picture_state.specs.Contracts.{matrices}
 use Rattle.playback.specs.Steps.{decodingState}
-use Rattle.bits.proofs.Rules.{from-reader}
+use Rattle.picture_state.proofs.Results.{t-from-reader}
 use Rattle.playback.proofs.Showing.{step-of}
 use Rattle.playback.proofs.PictureStep.{decoded-out, decoded-on}
 use Rattle.playback.proofs.steps.decoded.Statement.{statement}
@@ -50,7 +50,7 @@ returns c =
     let p = r .read-picture .result in
     decoded-out (now (a .s)) (a .sizes) (matrices (now (a .intra)) (now (a .other))) (decodingState (a .d) (now (a .values)) (now (a .store)))
     (p .picture) (r .read-picture .last .1 .1 .1 .0) (r .read-picture .last .1 .1 .0) (p .stop)
-    (from-reader (b .from-position .ensures) (r .read-picture .ensures .runs)) (c .if1 .taken) _
+    (t-from-reader (b .from-position .ensures) (r .read-picture .ensures .runs)) (c .if1 .taken) _
 
 returns-2 : tie.Need-returns-2
 returns-2 c =
@@ -64,7 +64,7 @@ returns-2 c =
     let l = r .read-picture .last .1 .1 .0 in
     step-of left l (rw (q .position .ensures) at (c .shown .ensures))
     ∙ decoded-on (now (a .s)) (a .sizes) (matrices (now (a .intra)) (now (a .other))) (decodingState (a .d) (now (a .values)) (now (a .store)))
-    (p .picture) left l (p .stop) (from-reader (b .from-position .ensures) (r .read-picture .ensures .runs)) (i .if1 .left)
+    (p .picture) left l (p .stop) (t-from-reader (b .from-position .ensures) (r .read-picture .ensures .runs)) (i .if1 .left)
 
 pub decoded-spec : {M : Type 1} → statement M
 decoded-spec =

@@ -13,7 +13,7 @@ use Rattle.prediction.specs.declared.planes.Plane.{Plane}
 use Rattle.prediction.specs.declared.planes.Plane.the-variants.{Y, Cr, Cb}
 use Rattle.prediction.specs.declared.predict.Predicted.{Predicted}
 use Rattle.prediction.specs.declared.predict.Predicted.the-variants.{Done}
-use Rattle.prediction.specs.Planes.{After, ofStores}
+use Rattle.prediction.specs.Planes.{PlaneAfter, ofStores}
 use Rattle.prediction.specs.Predict.{chroma}
 use Rattle.prediction.proofs.Macroblocks.{half-most, first-refused, second-refused, both-done}
 use Rattle.prediction.proofs.predict.predict_macroblock_planes.Statement.{statement}
@@ -44,16 +44,16 @@ begun k = entry (at-y k)
 
 -- ---- what the three calls gave, in the definition's terms
 
-abbrev of : tie.Start → Plane → ℤ → ℤ → List ℕ → After
+abbrev of : tie.Start → Plane → ℤ → ℤ → List ℕ → PlaneAfter
 of s = ofStores (s .args .m) (s .args .from) (s .args .to) (s .args .interpolate)
 
-abbrev first : tie.Start → After
+abbrev first : tie.Start → PlaneAfter
 first s = of s Y (s .args .h) (s .args .v) (now (s .args .store))
 
-abbrev second : tie.Start → After
+abbrev second : tie.Start → PlaneAfter
 second s = of s Cr (chroma (s .args .h)) (chroma (s .args .v)) (first s .store)
 
-abbrev third : tie.Start → After
+abbrev third : tie.Start → PlaneAfter
 third s = of s Cb (chroma (s .args .h)) (chroma (s .args .v)) (second s .store)
 
 h-half : (k : tie.After-half2) → reread w32 (k .before .half .result) ≡ chroma (begun k .args .h)
@@ -67,8 +67,8 @@ same : (s : tie.Start) (q : Plane) {h h′ v v′ : ℤ} {store store′ : List 
 same s q eh ev es = rw (eh, ev, es)
 
 -- an answer and a store that are those of o, whose own are those of p
-of-both : {a : Predicted} {store : List ℕ} {o p : After} → (a ≡ o .answer) × (store ≡ o .store) → o ≡ p → (a ≡ p .answer) × (store ≡ p .store)
-of-both x e = (x .0 ∙ ap (λ (o : After). o .answer) e, x .1 ∙ ap (λ (o : After). o .store) e)
+of-both : {a : Predicted} {store : List ℕ} {o p : PlaneAfter} → (a ≡ o .answer) × (store ≡ o .store) → o ≡ p → (a ≡ p .answer) × (store ≡ p .store)
+of-both x e = (x .0 ∙ ap (λ (o : PlaneAfter). o .answer) e, x .1 ∙ ap (λ (o : PlaneAfter). o .store) e)
 
 one : (c : tie.After-predict-of-stores) → let r = c .predict-of-stores in let o = first (entry c) in (r .result ≡ o .answer) × (r .last .0 ≡ o .store)
 one c = let s = entry c in of-both (c .predict-of-stores .ensures) (same s Y (toZ-ofZ (s .fits .h)) (toZ-ofZ (s .fits .v)) refl)
