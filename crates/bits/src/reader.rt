@@ -105,7 +105,7 @@ impl Reader {
         ensures { λ r. ⌜ (r .value ≡ has (now (s .entry)) (positionOf self) count) × (r .reader ≡ self) ⌝ }
     {
         let at = self.at.0;
-        let end = s.len() * 8;
+        let end = bit_of(BytePosition(s.len())).0;
         if end < at {
             return Peeked {
                 reader: self,
@@ -125,7 +125,7 @@ impl Reader {
         ensures { λ r. ⌜ (r .value ≡ leb (length (now (s .entry)) * 8) (positionOf self)) × (r .reader ≡ self) ⌝ }
     {
         let at = self.at.0;
-        let end = s.len() * 8;
+        let end = bit_of(BytePosition(s.len())).0;
         Peeked {
             reader: self,
             value: end <= at,
@@ -145,13 +145,14 @@ impl Reader {
         }
         let at = self.at.0;
         let to = at + count;
-        if s.len() * 8 < to {
+        if bit_of(BytePosition(s.len())).0 < to {
             return ReadBits {
                 reader: self,
                 value: 0,
             };
         }
-        let w = window(s, at / 8) >> (40 - at % 8 - count);
+        let b = byte_of(self.at).0;
+        let w = window(s, b) >> (40 - at % 8 - count);
         let value = w - ((w >> count) << count);
         ReadBits {
             reader: Reader {
@@ -167,7 +168,7 @@ impl Reader {
         ensures { λ r. ⌜ Reading (bits 1) (now (s .entry)) self (r .value) (r .reader) ⌝ }
     {
         let at = self.at.0;
-        let b = at / 8;
+        let b = byte_of(self.at).0;
         if b < s.len() {
             let bit = (s[b] >> (7 - at % 8)) % 2;
             return ReadBits {
@@ -187,7 +188,7 @@ impl Reader {
     pub fn has_eight(self, s: &[u8]) -> bool
         ensures { λ r. ⌜ r ≡ hasBytes (now (s .entry)) (positionOf self) 2 ⌝ }
     {
-        let b = self.at.0 / 8;
+        let b = byte_of(self.at).0;
         b + 2 <= s.len()
     }
 
@@ -197,7 +198,7 @@ impl Reader {
         ensures { λ r. ⌜ r ≡ bitsAt (now (s .entry)) (positionOf self) 8 ⌝ }
     {
         let at = self.at.0;
-        let b = at / 8;
+        let b = byte_of(self.at).0;
         let two = byte(s, b) * 256 + byte(s, b + 1);
         ((two >> (8 - at % 8)) % 256) as u32
     }
