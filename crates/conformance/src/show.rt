@@ -5,16 +5,17 @@ use crate::sums::sum_numbers;
 use crate::sums::sum_record;
 use answer_lists::bytes::part;
 use libc::STDOUT_FILENO;
+use mpeg1::calls::PICTURE_NUMBERS;
 use mpeg1::calls::mpeg1_decode;
 use mpeg1::calls::mpeg1_open;
 use mpeg1::calls::mpeg1_write_rgb_scaled;
 use mpeg1::views::mpeg1_plane_bytes;
 use mpeg1::views::mpeg1_plane_start;
 ghost use mathlib.Core.Path.{_≡_};
-ghost use mathlib.Core.List.{[], _∷_};
 ghost use lib.Ieee.{binary64, ofBits};
+ghost use lib.ListN.{replicate};
 ghost use Rattle.memory.specs.Memory.{memory};
-ghost use Rattle.mpeg1.specs.Calls.{hostResult, opensIn, decodesIn};
+ghost use Rattle.mpeg1.specs.Calls.{hostResult, opensIn, pictureCount, decodesIn};
 
 fn show_sum(sum: u64) {
     io::write_all(STDOUT_FILENO, b" ");
@@ -118,9 +119,10 @@ pub fn decode(
 ) -> u32
     ensures { λ r. ⌜ hostResult r (now (store .exit)) (memory (now (numbers .exit)) (now (integers .exit)) (now (matrices .exit)) (now (clock .exit)))
         ≡ decodesIn (now (stream .entry)) (now (store .entry))
-        (memory (now (numbers .entry)) (now (integers .entry)) (now (matrices .entry)) (now (clock .entry))) (0 ∷ []) (ofBits binary64 0) .kept ⌝ }
+        (memory (now (numbers .entry)) (now (integers .entry)) (now (matrices .entry)) (now (clock .entry))) (replicate pictureCount 0) (ofBits binary64 0)
+        .kept ⌝ }
 {
-    let mut picture = [0usize; 1];
+    let mut picture = [0usize; PICTURE_NUMBERS];
     let mut time: f64 = 0.0;
     let answer = mpeg1_decode(
         stream,

@@ -210,7 +210,7 @@ module _ (s l : List ℕ) (x : Memory) (k : List ℕ) (t : Float) (y : HostOutpu
   pub host-decode-6 : y .kept .answer ≡ 6 → (length l < storeBytes (withHeaderRead s (recordOf x))) × (y ≡ unchanged 6 l x k t)
   host-decode-6 e =
       let w = own 6 e (omega arith) in
-      let row = D1.decode-6 d s l decoded store refl (w .code) in (row .0, same w (row .1) (row .2))
+      let row = D1.decode-6 d s l decoded store refl (w .code) in (row .short, same w (row .decoder) (row .store))
 
   pub host-decode-7 : y .kept .answer ≡ 7 → Leaves (λ r. Row7 (recordOf x) s l r (y .kept .store)) x (y .kept .memory) × Untold k t y
   host-decode-7 e =

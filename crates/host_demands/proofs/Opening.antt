@@ -142,7 +142,7 @@ module _ (s l : List ℕ) (x : Memory) (y : HostResult) (gave : HostOpens s l x 
   host-open-6 e =
       let w = own 6 e (λ f. omega arith) in
       let row = D1.open-6 s l opened store refl (own-refused w (omega arith)) in
-      (row .0, leaves (λ d. d ≡ fresh) w (row .1), stored w (omega arith))
+      (row .1, leaves (λ d. d ≡ fresh) w (row .2), stored w (omega arith))
 
   -- D2.3: whatever the answer, what lies behind the record and behind 1,152 × macroblocks bytes of the store stays
   pub host-open-same : SameBehind x (y .memory) × SameFrom (storeBytes (withHeader s fresh)) l (y .store)

@@ -1,5 +1,5 @@
 -- RULES QG: what a picture leaves. The store stays as long as it was, and a possible state stays possible. Assumes nothing.
-use mathlib.Core.Path.{_≡_, refl, sym, _∙_}
+use mathlib.Core.Path.{_≡_, refl, sym, subst, _∙_}
 use mathlib.Core.Bool.{true}
 use mathlib.Core.List.{List}
 use Prim.Native.Nat.{ℕ, _+_, _-_, _*_, _≤_, _<_}
@@ -14,6 +14,7 @@ use Rattle.bits.specs.Bounds.{longestStream}
 use Rattle.bits.specs.Programs.{run}
 use Rattle.bits.proofs.Gives.{Gives, g-done, g-any, g-bind, g-if, g-start, g-as, g-when}
 use Rattle.codes.specs.Matrices.{Bounded}
+use Rattle.coefficients.specs.Dcs.{dcInside}
 use Rattle.coefficients.specs.Blocks.{BlockRead}
 use Rattle.coefficients.specs.Syntax.{CodedBlock}
 use Rattle.coefficients.proofs.Kept as Coefficients
@@ -24,7 +25,7 @@ use Rattle.picture_state.specs.declared.types.{Context.Context, Stores.Stores, 
 use Rattle.picture_state.specs.State.{storesAs, addressAs}
 use Rattle.picture_state.specs.Possible.{between, possiblePicture, PossibleStores, PossibleSlice, PossiblePicture}
 use Rattle.picture_state.specs.Result.{Result, ok, error}
-use Rattle.picture_state.specs.Stop.{Stop, stop, predictionOutside}
+use Rattle.picture_state.specs.Stop.{Cause, dcOutside, predictionOutside, Stop, stop}
 use Rattle.macroblock_head.specs.Predictions.{unlessRefused}
 use Rattle.blocks.specs.Blocks.{predictorOf}
 use Rattle.macroblock.specs.Macroblocks.{skipReset}
@@ -40,13 +41,26 @@ use Rattle.picture.proofs.Header.{header-fits, headed-possible}
 use Rattle.picture_state.proofs.Exits.{OnResult, results-as, bind-results}
 use Rattle.picture.proofs.Walk.{Invariant, Keeps, Framed, reconstructedBy, slices-results}
 
--- a picture leaves early with a store of n numbers
-abbrev Leaves : ℕ → Stop → Type 0
-Leaves n e = length (e .store) ≡ n
+-- a way goes on with P, or leaves early with a store of n numbers
+abbrev pub Ends : {A : Type 0} → ℕ → (A → Type 0) → Result Stop A → Type 0
+Ends n P = OnResult P (λ (e : Stop). length (e .store) ≡ n)
+
+-- RULES Q8: the predictor of a DC value outside is inside
+abbrev pub PredictorInside : Cause → Type 0
+PredictorInside (dcOutside address block predictor difference) = dcInside predictor ≡ true
+PredictorInside (predictionOutside address plane h v) = Unit {0}
+
+-- a picture leaves early with a store of n numbers and, where H holds, with such a predictor
+abbrev Leaves : Type 0 → ℕ → Stop → Type 0
+Leaves H n e = (length (e .store) ≡ n) × (H → PredictorInside (e .cause))
 
 -- a way goes on with P, or leaves so
-abbrev pub Ends : {A : Type 0} → ℕ → (A → Type 0) → Result Stop A → Type 0
-Ends n P = OnResult P (Leaves n)
+abbrev EndsIn : {A : Type 0} → Type 0 → ℕ → (A → Type 0) → Result Stop A → Type 0
+EndsIn H n P = OnResult P (Leaves H n)
+
+ends-by : {A : Type 0} (H : Type 0) (n : ℕ) (P Q : A → Type 0) → ((x : A) → P x → Q x) → (w : Result Stop A) → EndsIn H n P w → Ends n Q w
+ends-by H n P Q k (ok x) h = k x h
+ends-by H n P Q k (error e) h = h .0
 
 -- ---- the steps
 
@@ -93,16 +107,16 @@ start-kept g number q x width h j k =
     )
 
 -- RULES Q9: a prediction that is refused
-refused-ends : (n address : ℕ) (o : PlaneAfter) → length (o .store) ≡ n → Ends n (λ (l : List ℕ). length l ≡ n) (unlessRefused address o)
+refused-ends : (H : Type 0) (n address : ℕ) (o : PlaneAfter) → length (o .store) ≡ n → EndsIn H n (λ (l : List ℕ). length l ≡ n) (unlessRefused address o)
 unfolding unlessRefused
-refused-ends n address o h = go (o .answer)
+refused-ends H n address o h = go (o .answer)
   where
-    go : (a : Predicted) → Ends n (λ (l : List ℕ). length l ≡ n) (elim a as (λ x. Result Stop (List ℕ)) [
+    go : (a : Predicted) → EndsIn H n (λ (l : List ℕ). length l ≡ n) (elim a as (λ x. Result Stop (List ℕ)) [
       | Done ↦ ok (o .store)
       | Refused ↦ error (stop (predictionOutside address (o .plane) (o .h) (o .v)) (o .store))
     ])
     go Done = h
-    go Refused = h
+    go Refused = (h, λ η. tt)
 
 -- ---- the walk, in a picture of which H says that it is possible; the store has n numbers
 
@@ -113,7 +127,7 @@ staysPossible H n = record {
   block = λ c. H → Bounded c;
   store = λ l. length l ≡ n;
   code = λ k. H → between (negsuc 0) (pos 255) k ≡ true;
-  exit = Leaves n;
+  exit = Leaves H n;
 }
 
 -- what a picture's slices are read in: H says that the sizes are possible, and the stream one of bytes
@@ -143,10 +157,10 @@ keeps H {s} n g m c = record {
             predictors-kept (k η)
             (predictors-set (x .«dc_predictor») (predictorOf number) (r d .predictor) (k η .predictors) (e η d .predictor));
         block = λ η. Coefficients.left-bounded _ (r d) (e η d .bounded);
-        outside = λ o l z. z;
+        outside = λ o l z. (z, λ η. k η .predictors (predictorOf number) (omega arith));
       }) (g-any _);
   writes = λ q number a f l e. written-length g q number a f l ∙ e;
-  predicts = λ a k h u interpolate l e. refused-ends n a _ (planes-length _ _ _ _ _ interpolate l ∙ e);
+  predicts = λ a k h u interpolate l e. refused-ends H n a _ (planes-length _ _ _ _ _ interpolate l ∙ e);
 }
 
 -- what a picture leaves
@@ -175,13 +189,13 @@ module _ (H : Type 0) {s : List ℕ} (z : Sizes) (c : Domain H s z) (m : Matrice
     store = k .store;
   }
 
-  coded-ends : (f : P.PictureState) → PictureKept H n f → Gives s (Ends n (PictureKept H n)) (P.slicesInRoles z m f)
+  coded-ends : (f : P.PictureState) → PictureKept H n f → Gives s (EndsIn H n (PictureKept H n)) (P.slicesInRoles z m f)
   unfolding P.slicesInRoles
   coded-ends f k =
       let p = f .picture in
       let q = storesAs (P.before (p .stores)) p in
       g-if (eqb (p .«picture_type») 3)
-      (λ b. g-as (results-as (Leaves n) {P = Behind p} {Q = PictureKept H n} (λ x i. record {
+      (λ b. g-as (results-as (Leaves H n) {P = Behind p} {Q = PictureKept H n} (λ x i. record {
         picture = λ η. record {
           type = rw (i .type) (k .picture η .type);
           code = i .code η;
@@ -191,7 +205,7 @@ module _ (H : Type 0) {s : List ℕ} (z : Sizes) (c : Domain H s z) (m : Matrice
         block = i .block;
         store = i .store;
       })) (slices-results (keeps H n (P.contextOf z p) m c) p f (begin (p .stores) f k)))
-      (λ b. bind-results (Leaves n) {P = Behind q} _
+      (λ b. bind-results (Leaves H n) {P = Behind q} _
       (slices-results (keeps H n (P.contextOf z q) m c) q (P.withPicture q f) (begin (P.before (p .stores)) f k))
       (λ x i. g-done (record {
         picture = λ η. record {
@@ -204,7 +218,7 @@ module _ (H : Type 0) {s : List ℕ} (z : Sizes) (c : Domain H s z) (m : Matrice
         store = i .store;
       })))
 
-  picture-ends : (f : P.PictureState) → PictureKept H n f → Gives s (Ends n (PictureKept H n)) (P.picture z m f)
+  picture-ends : (f : P.PictureState) → PictureKept H n f → Gives s (EndsIn H n (PictureKept H n)) (P.picture z m f)
   unfolding P.picture
   picture-ends f k =
       g-bind _ header-fits (λ h i.
@@ -219,7 +233,7 @@ SameLength l f = length (f .store) ≡ length l
 pub picture-leaves : (z : Sizes) (m : Matrices) (f : P.PictureState) (s : List ℕ) (a : ℕ)
     → Ends (length (f .store)) (SameLength (f .store)) (run (P.picture z m f) s a .value)
 picture-leaves z m f s a =
-    g-as (results-as (Leaves (length (f .store))) {P = PictureKept ⊥ (length (f .store))} {Q = SameLength (f .store)} (λ x i. i .store))
+    g-as (ends-by ⊥ (length (f .store)) (PictureKept ⊥ (length (f .store))) (SameLength (f .store)) (λ x i. i .store))
     (picture-ends ⊥ {s = s} z (record { width = λ η. absurd η; size = λ η. absurd η; stream = λ η. absurd η; bytes = λ η. absurd η }) m
     (length (f .store)) f (record { picture = λ η. absurd η; block = λ η. absurd η; store = refl }))
     .value a
@@ -230,15 +244,22 @@ pub record StaysPossible (l : List ℕ) (f : P.PictureState) : Type 0 where
   pub block : Bounded (f .«block_data»)
   pub store : length (f .store) ≡ length l
 
-pub picture-kept : (z : Sizes) (m : Matrices) (f : P.PictureState) (s : List ℕ) (a : ℕ) → z .«mb_width» ≤ 256 → z .«mb_height» ≤ 256
-    → z .«mb_size» ≡ z .«mb_width» * z .«mb_height»
-    → possiblePicture (f .picture) ≡ true → Bounded (f .«block_data») → length s ≤ longestStream → ((k : ℕ) → getD s k 0 < 256)
-    → Ends (length (f .store)) (StaysPossible (f .store)) (run (P.picture z m f) s a .value)
-picture-kept z m f s a w h e k b most bytes =
-    let n = length (f .store) in
-    g-as (results-as (Leaves n) {P = PictureKept (Unit {0}) n} {Q = StaysPossible (f .store)}
-    (λ x i. record { picture = picture-by (i .picture tt); block = i .block tt; store = i .store }))
-    (picture-ends (Unit {0}) {s = s} z
-    (record { width = λ η. w; size = λ η. omega (arith, e, mul-le-mul w h); stream = λ η. most; bytes = λ η. bytes }) m n f
-    (record { picture = λ η. picture-of (f .picture) k; block = λ η. b; store = refl }))
-    .value a
+module _ (z : Sizes) (m : Matrices) (f : P.PictureState) (s : List ℕ) (a : ℕ) (w : z .«mb_width» ≤ 256) (h : z .«mb_height» ≤ 256)
+    (e : z .«mb_size» ≡ z .«mb_width» * z .«mb_height») (k : possiblePicture (f .picture) ≡ true) (b : Bounded (f .«block_data»))
+    (most : length s ≤ longestStream) (bytes : (k : ℕ) → getD s k 0 < 256) where
+  possible-ends : EndsIn (Unit {0}) (length (f .store)) (PictureKept (Unit {0}) (length (f .store))) (run (P.picture z m f) s a .value)
+  possible-ends =
+      picture-ends (Unit {0}) {s = s} z
+      (record { width = λ η. w; size = λ η. omega (arith, e, mul-le-mul w h); stream = λ η. most; bytes = λ η. bytes }) m (length (f .store)) f
+      (record { picture = λ η. picture-of (f .picture) k; block = λ η. b; store = refl })
+      .value a
+
+  pub picture-kept : Ends (length (f .store)) (StaysPossible (f .store)) (run (P.picture z m f) s a .value)
+  picture-kept =
+      ends-by (Unit {0}) (length (f .store)) (PictureKept (Unit {0}) (length (f .store))) (StaysPossible (f .store))
+      (λ x i. record { picture = picture-by (i .picture tt); block = i .block tt; store = i .store })
+      (run (P.picture z m f) s a .value) possible-ends
+
+  -- RULES Q8: where it leaves early at a DC value, the predictor is inside
+  pub stopped-inside : {q : Stop} → run (P.picture z m f) s a .value ≡ error q → PredictorInside (q .cause)
+  stopped-inside r = subst (EndsIn (Unit {0}) (length (f .store)) (PictureKept (Unit {0}) (length (f .store)))) r possible-ends .1 tt

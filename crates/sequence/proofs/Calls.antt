@@ -113,7 +113,7 @@ module _ (s : List ℕ) (long : length s ≤ longestStream) (bytes : (k : ℕ) �
           → Keeps s (withDecodingState d y) (y .store)
           → OutputsInOrder (z .«mb_size») rate s 0 (at y) (shown (allButLast ds))
       unfolding P.pictures C.callResultOf
-      first-calls [] n x a y clock held h w i kept = no-pictures rule s z m n x a held h
+      first-calls [] n x a y clock held h w i kept = no-pictures rule s z m n x a h
       first-calls (c ∷ []) n x a y clock held h w i kept =
           let turn = last-step rule s long z m x a y w c (inverted rule s z m n x a c [] h) in
           λ r l gave. ap (λ (r : CallResult Outcome). r .answer) (gave ∙ keeps-call s long (withDecodingState d y) (y .store) kept

@@ -45,7 +45,7 @@ use Rattle.playback.specs.Search.{nextCode}
 use Rattle.decoder.specs.Record.{CallResult, fresh, position}
 use Rattle.decoder.specs.Headers.{findSequence, accepted, checkSize, checkHeader, checkStore}
 use Rattle.decoder.specs.Opening.{opened, openingFrom, opening}
-use Rattle.sequence.specs.Sequence.{nextPictureOrEnd, initialState, pictures}
+use Rattle.sequence.specs.Sequence.{following, initialState, pictures}
 use Rattle.sequence.specs.Display.{storeOf, shown, allButLast}
 
 -- 32 × 16 samples; user data, which make up the 136 bytes that opening asks for
@@ -69,15 +69,19 @@ predictiveBytes = 0x00 ∷ 0x00 ∷ 0x01 ∷ 0x00 ∷ 0x00 ∷ 0x17 ∷ 0xff ∷
 abbrev bothWaysBytes : List ℕ
 bothWaysBytes = 0x00 ∷ 0x00 ∷ 0x01 ∷ 0x00 ∷ 0x00 ∷ 0x1f ∷ 0xff ∷ 0xf8 ∷ 0x88 ∷ 0x00 ∷ 0x00 ∷ 0x01 ∷ 0x01 ∷ 0x0b ∷ 0x2f ∷ 0x4e ∷ []
 
--- sequence_end_code, and a byte behind it (DIFFERENCES A.8)
+-- sequence_end_code, the last four bytes of the stream
 abbrev endBytes : List ℕ
-endBytes = 0x00 ∷ 0x00 ∷ 0x01 ∷ 0xb7 ∷ 0x00 ∷ []
+endBytes = 0x00 ∷ 0x00 ∷ 0x01 ∷ 0xb7 ∷ []
 
 abbrev stream : List ℕ
 stream = headerBytes ++ (groupBytes ++ (intraBytes ++ (predictiveBytes ++ (bothWaysBytes ++ (intraBytes ++ endBytes)))))
 
 abbrev opened-by : CallResult Opening
 opened-by = opening stream (replicate 2304 7)
+
+-- a stream that ends with its last picture (DIFFERENCES B.18)
+abbrev unendedStream : List ℕ
+unendedStream = headerBytes ++ (groupBytes ++ (intraBytes ++ (predictiveBytes ++ intraBytes)))
 
 -- the pictures of the stream s, behind the opening o
 abbrev decoded : List ℕ → CallResult Opening → Result Forbidden (List S.Decoded)
@@ -98,6 +102,7 @@ rows (error d) = []
 pub record Sequence : Type 0 where
   pub ready : opened-by .answer ≡ Ready
   pub four : types (decoded stream opened-by) ≡ 1 ∷ 2 ∷ 3 ∷ 1 ∷ []
+  pub unended : types (decoded unendedStream (opening unendedStream (replicate 2304 7))) ≡ 1 ∷ 2 ∷ 1 ∷ []
   -- the I picture, out of store 0, then the B picture, out of store 2; the P picture and the last one are not handed out (DIFFERENCES A.7)
   pub handed : rows (decoded stream opened-by) ≡ (0 ∷ 133 ∷ 128 ∷ 128 ∷ []) ∷ (2 ∷ 132 ∷ 132 ∷ 130 ∷ []) ∷ []
 
@@ -119,6 +124,6 @@ unfolding clamp255 odd storeRow storeRows bitAt bitsAt readAt afterRead codePref
     Prediction.predictedPlane Prediction.predictedFrom Prediction.predicted Prediction.skippedFrom Prediction.skipped
     Block.reconstructed Block.dctDc Block.written Block.intraBlock Block.nonIntraBlock Block.blocks S.codedMacroblock S.macroblock
     S.afterMacroblock S.sliceStep S.slice S.direction S.header S.afterSlice S.slicesStep S.slices S.picture
-    fresh freshState cleared nextCode matrix size rest findSequence accepted checkSize checkHeader checkStore opened openingFrom opening nextPictureOrEnd
+    fresh freshState cleared nextCode matrix size rest findSequence accepted checkSize checkHeader checkStore opened openingFrom opening following
     pictures
-sequence = record { ready = refl; four = refl; handed = refl }
+sequence = record { ready = refl; four = refl; unended = refl; handed = refl }

@@ -27,33 +27,26 @@ use Rattle.playback.specs.Cases.{isB, stateLeftBy}
 use Rattle.playback.proofs.Cases.{step-b, step-held, step-holds}
 use Rattle.sequence.specs.Sequence.{SequenceState, stateAfterDecoded}
 use Rattle.sequence.specs.Display as D
-use Rattle.sequence.proofs.Searches.{Next, finds, following-finds}
+use Rattle.sequence.proofs.Searches.{Next, following-finds}
 use Rattle.sequence.proofs.Steps.{Waiting, found, next-is, last, Picture, read}
-use Rattle.sequence.proofs.Pictures.{coded, Begun, inverted, last-is}
+use Rattle.sequence.proofs.Pictures.{coded, Begun}
 use Rattle.sequence.proofs.Stores.{Sound, Waits, store-next, still-holds, waits-on, waits-now}
 
 module _ (rule : Rule) (s : List ℕ) (long : length s ≤ longestStream) (z : Sizes) (m : Matrices) where
   -- RULES 8.3: another picture follows
   followed : (x : SequenceState) (a : ℕ) (c e : S.Decoded) (es : List S.Decoded) (q : Begun rule s z m x a c (e ∷ es)) → isFollowed s (q .f .at) ≡ true
   unfolding isFollowed
-  followed x a c e es q =
-      let end = coded rule s z m x (q .f .at) .at in
-      let q2 = inverted rule s z m (q .fuel) (stateAfterDecoded x c) end e es (q .rest) in
-      let n = following-finds m s end (q2 .f) (q2 .following) (q2 .code) in
-      let past : q .f .at ≤ end = run-on (S.picture (rule .rules) z m (x .stores) (x .forward) (x .backward) (x .pels)) s (q .f .at) in
-      ap (λ (k : ℤ). not (eqZ k (negsuc 0)) || hasEnded s (q .f .at)) (finds s (q .f .at) (n .byte) long (omega (arith, n .from)) (n .there))
+  followed x a c e es q = ap (λ (b : Bool). not b || hasEnded s (q .f .at)) (q .last)
 
   -- and none behind the last
   not-followed : (x : SequenceState) (a : ℕ) (c : S.Decoded) (q : Begun rule s z m x a c []) → isFollowed s (q .f .at) ≡ false
   unfolding isFollowed
-  not-followed x a c q =
-      let n = following-finds m s a (q .f) (q .following) (q .code) in
-      rw (last-is s (q .f .at) c (q .before)) (lt-leb (length s * 8) (q .f .at) (omega (arith, n .at, n .there .five)))
+  not-followed x a c q = rw (q .last) (lt-leb (length s * 8) (q .f .at) (following-finds m s a (q .f) (q .following) .inside))
 
   pub last-step : (x : SequenceState) (a : ℕ) (y : DecodingState) (w : Waiting x a y) (c : S.Decoded) (q : Begun rule s z m x a c [])
       → pictureStep s z m y
-      ≡ finish (finished (H.Refused 7) (withState (found rule s long z m x a y w (q .f) (following-finds m s a (q .f) (q .following) (q .code))) y))
-  last-step x a y w c q = last rule s long z m x a y w (q .f) (following-finds m s a (q .f) (q .following) (q .code)) (not-followed x a c q)
+      ≡ finish (finished (H.Refused 7) (withState (found rule s long z m x a y w (q .f) (following-finds m s a (q .f) (q .following))) y))
+  last-step x a y w c q = last rule s long z m x a y w (q .f) (following-finds m s a (q .f) (q .following)) (not-followed x a c q)
 
   module _ (x : SequenceState) (a : ℕ) (y : DecodingState) (w : Waiting x a y) (c e′ : S.Decoded) (es : List S.Decoded)
       (q : Begun rule s z m x a c (e′ ∷ es)) (area : z .«mb_size» ≡ z .«mb_width» * z .«mb_height») (sound : Sound (z .«mb_size») x) where
@@ -61,7 +54,7 @@ module _ (rule : Rule) (s : List ℕ) (long : length s ≤ longestStream) (z : S
     after = coded rule s z m x (q .f .at) .at
 
     abbrev next : Next s many a (q .f)
-    next = following-finds m s a (q .f) (q .following) (q .code)
+    next = following-finds m s a (q .f) (q .following)
 
     -- the state behind the search, and the picture as ours reads it
     abbrev here : State

@@ -18,7 +18,7 @@ use Rattle.standard.proofs.Spared.{Leaves, picture-spared}
 use Rattle.prediction.specs.Planes.{storesBytes}
 use Rattle.sequence.specs.Sequence.{SequenceState, stateAfterDecoded}
 use Rattle.sequence.specs.Display.{storeOf, StoreHolds}
-use Rattle.sequence.proofs.Pictures.{Begun}
+use Rattle.sequence.proofs.Pictures.{Begun, streamBefore}
 
 -- between pictures: three stores, and memory for them
 pub record Sound (n : ℕ) (x : SequenceState) : Type 0 where
@@ -59,10 +59,10 @@ module _ (rule : Rule) (s : List ℕ) (z : Sizes) (m : Matrices) (area : z .«mb
   room : x .stores .cur * N + N ≤ length (x .pels)
   room = omega (arith, mul-le-mul-right N (h .three .cur), h .long)
 
-  leaves : Leaves (rule .rules) z m (x .stores) (x .pels) s room area c
+  leaves : Leaves (rule .rules) z m (x .stores) (x .pels) (streamBefore s cs) room area c
   leaves =
-      subst (ResultIs (Leaves (rule .rules) z m (x .stores) (x .pels) s room area)) (q .value)
-      (picture-spared (rule .rules) z m (x .stores) (x .pels) s room area (x .forward) (x .backward) .value (q .f .at))
+      subst (ResultIs (Leaves (rule .rules) z m (x .stores) (x .pels) (streamBefore s cs) room area)) (q .value)
+      (picture-spared (rule .rules) z m (x .stores) (x .pels) (streamBefore s cs) room area (x .forward) (x .backward) .value (q .f .at))
 
   -- behind a B picture the stores have their roles, behind another they have turned
   b-stores : isB ≡ true → c .stores ≡ x .stores

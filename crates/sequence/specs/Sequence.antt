@@ -1,10 +1,10 @@
 -- ISO/IEC 11172-2, 2.4.2.2 to 2.4.2.4: video_sequence(), from behind its first sequence header on, which opening reads. 2.4.1: start codes stand nowhere
 -- else, so a header, a group's head, extension data and user data end at the first start code behind their own.
 use mathlib.Core.Bool.{Bool, true, false, _&&_, _||_}
-use mathlib.Core.List.{List, [], _∷_}
+use mathlib.Core.List.{List, [], _∷_, _++_}
 use Prim.Native.Nat.{ℕ, zero, suc, _%_}
 use lib.Dec.{eqb}
-use lib.IntN.{pos, negsuc}
+use lib.IntN.{ℤ, pos, negsuc}
 use Rattle.laws.specs.Loops.{Step, continue, finish, iterate}
 use Rattle.bits.specs.Bits.{Found, readAt, found}
 use Rattle.bits.specs.Programs.{run, eqZ, many, findStartCode, if_then_else_}
@@ -40,15 +40,15 @@ isSkipped m s f =
     eqZ (f .code) (pos 0xb2) || eqZ (f .code) (pos 0xb5) || (eqZ (f .code) (pos 0xb8) && isUnbroken s (f .at))
     || (eqZ (f .code) (pos 0xb3) && sameMatrices m s (f .at))
 
--- one start code, from the place a on: of a picture (00), of the end (B7), or of what is passed over
-abbrev pub followStep : Matrices → List ℕ → ℕ → Step ℕ (Result Forbidden Found)
-followStep m s a =
+-- one start code, from the place a on: c, or one of what may stand before it
+abbrev pub followStep : ℤ → Matrices → List ℕ → ℕ → Step ℕ (Result Forbidden Found)
+followStep c m s a =
     let f = found s a in
-    if eqZ (f .code) (pos 0) || eqZ (f .code) (pos 0xb7) then finish (ok f) else if isSkipped m s f then continue (f .at) else finish forbidden
+    if eqZ (f .code) c then finish (ok f) else if isSkipped m s f then continue (f .at) else finish forbidden
 
--- on to the next picture_start_code or sequence_end_code
-unfoldable pub nextPictureOrEnd : Matrices → List ℕ → ℕ → Result Forbidden Found
-nextPictureOrEnd m s a = iterate many (followStep m s) (λ a. forbidden) a
+-- on to the next picture_start_code (00) or sequence_end_code (B7), which is c
+unfoldable pub following : ℤ → Matrices → List ℕ → ℕ → Result Forbidden Found
+following c m s a = iterate many (followStep c m s) (λ a. forbidden) a
 
 -- what goes from one picture to the next; `held`: has an I or P picture been decoded?
 pub record SequenceState : Type 0 where
@@ -79,20 +79,26 @@ stateAfterDecoded x d = record {
 abbrev pub stateAfterPicture : SequenceState → Decoded → Result Forbidden SequenceState
 stateAfterPicture x d = if x .hasReferenceFrame || eqb (d .header .«picture_coding_type») 1 then ok (stateAfterDecoded x d) else forbidden
 
--- 2.4.1: start codes stand nowhere else, so behind the last picture's own no other picture start code is found
+-- 2.4.1: start codes stand nowhere else, so a picture is the last where behind its own start code no other picture start code is found
 abbrev pub isLast : List ℕ → ℕ → Bool
 isLast s a = eqZ (run (findStartCode (pos 0)) s a .value) (negsuc 0)
 
--- a picture, from the place a on, before those behind it
-abbrev pub before : List ℕ → ℕ → Decoded → List Decoded → Result Forbidden (List Decoded)
-before s a d [] = if isLast s a then ok (d ∷ []) else forbidden
-before s a d (e ∷ ds) = ok (d ∷ e ∷ ds)
+-- the stream with sequence_end_code behind it, and the byte that the search for a start code asks for (DIFFERENCES A.8)
+abbrev pub ended : List ℕ → List ℕ
+ended s = s ++ (0x00 ∷ 0x00 ∷ 0x01 ∷ 0xb7 ∷ 0x00 ∷ [])
 
--- 2.4.2.2, 2.4.2.4: the pictures up to sequence_end_code, at least one, in the order of the stream
+-- the last picture, d, which ends at the place a: sequence_end_code follows
+abbrev pub atEnd : Matrices → List ℕ → ℕ → Decoded → Result Forbidden (List Decoded)
+atEnd m s a d = andThen (following (pos 0xb7) m s a) λ f. ok (d ∷ [])
+
+-- 2.4.2.2, 2.4.2.4: the pictures up to sequence_end_code, at least one, in the order of the stream. The code may be its last four bytes, or be missing, where
+-- the standard asks for it (DIFFERENCES B.18): the last picture is read with the code behind the stream
 unfoldable pub pictures : Rules → Sizes → Matrices → List ℕ → ℕ → SequenceState → ℕ → Result Forbidden (List Decoded)
 pictures r z m s zero x a = forbidden
 pictures r z m s (suc n) x a =
-    andThen (nextPictureOrEnd m s a) λ f.
-    if eqZ (f .code) (pos 0xb7) then (if x .hasReferenceFrame then ok [] else forbidden)
-    else let o = run (picture r z m (x .stores) (x .forward) (x .backward) (x .pels)) s (f .at) in
-    andThen (o .value) λ d. andThen (stateAfterPicture x d) λ y. andThen (pictures r z m s n y (o .at)) (before s (f .at) d)
+    andThen (following (pos 0) m s a) λ f.
+    let last = isLast s (f .at) in
+    let t = if last then ended s else s in
+    let o = run (picture r z m (x .stores) (x .forward) (x .backward) (x .pels)) t (f .at) in
+    andThen (o .value) λ d. andThen (stateAfterPicture x d) λ y.
+    if last then atEnd m t (o .at) d else andThen (pictures r z m s n y (o .at)) λ ds. ok (d ∷ ds)

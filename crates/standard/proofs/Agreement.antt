@@ -1,18 +1,19 @@
 -- What it means that the standard's run and ours agree, with a rule for each form of a program. Where the standard's run ends with `forbidden`, nothing is
 -- said of ours. Assumes nothing.
 use mathlib.Core.Path.{_≡_, refl, sym, ap, _∙_, subst}
-use mathlib.Core.Bool.{Bool, true, false, true≢false, false≢true}
+use mathlib.Core.Bool.{Bool, true, false, cond, true≢false, false≢true}
 use mathlib.Core.List.{List}
 use Prim.Native.Nat.{ℕ, zero, suc, _<_}
 use native.Mathlib.Omega.{arith}
 use Rattle.laws.specs.Loops.{Step, continue, finish}
+use Rattle.bits.specs.Bits.{has, readAt}
 use Rattle.bits.specs.Programs.{Prog, Out, done, run, bind, loop, continueWith}
 use Rattle.bits.specs.Programs as Programs
 use Rattle.bits.proofs.Programs.{run-bind}
 use Rattle.picture_state.specs.Result.{Result, ok, error, ifOk, bindResult, lift, fromResult, pure, forBelow}
 use Rattle.picture_state.specs.Stop.{Stop}
 use Rattle.picture_state.proofs.Runs.{run-lift}
-use Rattle.standard.specs.Standard.Words.{Forbidden, forbidden, conforms, shall}
+use Rattle.standard.specs.Standard.Words.{Forbidden, forbidden, conforms, shall, tableCode}
 
 -- of what steps that read nothing give
 abbrev pub ResultMeets : {A B : Type 0} → (A → B → Type 0) → Result Forbidden A → Result Stop B → Type 0
@@ -86,6 +87,33 @@ module _ {C D : Type 0} {Q : C → D → Type 0} {s : List ℕ} {a : ℕ} where
   unfolding bindResult ifOk bind run
   a-shall true f h = h refl
   a-shall false f h = record { is = tt }
+
+-- a code of a table, which ours reads unseen
+module _ {A C D : Type 0} {Q : C → D → Type 0} {s : List ℕ} {a : ℕ} where
+  pub a-code : (n : ℕ) (t : ℕ → Bool) (p q : Prog A) (f : A → Prog (Result Forbidden C)) (g : A → Prog (Result Stop D)) → run p s a ≡ run q s a
+      → Agree Q s (run p s a .at) (f (run p s a .value)) (g (run p s a .value)) → Agree Q s a (bindResult (tableCode n t p) f) (bindResult (lift q) g)
+  unfolding bindResult ifOk bind run
+  a-code n t p q f g e h = record { is = go (has s a n) }
+    where
+      x : ℕ
+      x = readAt s a n
+
+      shalls : Bool → Prog (Result Forbidden A)
+      shalls b = bind (shall b) (ifOk (λ u. lift p))
+
+      theirs : Prog (Result Forbidden A) → Prog (Result Forbidden C)
+      theirs r = bind r (ifOk f)
+
+      Same : Prog (Result Forbidden C) → Type 0
+      Same r = Meets Q (run r s a .value) (run r s a .at) (run (bindResult (lift q) g) s a .value) (run (bindResult (lift q) g) s a .at)
+
+      yes-no : (b : Bool) → Same (theirs (shalls b))
+      yes-no true = a-lift p q f g e h .is
+      yes-no false = tt
+
+      go : (b : Bool) → Same (theirs (bind (cond b (pure x) (done forbidden)) (ifOk (λ x. shalls (t x)))))
+      go true = yes-no (t x)
+      go false = tt
 
 -- ---- loops in step
 

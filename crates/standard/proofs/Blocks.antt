@@ -41,7 +41,7 @@ use Rattle.picture_state.specs.Flags.{flag}
 use Rattle.blocks.specs.Blocks as O
 use Rattle.standard.specs.Standard as S
 use Rattle.standard.specs.Standard.Words.{Forbidden}
-use Rattle.standard.proofs.Agreement.{ResultIs, Agree, a-same, a-pure, a-lift, a-bind, a-shall, a-for, lift-bind, lift-bind-on}
+use Rattle.standard.proofs.Agreement.{ResultIs, Agree, a-same, a-pure, a-lift, a-bind, a-shall, a-code, a-for, lift-bind, lift-bind-on}
 use Rattle.standard.proofs.Related.{Own, own, sliceOf, eights, Rule, coding}
 use Rattle.standard.specs.Rules.{times}
 
@@ -128,7 +128,9 @@ module _ (rule : Rule) (g : Context) (m : Matrices) (f b : S.Direction) (intra :
   unfolding S.reconstructed B.allPlaced
   pairs-same x [] l = record { same = refl; lone = l }
   pairs-same x (p ∷ ps) l =
-      go (rule .rules .admitted intra (p .level) scale quant) (rule .same intra (p .level) scale quant) (pairs-same next ps (lone-next x (p .run) theirs l))
+      go (S.isLevel (p .level) && rule .rules .admitted intra (p .level) scale quant)
+      (λ e. rule .same intra (p .level) scale quant (both (S.isLevel (p .level)) (rule .rules .admitted intra (p .level) scale quant) e .1))
+      (pairs-same next ps (lone-next x (p .run) theirs l))
     where
       place : ℕ
       place = getD zigZag (x .n + p .run) 0
@@ -184,7 +186,8 @@ module _ (s : List ℕ) where
   dc-agrees i a =
       let o = run (dcSize (ltb i 4)) s a in
       a-same (sym (lift-bind (dcSize (ltb i 4)) _ s a)) (
-      a-lift (dcSize (ltb i 4)) (dcSize (ltb i 4)) _ _ refl (go (o .value) (o .at) (size-small (ltb i 4) s a) (eqb (o .value) 0) refl))
+      a-code (S.longestSize (ltb i 4)) (S.isSizeCode (ltb i 4)) (dcSize (ltb i 4)) (dcSize (ltb i 4)) _ _ refl (
+      go (o .value) (o .at) (size-small (ltb i 4) s a) (eqb (o .value) 0) refl))
     where
       go : (n e : ℕ) → n ≤ 8 → (t : Bool) → eqb n 0 ≡ t
           → Agree _≡_ s e (cond t (pure (pos 0)) (bindResult (lift (bits n)) (λ d. pure (dctZZ0 n d))))

@@ -1,6 +1,6 @@
 -- 2.4.2.7, 2.4.4.2, 2.4.4.3: quantizer_scale and vectors of a macroblock. Assumes nothing.
 use mathlib.Core.Path.{_≡_, refl, sym, ap, subst}
-use mathlib.Core.Bool.{Bool, true, false, cond, false≢true}
+use mathlib.Core.Bool.{Bool, true, false, cond, not, false≢true}
 use mathlib.Core.List.{List}
 use Prim.Native.Nat.{ℕ, _*_, _^_}
 use native.Mathlib.Nat.{le-refl}
@@ -24,7 +24,7 @@ use Rattle.macroblock_head.specs.Heads as O
 use Rattle.picture_state.specs.Flags.{flag}
 use Rattle.standard.specs.Standard as S
 use Rattle.standard.specs.Standard.Words.{Forbidden}
-use Rattle.standard.proofs.Agreement.{Agree, a-same, a-pure, a-lift, a-bind, a-as, lift-bind, lift-bind-on}
+use Rattle.standard.proofs.Agreement.{Agree, a-same, a-pure, a-lift, a-bind, a-shall, a-code, a-as, lift-bind, lift-bind-on}
 use Rattle.standard.proofs.Related.{In, motionOf, Own, own, sliceOf}
 
 zero-range : (f : ℕ) → InRange (2 ^ f) (pos 0)
@@ -47,9 +47,9 @@ module _ {s : List ℕ} where
   vector-agrees d b x a i =
       let r = d .«r_size» in
       a-same (sym (lift-bind (motionVector r (x .right)) _ s a)) (
-      a-lift (standardVector r (x .right)) (motionVector r (x .right)) _ _ (standard-step r (x .right) (i .right) s a) (
+      a-code 8 S.isMotionCode (standardVector r (x .right)) (motionVector r (x .right)) _ _ (standard-step r (x .right) (i .right) s a) (
       a-same (sym (lift-bind (motionVector r (x .down)) _ s _)) (
-      a-lift (standardVector r (x .down)) (motionVector r (x .down)) _ _ (standard-step r (x .down) (i .down) s _) (
+      a-code 8 S.isMotionCode (standardVector r (x .down)) (motionVector r (x .down)) _ _ (standard-step r (x .down) (i .down) s _) (
       a-pure (record { right = step-in s r (x .right) _ (i .right); down = step-in s r (x .down) _ (i .down) }, refl)))))
 
   -- the forward vector behind the type t
@@ -79,18 +79,22 @@ module _ {s : List ℕ} where
       go false = a-pure (i, refl, λ z. refl)
 
   scale-agrees : (t : ℕ) (y : Slice) (a : ℕ)
-      → Agree (λ q z. z ≡ scaleAs q y) s a (cond (flag t 16) (lift (bits 5)) (pure (y .«quantizer_scale»))) (lift (O.scale t y))
-  unfolding O.scale lift bind run
+      → Agree (λ q z. z ≡ scaleAs q y) s a (cond (flag t 16) S.quantizerScale (pure (y .«quantizer_scale»))) (lift (O.scale t y))
+  unfolding O.scale lift bind
   scale-agrees t y a = go (flag t 16)
     where
-      go : (b : Bool) → Agree (λ q z. z ≡ scaleAs q y) s a (cond b (lift (bits 5)) (pure (y .«quantizer_scale»)))
+      go : (b : Bool) → Agree (λ q z. z ≡ scaleAs q y) s a (cond b S.quantizerScale (pure (y .«quantizer_scale»)))
           (lift (cond b (bind (bits 5) (λ q. done (scaleAs q y))) (done y)))
-      go true = record { is = (refl, refl) }
+      go true =
+          let q = run (bits 5) s a .value in
+          a-same (sym (lift-bind (bits 5) (λ q. done (scaleAs q y)) s a)) (
+          a-lift (bits 5) (bits 5) (λ q. bindResult (S.shall (not (eqb q 0))) (λ u. pure q)) (λ q. pure (scaleAs q y)) refl (
+          a-shall (not (eqb q 0)) (λ u. pure q) (λ z. a-pure refl)))
       go false = a-pure refl
 
 -- the steps of the standard behind the type t, up to its vectors
 abbrev pub their : {C : Type 0} → S.Coding → ℕ → ℕ → S.Vector → S.Vector → (ℕ → S.Vector → S.Vector → Prog (Result Forbidden C)) → Prog (Result Forbidden C)
-their g t q f b F = bindResult (cond (flag t 16) (lift (bits 5)) (pure q)) (λ q. bindResult (S.forVector g t f) (λ f. bindResult (S.backVector g t b) (F q f)))
+their g t q f b F = bindResult (cond (flag t 16) S.quantizerScale (pure q)) (λ q. bindResult (S.forVector g t f) (λ f. bindResult (S.backVector g t b) (F q f)))
 
 -- our predictors behind a macroblock that is not intra
 abbrev pub reset : ℕ → Own

@@ -3,6 +3,7 @@ pub mod Increment
 pub mod Related
 pub mod Heads
 pub mod Predictions
+pub mod TableCodes
 pub mod Types
 pub mod Skips
 pub mod Blocks

@@ -12,6 +12,7 @@ use Rattle.laws.proofs.Tests.{both}
 use Rattle.laws.proofs.Ints.{v, lit, _⊕_, _⊖_, le-yes, yes-le, yes-lt, no-lt, no-le, lt-yes}
 use Rattle.bits.specs.Bounds.{longestStream}
 use Rattle.bits.specs.Programs.{Prog, done, run, bind}
+use Rattle.bits.proofs.Programs.{run-bind}
 use Rattle.codes.specs.Codes.{codeBlockPattern}
 use Rattle.picture_state.specs.declared.types.{Context.Context, Matrices.Matrices, Slice.Slice}
 use Rattle.picture_state.specs.State.{SliceState, sliceState, freshBlock}
@@ -26,6 +27,7 @@ use Rattle.blocks.specs.Blocks as O
 use Rattle.macroblock.specs.Macroblocks as M
 use Rattle.standard.specs.Standard as S
 use Rattle.standard.specs.Standard.Words.{Forbidden}
+use Rattle.picture_state.proofs.Runs.{run-lift}
 use Rattle.standard.proofs.Agreement.{Agree, a-by, a-pure, a-step, a-lift, a-bind, a-shall, a-after}
 use Rattle.standard.proofs.Related.{In, Own, own, sliceOf, eights, pastStart, forNext, backNext, Related, Rule, coding}
 use Rattle.standard.proofs.Increment.{increment-agrees}
@@ -34,10 +36,12 @@ use Rattle.standard.proofs.Skips.{Ready, predicted-meets, first-ready, 
 use Rattle.standard.proofs.Blocks.{left-six, intra-blocks, inter-blocks}
 use Rattle.standard.proofs.Types.{intra-alone, no-backward}
 
--- one program for both
-a-same-both : {s : List ℕ} (p : Prog ℕ) (a : ℕ) → Agree _≡_ s a (lift p) (lift p)
-unfolding lift run
-a-same-both {s} p a = a-by _ _ (run-bind p (λ v. done (ok v)) s a) (run-bind p (λ v. done (ok v)) s a) (refl, refl)
+pattern-agrees : (s : List ℕ) (a : ℕ) → Agree _≡_ s a S.codedBlockPattern (lift codeBlockPattern)
+unfolding lift
+pattern-agrees s a =
+    let c = run codeBlockPattern s a .value in
+    a-by _ _ (run-lift codeBlockPattern (λ c. bindResult (S.shall (not (eqb c 0))) (λ u. pure c)) s a) (run-bind codeBlockPattern (λ v. done (ok v)) s a)
+    (a-shall {Q = _≡_} (not (eqb c 0)) (λ u. pure c) (λ z. a-pure refl) .is)
 
 either : {X : Type 0} (b : Bool) → (b ≡ true → X) → (b ≡ false → X) → X
 either true p q = p refl
@@ -85,7 +89,7 @@ module _ (rule : Rule) (g : Context) (m : Matrices) (df db : S.Direction) (s : L
   abbrev theirRest : Bool → Bool → ℕ → S.Vector → S.Vector → Prog (Result Forbidden S.Variables)
   theirRest intra pattern q for back =
       bindResult (fromResult (cond intra (ok l) (S.predicted G t (natAbs A) for back l))) (λ p.
-      bindResult (cond pattern (lift codeBlockPattern) (pure 0)) (λ cbp.
+      bindResult (cond pattern S.codedBlockPattern (pure 0)) (λ cbp.
       bindResult (S.blocks G intra (S.far A x) cbp q (natAbs A) (record { past = x .past; pels = p })) (λ b. pure (after intra q for back b))))
 
   abbrev oursRest : Bool → Bool → Slice → Prog (Result Stop SliceState)
@@ -138,7 +142,7 @@ module _ (rule : Rule) (g : Context) (m : Matrices) (df db : S.Direction) (s : L
       theirBlocks p cbp = bindResult (S.blocks G false (S.far A x) cbp q (natAbs A) (record { past = x .past; pels = p })) (λ b′. pure (after false q f b b′))
 
       afterPrediction : List ℕ → Prog (Result Forbidden S.Variables)
-      afterPrediction p = bindResult (cond (flag t 2) (lift codeBlockPattern) (pure 0)) (theirBlocks p)
+      afterPrediction p = bindResult (cond (flag t 2) S.codedBlockPattern (pure 0)) (theirBlocks p)
 
       ourBlocks : List ℕ → ℕ → Prog (Result Stop SliceState)
       ourBlocks p c = O.blocks g m false c (sliceState (sliceOf G A q f b (reset t)) freshBlock p)
@@ -146,8 +150,8 @@ module _ (rule : Rule) (g : Context) (m : Matrices) (df db : S.Direction) (s : L
       ourPattern : List ℕ → Prog (Result Stop SliceState)
       ourPattern p = bindResult (lift (cond (flag t 2) (codeBlockPattern) (done 0))) (ourBlocks p)
 
-      patterns : (b : Bool) (e : ℕ) → Agree _≡_ s e (cond b (lift codeBlockPattern) (pure 0)) (lift (cond b (codeBlockPattern) (done 0)))
-      patterns true e = a-same-both codeBlockPattern e
+      patterns : (b : Bool) (e : ℕ) → Agree _≡_ s e (cond b S.codedBlockPattern (pure 0)) (lift (cond b (codeBlockPattern) (done 0)))
+      patterns true e = pattern-agrees s e
       patterns false e = a-pure refl
 
       for-is : (p2 : Bool) → (flag t 8 ≡ false → p2 ≡ true → f ≡ S.zero-vector) → (h8 : Bool) → flag t 8 ≡ h8

@@ -1,15 +1,13 @@
 -- What our state is while the standard's is v: the statement's relation. Assumes nothing.
-use mathlib.Core.Path.{_≡_, refl, ap}
-use mathlib.Core.Bool.{Bool, true, false, cond, false≢true}
+use mathlib.Core.Path.{_≡_, refl}
+use mathlib.Core.Bool.{Bool, true, false, cond}
 use mathlib.Core.List.{List, [], _∷_}
 use Prim.Native.Nat.{ℕ, _^_}
 use lib.Dec.{eqb}
-use lib.IntN.{ℤ, pos, negsuc, _+ℤ_, _*ℤ_}
-use borrow.Author.Tests.{eqb-true}
-use Rattle.bits.specs.Programs.{eqZ}
+use lib.IntN.{ℤ, pos, _+ℤ_, _*ℤ_}
 use lib.Signed.{ltZ, leZ}
 use Rattle.coefficients.specs.Dequantise.{quantiser, dequantised}
-use Rattle.coefficients.specs.Standard.{dctRecon}
+use Rattle.coefficients.proofs.Standard.{same-recon}
 use Rattle.motion.specs.Displacement.{InRange}
 use Rattle.picture_state.specs.declared.types.{Context.Context, Matrices.Matrices, Motion.Motion, Slice.Slice}
 use Rattle.picture_state.specs.State.{SliceState, sliceState, freshBlock}
@@ -88,15 +86,8 @@ pub record Rule : Type 0 where
 pub rust : Rule
 rust = record { rules = R.rust; same = λ i z s q e. refl; transform = λ recon. refl }
 
-same-by : (x y : ℤ) → eqZ x y ≡ true → x ≡ y
-same-by (pos m) (pos n) e = ap pos (eqb-true m n e)
-same-by (pos m) (negsuc n) e = absurd (false≢true e)
-same-by (negsuc m) (pos n) e = absurd (false≢true e)
-same-by (negsuc m) (negsuc n) e = ap negsuc (eqb-true m n e)
-
--- recon-as-printed in crates/coefficients/proofs/Standard.antt says of which levels
 pub printed : Rule
-printed = record { rules = R.printed; same = λ i z s q e. same-by (dctRecon i z s q) (dequantised (quantiser i s) z q) e; transform = λ recon. refl }
+printed = record { rules = R.printed; same = same-recon; transform = λ recon. refl }
 
 abbrev pub coding : Rule → Context → Matrices → Direction → Direction → Coding
 coding rule g m f b = record { context = g; matrices = m; forward = f; backward = b; rules = rule .rules }

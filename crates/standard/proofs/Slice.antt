@@ -16,7 +16,7 @@ use Rattle.bits.specs.Programs.{Prog, Out, done, run, bind, bits, nonZero, many
 use Rattle.bits.proofs.Programs.{run-bind}
 use Rattle.picture_state.specs.declared.types.{Context.Context, Matrices.Matrices, Slice.Slice}
 use Rattle.picture_state.specs.State.{SliceState, withSlice, freshBlock}
-use Rattle.picture_state.specs.Result.{Result, ok, error}
+use Rattle.picture_state.specs.Result.{Result, ok, error, ifOk, bindResult, lift, pure}
 use Rattle.picture_state.specs.Stop.{Stop}
 use Rattle.macroblock.specs.Macroblocks as M
 use Rattle.slice.specs.Slices as O
@@ -137,6 +137,24 @@ module _ (rule : Rule) (g : Context) (m : Matrices) (df db : S.Direction) (s : L
         start = λ e. yes-lt (v (negsuc 1)) (lit before ⊖ lit 1) (omega arith);
       }
 
+  -- quantizer_scale before what follows it
+  scale-then : {A B : Type 0} {R : A → B → Type 0} (F : ℕ → Prog (Result Forbidden A)) (H : ℕ → Prog (Result Stop B)) (a : ℕ)
+      → Agree R s (run (bits 5) s a .at) (F (run (bits 5) s a .value)) (H (run (bits 5) s a .value))
+      → Agree R s a (bindResult S.quantizerScale F) (bind (bits 5) H)
+  unfolding bindResult ifOk lift bind run
+  scale-then {A} {B} {R} F H a h = record { is = go (not (eqb q 0)) }
+    where
+      q : ℕ
+      q = readAt s a 5
+
+      theirs : Bool → Prog (Result Forbidden A)
+      theirs b = bind (bind (S.shall b) (ifOk (λ u. pure q))) (ifOk F)
+
+      go : (b : Bool) → Meets R (run (theirs b) s (run (bits 5) s a .at) .value) (run (theirs b) s (run (bits 5) s a .at) .at)
+          (run (H q) s (run (bits 5) s a .at) .value) (run (H q) s (run (bits 5) s a .at) .at)
+      go true = h .is
+      go false = tt
+
   -- 2.4.2.6, 2.4.4: the standard's slice() and ours, from behind the start code on
   pub slice-agrees : (position : ℕ) (w : SliceState) (a : ℕ) → Begun df db (w .slice) → w .«block_data» ≡ freshBlock
       → Agree (Related C false) s a (S.slice C position (w .store)) (O.slice g m position w)
@@ -145,6 +163,6 @@ module _ (rule : Rule) (g : Context) (m : Matrices) (df db : S.Direction) (s : L
       let o = run (bits 5) s a in
       let e = run O.extra s (o .at) in
       let q = o .value in
-      a-by _ _ (run-lift (bits 5) _ s a ∙ run-lift O.extra _ s (o .at)) (run-bind (bits 5) _ s a ∙ run-bind O.extra _ s (o .at))
+      scale-then _ _ a (a-by _ _ (run-lift O.extra _ s (o .at)) (run-bind O.extra _ s (o .at))
       (a-loop (Between C) (Related C false) s (S.sliceStep C) (O.sliceStep g m) (ok w) step-meets many _ _ (e .at)
-      (record { first = refl; same = start-related position q w b none }) .is)
+      (record { first = refl; same = start-related position q w b none }) .is))

@@ -1,8 +1,8 @@
 -- The two rules that specs/Standard leaves open: those of the Rust, and the printed rule of reconstruction.
 use Rattle.codes.specs.Matrices.{premultiplierMatrix}
-use Rattle.coefficients.specs.{Dequantise.quantiser, Dequantise.dequantised, Standard.dctRecon}
+use Rattle.coefficients.specs.{Dequantise.quantiser, Dequantise.dequantised, Standard.dctRecon, Standard.sameRecon}
 use Rattle.transform.specs.Idct.{idct}
-use Rattle.standard.specs.Standard.{Words.true, Words.List, Words.[], Words._∷_, Words.ℤ, Words.pos, Words._*ℤ_, Words.eqZ, State.Rules}
+use Rattle.standard.specs.Standard.{Words.true, Words.List, Words.[], Words._∷_, Words.ℤ, Words.pos, Words._*ℤ_, State.Rules}
 
 -- RULES 4.1: dct_recon times the premultiplier, place by place
 abbrev pub times : List ℤ → List ℤ → List ℤ
@@ -18,6 +18,6 @@ transformed recon = idct (times recon premultiplierMatrix)
 abbrev pub rust : Rules
 rust = record { dctRecon = λ i z s q. dequantised (quantiser i s) z q; admitted = λ i z s q. true; transform = transformed }
 
--- the printed rule, which admits what the Rust makes the same of (DIFFERENCES A.1 to A.3)
+-- the printed rule, which admits what the Rust makes the same of (DIFFERENCES A.1 to A.3; `same-is` in crates/coefficients/proofs/Standard.antt)
 abbrev pub printed : Rules
-printed = record { dctRecon = dctRecon; admitted = λ i z s q. eqZ (dctRecon i z s q) (rust .dctRecon i z s q); transform = transformed }
+printed = record { dctRecon = dctRecon; admitted = sameRecon; transform = transformed }

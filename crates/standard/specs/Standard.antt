@@ -22,17 +22,31 @@ increment = do
   shall (leb 1 code && leb code 33)
   pure (escapes + code)
 
+-- 2.4.3.5, 2.4.3.6: quantizer_scale, of which 0 is forbidden
+abbrev pub quantizerScale : Prog (Result Forbidden ℕ)
+quantizerScale = do
+  scale ← lift (bits 5)
+  shall (not (eqb scale 0))
+  pure scale
+
+-- Table B.3: coded_block_pattern, of which none is 0, which what is no code is read as
+abbrev pub codedBlockPattern : Prog (Result Forbidden ℕ)
+codedBlockPattern = do
+  cbp ← lift codeBlockPattern
+  shall (not (eqb cbp 0))
+  pure cbp
+
 -- 2.4.2.7: from macroblock_type on, at the address n behind the last one, which was of the type `last`
 unfoldable pub codedMacroblock : Coding → Bool → ℕ → ℕ → Variables → List ℕ → Prog (Result Forbidden Variables)
 codedMacroblock g first n last v l = do
   let address = v .«previous_macroblock_address» +ℤ pos n
   t ← lift (macroblockType (g .context .«picture_type»))
   shall (inTable (g .context .«picture_type») t)
-  scale ← if «macroblock_quant» t then lift (bits 5) else pure (v .«quantizer_scale»)
+  scale ← if «macroblock_quant» t then quantizerScale else pure (v .«quantizer_scale»)
   for ← forVector g t (forStart g first last v)
   back ← backVector g t (backStart g first last v)
   p ← fromResult (if «macroblock_intra» t then ok l else predicted g t (natAbs address) for back l)
-  cbp ← if «macroblock_pattern» t then lift codeBlockPattern else pure 0
+  cbp ← if «macroblock_pattern» t then codedBlockPattern else pure 0
   b ← blocks g («macroblock_intra» t) (far address v) cbp scale (natAbs address) (record { past = v .past; pels = p })
   pure (record {
     «previous_macroblock_address» = address;
@@ -90,7 +104,7 @@ sliceStart g position q l = record {
 -- 2.4.2.6: quantizer_scale, extra_information_slice, macroblocks
 unfoldable pub slice : Coding → ℕ → List ℕ → Prog (Result Forbidden Variables)
 slice g position l = do
-  q ← lift (bits 5)
+  q ← quantizerScale
   lift extra
   loop many (sliceStep g) forbidden (record { first = true; variables = sliceStart g position q l })
 

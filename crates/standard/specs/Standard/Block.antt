@@ -4,9 +4,9 @@ use Rattle.coefficients.specs.declared.block.BlockEnd.the-variants.{Whole, Drop
 use Rattle.coefficients.specs.{Dcs.dcSize, Standard.dctZZ0, Syntax.Pair, Syntax.PairsEnd, Syntax.pairs}
 use Rattle.prediction.specs.{Planes.planeOf, Planes.planeLength, Writers.overwrite, Writers.addBlock, Writers.blockWidth, Writers.blockAddress}
 use Rattle.blocks.specs.Blocks.{matrixFor}
-use Rattle.standard.specs.Standard.Words.{Bool, true, false, _&&_, _||_, List, [], _∷_, ℕ, _+_, _-_, _^_, eqb, ltb, ℤ, pos, negℤ, _+ℤ_}
+use Rattle.standard.specs.Standard.Words.{Bool, true, false, _&&_, _||_, List, [], _∷_, ℕ, _+_, _-_, _^_, eqb, ltb, leb, ℤ, pos, negℤ, natAbs, _+ℤ_}
 use Rattle.standard.specs.Standard.Words.{_-ℤ_, _*ℤ_, getD, set, replicate, ltZ, leZ, midOf, putMid, Prog, bits, if_then_else_, macroblockAt, planeStart}
-use Rattle.standard.specs.Standard.Words.{Result, ok, lift, fromResult, pure, forBelow, _>>=_, _>>_, flag, Forbidden, forbidden, shall}
+use Rattle.standard.specs.Standard.Words.{Result, ok, lift, fromResult, pure, forBelow, _>>=_, _>>_, flag, Forbidden, forbidden, shall, tableCode}
 use Rattle.standard.specs.Standard.State.{Coding, Pasts, pasts, Variables}
 
 -- dct_recon so far, row by row, and how many places of the zig-zag order are used
@@ -14,13 +14,17 @@ pub record Filled : Type 0 where
   pub recon : List ℤ
   pub n : ℕ
 
+-- Table B.5: a level is -255 to 255, and not 0, which what is no code is read as
+abbrev pub isLevel : ℤ → Bool
+isLevel level = leb 1 (natAbs level) && leb (natAbs level) 255
+
 -- 2.4.3.7: i = i + run + 1; dct_zz[i] = level. 2.4.4.1, 2.4.4.2: dct_recon[m][n], where scan[m][n] is i
 unfoldable pub reconstructed : Coding → Bool → ℕ → Filled → List Pair → Result Forbidden Filled
 reconstructed g intra scale f [] = ok f
 reconstructed g intra scale f (p ∷ ps) =
     let position = getD zigZag (f .n + p .run) 0 in
     let quant = getD (matrixFor (g .matrices) intra) position 0 in
-    if g .rules .admitted intra (p .level) scale quant then
+    if isLevel (p .level) && g .rules .admitted intra (p .level) scale quant then
     reconstructed g intra scale (record { recon = set (f .recon) position (g .rules .dctRecon intra (p .level) scale quant); n = f .n + p .run + 1 }) ps
     else forbidden
 
@@ -28,10 +32,17 @@ reconstructed g intra scale f (p ∷ ps) =
 abbrev pub coefficients : Coding → Bool → ℕ → Filled → PairsEnd → Result Forbidden Filled
 coefficients g intra scale f p = elim (p .end) [ Whole ↦ reconstructed g intra scale f (p .pairs) | Dropped ↦ forbidden | Outside ↦ forbidden ]
 
+-- Table B.5: how many bits the longest code of dct_dc_size_luminance or dct_dc_size_chrominance has; what is 1 in all of them is no code
+abbrev pub longestSize : Bool → ℕ
+longestSize luminance = if luminance then 7 else 8
+
+abbrev pub isSizeCode : Bool → ℕ → Bool
+isSizeCode luminance x = ltb (x + 1) (2 ^ longestSize luminance)
+
 -- 2.4.2.8, 2.4.3.7: dct_dc_size_.., dct_dc_differential, and dct_zz[0] from them
 unfoldable pub dctDc : ℕ → Prog (Result Forbidden ℤ)
 dctDc i = do
-  size ← lift (dcSize (ltb i 4))
+  size ← tableCode (longestSize (ltb i 4)) (isSizeCode (ltb i 4)) (dcSize (ltb i 4))
   if eqb size 0 then pure (pos 0) else do
     differential ← lift (bits size)
     pure (dctZZ0 size differential)

@@ -7,7 +7,7 @@ use Rattle.prediction.specs.Predict.{blockOf, width, height, bytes, address, in
 use Rattle.prediction.specs.{Planes.blockSize, Planes.macroblocks, Standard.whole, Standard.half, Standard.chrominance, Standard.pel, Standard.interpolated}
 use Rattle.standard.specs.Standard.Words.{Bool, true, false, not, _&&_, _||_, List, ℕ, zero, suc, _+_, _-_, _*_, eqb, ltb, leb, ℤ, pos, natAbs}
 use Rattle.standard.specs.Standard.Words.{_+ℤ_, getD, leZ, midOf, putMid, Prog, if_then_else_, macroblockAt, planeStart, Result, ok, andThen}
-use Rattle.standard.specs.Standard.Words.{lift, pure, _>>=_, _>>_, Forbidden, forbidden}
+use Rattle.standard.specs.Standard.Words.{pure, _>>=_, _>>_, Forbidden, forbidden, tableCode}
 use Rattle.standard.specs.Standard.State.{Vector, zero-vector, Direction, Coding, Variables}
 use Rattle.standard.specs.Standard.State.{«macroblock_motion_forward», «macroblock_motion_backward», «macroblock_intra»}
 
@@ -21,11 +21,15 @@ forStart g first t v =
 abbrev pub backStart : Coding → Bool → ℕ → Variables → Vector
 backStart g first t v = if first || not (eqb (g .context .«picture_type») 3) || «macroblock_intra» t then zero-vector else v .backPrev
 
+-- Table B.4: no motion code begins with 0000 0010 or less
+abbrev pub isMotionCode : ℕ → Bool
+isMotionCode x = leb 0b0000_0011 x
+
 -- 2.4.2.7, 2.4.4.2: motion_horizontal_.., then motion_vertical_.., each with its residual
 unfoldable pub vector : Direction → Vector → Prog (Result Forbidden Vector)
 vector d prev = do
-  right ← lift (standardVector (d .«r_size») (prev .right))
-  down ← lift (standardVector (d .«r_size») (prev .down))
+  right ← tableCode 8 isMotionCode (standardVector (d .«r_size») (prev .right))
+  down ← tableCode 8 isMotionCode (standardVector (d .«r_size») (prev .down))
   pure (record { right = right; down = down })
 
 -- 2.4.4.2: without data the vector is 0 in a P picture. 2.4.4.3: in a B picture it is the one before

@@ -30,6 +30,10 @@ shall b = if b then pure tt else done forbidden
 abbrev pub nextbits : ℕ → Prog (Result Forbidden ℕ)
 nextbits n = look n (λ h v. if h then pure v else done forbidden)
 
+-- a code of a table, read by p: of the next n bits t says whether such a code begins with them
+abbrev pub tableCode : {A : Type 0} → ℕ → (ℕ → Bool) → Prog A → Prog (Result Forbidden A)
+tableCode n t p = nextbits n >>= λ x. shall (t x) >> lift p
+
 -- 2.2, a field of n bits, which are there
 unfoldable pub field : ℕ → Prog (Result Forbidden ℕ)
 field n = look n (λ h v. if h then skip n (pure v) else done forbidden)
