@@ -1,4 +1,4 @@
-// Times the reading of codes: ours, the archive of crates/pace, and the Rust on the same bits in one process.
+// Times the reading of codes: ours, the archive of crates/code_timing, and the Rust on the same bits in one process.
 // usage: codes ROUNDS FILE ..   by the best processor times, the two in turn, codes a second: of coefficients and increments together for each file, then of
 //                               each table alone. What is read are the codes that the Rust reads in the file; both sides sum up their values.
 mod clock;

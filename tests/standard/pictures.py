@@ -20,7 +20,7 @@ use Prim.Native.Nat.{ℕ, _*_}
 use lib.IntN.{pos}
 use Rattle.bits.specs.Programs.{run}
 use Rattle.picture_state.specs.declared.types.{Stores.Stores, Matrices.Matrices}
-use Rattle.standard.specs.Standard.Words.{conforms}
+use Rattle.standard.specs.Standard.Prelude.{conforms}
 use Rattle.standard.specs.Standard.State.{Rules, Direction}
 use Rattle.standard.specs.Standard.{Decoded, rolesAfter, picture}
 use Rattle.standard.specs.Rules.{rust, printed}
@@ -56,10 +56,10 @@ use mathlib.Core.List.{List, [], _∷_, map}
 use Prim.Native.Nat.{ℕ, suc}
 use lib.IntN.{pos}
 use Rattle.bits.specs.Bits.{Found}
-use Rattle.bits.specs.Programs.{Out, run, many}
+use Rattle.bits.specs.Programs.{RunResult, run, streamFuel}
 use Rattle.picture_state.specs.declared.types.{Sizes.Sizes, Matrices.Matrices}
 use Rattle.picture_state.specs.Result.{Result, ok, error, andThen}
-use Rattle.standard.specs.Standard.Words.{Forbidden, conforms, forbidden}
+use Rattle.standard.specs.Standard.Prelude.{Forbidden, conforms, forbidden}
 use Rattle.standard.specs.Standard.State.{Rules, Direction}
 use Rattle.standard.specs.Standard.{Decoded, picture}
 use Rattle.standard.specs.Rules.{rust, printed}
@@ -75,7 +75,7 @@ matrices = record { «intra_quant_matrix» = INTRA; «non_intra_quant_matrix» =
 abbrev s : List ℕ
 s = BYTES
 
-abbrev read : Rules → List ℕ → SequenceState → ℕ → Out (Result Forbidden Decoded)
+abbrev read : Rules → List ℕ → SequenceState → ℕ → RunResult (Result Forbidden Decoded)
 read r t x a = run (picture r sizes matrices (x .stores) (x .forward) (x .backward) (x .pels)) t a
 
 -- what `pictures` does behind the picture start code at a
@@ -138,7 +138,7 @@ abbrev stores : Result Forbidden (List Decoded) → List ℕ
 stores (ok ds) = map storeOf (shown (allButLast ds))
 stores (error e) = 3 ∷ []
 """
-FUEL = 134217729  # `many`
+FUEL = 134217729  # `streamFuel`
 END = b"\0\0\1\xb7\0"
 INTRA = """8 16 19 22 26 27 29 34 16 16 22 24 27 29 34 37 19 22 26 27 29 34 34 38 22 22 26 27 29 34 37 40
 22 26 27 29 32 35 40 48 26 27 29 32 35 40 48 58 26 27 29 34 38 46 56 69 27 29 35 38 46 56 69 83"""
@@ -270,7 +270,7 @@ def sequence_text(root, name, n, uses, unfolds):
         else:
             text += f"rest{n}x{k} = goes-on rust {FUEL - k - 1} x{k} {places[k - 1]} {after(k)} ds{k + 1} step{n}x{k} rest{n}x{k + 1}\n"
     text += f"\nfirst{n}x0 : following (pos 0) matrices s {place} ≡ ok (record {{ code = pos 0; at = {places[0]} }})\nunfolding {unfolds}\nfirst{n}x0 = refl\n"
-    text += f"\nsequence{n}x0 : stores (pictures rust sizes matrices s many x1 {place}) ≡ {listed(handed)}\n"
+    text += f"\nsequence{n}x0 : stores (pictures rust sizes matrices s streamFuel x1 {place}) ≡ {listed(handed)}\n"
     return text + f"sequence{n}x0 = ap stores (begins rust {FUEL - 1} {place} {places[0]} x1 ds1 first{n}x0 rest{n}x1)\n"
 
 

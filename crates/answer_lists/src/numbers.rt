@@ -29,7 +29,7 @@ pub fn signed(n: u32) -> i32
 }
 
 // What a list holds z as.
-pub fn held(z: i32) -> u32
+pub fn twos_complement(z: i32) -> u32
     ensures { λ r. ⌜ r ≡ ofZ w32 z ⌝ }
 {
     if z < 0 {

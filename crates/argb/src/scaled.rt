@@ -7,7 +7,7 @@ ghost use Rattle.laws.specs.Stores.{storeRow};
 ghost use Rattle.argb.specs.Scaled.{picture, PlanesFit, samplePixel, scaled};
 
 // The size that is shown, and the width of plane Y.
-pub struct Display {
+pub struct DisplaySize {
     pub width: usize,
     pub height: usize,
     pub luma_width: usize,
@@ -41,7 +41,7 @@ fn write_row(
     y: &[u8],
     cr: &[u8],
     cb: &[u8],
-    size: Display,
+    size: DisplaySize,
     sy: usize,
     dst: &mut [u32],
     dst_w: usize,
@@ -73,7 +73,7 @@ fn write_row(
 }
 
 // The colours of the row sy of the samples, two for each place of Cr and Cb: vectors, since nothing is scaled yet.
-fn colour_row(y: &[u8], cr: &[u8], cb: &[u8], size: Display, sy: usize, row: &mut [u32; 4096])
+fn colour_row(y: &[u8], cr: &[u8], cb: &[u8], size: DisplaySize, sy: usize, row: &mut [u32; 4096])
     requires { ⌜ PlanesFit (picture (size .width) (size .height) (size .«luma_width») (now y) (now cr) (now cb)) ⌝ }
     requires { ⌜ sy < size .height ⌝ }
     ensures { λ r. ⌜ now (row .exit) ≡ storeRow (now (row .entry)) 0
@@ -132,7 +132,7 @@ pub fn write_rgb_scaled(
     y: &[u8],
     cr: &[u8],
     cb: &[u8],
-    size: Display,
+    size: DisplaySize,
     dst: &mut [u32],
     dst_w: usize,
     dst_h: usize,

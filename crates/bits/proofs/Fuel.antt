@@ -6,17 +6,17 @@ use Prim.Native.Nat.{ℕ, zero, suc, _≤_, _<_}
 use native.Mathlib.Omega.{arith}
 use Rattle.laws.specs.Loops.{Step, continue, finish, iterate, finishes}
 use Rattle.laws.proofs.Loops.{more-fuel, enough-fuel}
-use Rattle.bits.specs.Programs.{Prog, Out, run, continueWith, loop}
+use Rattle.bits.specs.Programs.{Prog, RunResult, run, continueWith, loop}
 use Rattle.bits.specs.Runs.{RunsAt}
 use Rattle.bits.proofs.Programs.{run-bind}
 
 -- what a turn of the program did, on its state and place
-abbrev turned : {S A : Type 0} → Step S A → ℕ → Step (Out S) (Out A)
+abbrev turned : {S A : Type 0} → Step S A → ℕ → Step (RunResult S) (RunResult A)
 turned (continue x) e = continue (record { value = x; at = e })
 turned (finish v) e = finish (record { value = v; at = e })
 
 module _ {S A : Type 0} (f : S → Prog (Step S A)) (s : List ℕ) where
-  abbrev step : Out S → Step (Out S) (Out A)
+  abbrev step : RunResult S → Step (RunResult S) (RunResult A)
   step w = turned (run (f (w .value)) s (w .at) .value) (run (f (w .value)) s (w .at) .at)
 
   run-loop : (n : ℕ) (d : A) (x : S) (a : ℕ) → run (loop n f d x) s a ≡ iterate n step (λ w. record { value = d; at = w .at })
@@ -45,14 +45,14 @@ module _ {S A : Type 0} (f : S → Prog (Step S A)) (s : List ℕ) where
       (record { value = x; at = a }) tt h k
       ∙ sym (run-loop m e x a)
     where
-      state : Out S → Step (Out S) (Out A) → Out S
+      state : RunResult S → Step (RunResult S) (RunResult A) → RunResult S
       state w (continue u) = u
       state w (finish v) = w
 
-      less : (w u : Out S) (t : Step S A) → run (f (w .value)) s (w .at) .value ≡ t → turned t (run (f (w .value)) s (w .at) .at) ≡ continue u
+      less : (w u : RunResult S) (t : Step S A) → run (f (w .value)) s (w .at) .value ≡ t → turned t (run (f (w .value)) s (w .at) .at) ≡ continue u
           → μ (u .value) (u .at) < μ (w .value) (w .at)
       less w u (continue y) r q =
-          subst (λ (o : Out S). μ (o .value) (o .at) < μ (w .value) (w .at)) (ap (state w) q)
+          subst (λ (o : RunResult S). μ (o .value) (o .at) < μ (w .value) (w .at)) (ap (state w) q)
           (falls (w .value) y (w .at) (run (f (w .value)) s (w .at) .at) (record { is = λ i. record { value = r i; at = run (f (w .value)) s (w .at) .at } }))
       less w u (finish v) r q =
           let z : _≡_ {A = ℕ} 0 1 = cc q in

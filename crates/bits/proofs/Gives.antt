@@ -13,7 +13,7 @@ use borrow.Author.Tests.{le-leb}
 use Rattle.laws.specs.Loops.{Step, continue, finish}
 use Rattle.laws.proofs.Tests.{by-case}
 use Rattle.bits.specs.Bits.{Found, has, readAt, found, boundary}
-use Rattle.bits.specs.Programs.{Prog, Out, done, run, bind, bits, reads, nextStartCode, forBelow, continueWith, loop}
+use Rattle.bits.specs.Programs.{Prog, RunResult, done, run, bind, bits, readAtMost32, nextStartCode, forBelow, continueWith, loop}
 use Rattle.bits.specs.Runs.{Runs, positionOf}
 use Rattle.bits.specs.declared.reader.Reader.{Reader}
 use Rattle.bits.proofs.Bits.{bits-lt}
@@ -26,7 +26,7 @@ pub record Gives {A : Type 0} (s : List ℕ) (P : A → Type 0) (p : Prog A) : T
 
 -- so it holds of the value of each run
 pub given-by : {A : Type 0} {s : List ℕ} {P : A → Type 0} {p : Prog A} {from to : Reader} {v : A} → Gives s P p → Runs p s from v to → P v
-given-by {A} {P = P} {from = from} g r = subst (λ (o : Out A). P (o .value)) (r .is) (g .value (positionOf from))
+given-by {A} {P = P} {from = from} g r = subst (λ (o : RunResult A). P (o .value)) (r .is) (g .value (positionOf from))
 
 -- what a turn that ended at the place e leaves: I of its state, or P of its answer
 abbrev pub Leaves : {S A : Type 0} → (S → ℕ → Type 0) → (A → Type 0) → Step S A → ℕ → Type 0
@@ -100,7 +100,7 @@ module _ {s : List ℕ} where
   g-bits n = record { value = λ a. got-lt s a n }
 
   -- the same of a read, which refuses more than 32 bits
-  pub g-reads : (n : ℕ) → Gives s (λ v. v < 2 ^ n) (reads n)
+  pub g-reads : (n : ℕ) → Gives s (λ v. v < 2 ^ n) (readAtMost32 n)
   g-reads n = g-if (leb n 32) (λ e. g-bits n) (λ e. g-done (pow-pos n))
 
   -- a start code of a stream of bytes, or -1

@@ -10,7 +10,7 @@ use lib.ListN.{length, getD, length-append}
 use lib.Seq.{getD-append-add}
 use borrow.Author.Tests.{leb-true}
 use Rattle.bits.specs.Bits.{Found, bitAt, bitsAt, has, readAt, afterRead, codePrefix, codeFrom, found, boundary}
-use Rattle.bits.specs.Programs.{Prog, done, read, skip, look, start, Out, run, short}
+use Rattle.bits.specs.Programs.{Prog, done, read, skip, peekBits, seekStartCode, RunResult, run, anyReadRefused}
 use Rattle.bits.proofs.Programs.{next-le, served-has, served-next, served-got}
 use Rattle.bits.proofs.Start.{isCode, found-on, codeFrom-past}
 
@@ -23,16 +23,16 @@ unfoldable pub far : {A : Type 0} → Prog A → List ℕ → ℕ → ℕ
 far (done x) s a = a
 far (read n k) s a = far (k (readAt s a n)) s (afterRead s a n)
 far (skip n p) s a = far p s (afterRead s a n)
-far (look n k) s a = max (a + n) (far (k (has s a n) (readAt s a n)) s a)
-far (start k) s a = max (saw s (found s a)) (far (k (found s a .code)) s (found s a .at))
+far (peekBits n k) s a = max (a + n) (far (k (has s a n) (readAt s a n)) s a)
+far (seekStartCode k) s a = max (saw s (found s a)) (far (k (found s a .code)) s (found s a .at))
 
 far-on : {A : Type 0} (p : Prog A) (s : List ℕ) (a : ℕ) → a ≤ far p s a
 unfolding far
 far-on (done x) s a = omega arith
 far-on (read n k) s a = omega (arith, next-le s a n, far-on (k (readAt s a n)) s (afterRead s a n))
 far-on (skip n p) s a = omega (arith, next-le s a n, far-on p s (afterRead s a n))
-far-on (look n k) s a = omega (arith, far-on (k (has s a n) (readAt s a n)) s a)
-far-on (start k) s a = omega (arith, found-on s a, far-on (k (found s a .code)) s (found s a .at))
+far-on (peekBits n k) s a = omega (arith, far-on (k (has s a n) (readAt s a n)) s a)
+far-on (seekStartCode k) s a = omega (arith, found-on s a, far-on (k (found s a .code)) s (found s a .at))
 
 -- the m bytes of s from x on are those of t from y on, and both have them
 pub record Alike (s : List ℕ) (x : ℕ) (t : List ℕ) (y m : ℕ) : Type 0 where
@@ -41,7 +41,7 @@ pub record Alike (s : List ℕ) (x : ℕ) (t : List ℕ) (y m : ℕ) : Type 0 wh
   pub right : y + m ≤ length t
 
 -- the same value, and both ended as far from there
-pub record Moved {A : Type 0} (o : Out A) (x : ℕ) (u : Out A) (y : ℕ) : Type 0 where
+pub record Moved {A : Type 0} (o : RunResult A) (x : ℕ) (u : RunResult A) (y : ℕ) : Type 0 where
   pub value : u .value ≡ o .value
   pub at : u .at + x * 8 ≡ o .at + y * 8
 
@@ -117,9 +117,9 @@ module _ (s : List ℕ) (x : ℕ) (t : List ℕ) (y m : ℕ) (w : Alike s x t y 
       served-next s (x * 8 + o) n (omega (arith, leb-true n (length s * 8 - (x * 8 + o)) h, next-le s (x * 8 + o) n)) ∙ add-assoc (x * 8) o n
 
   -- at the same distance o from x and from y
-  pub moved : {A : Type 0} (p : Prog A) (o : ℕ) → short p s (x * 8 + o) ≡ false → far p s (x * 8 + o) ≤ (x + m) * 8
+  pub moved : {A : Type 0} (p : Prog A) (o : ℕ) → anyReadRefused p s (x * 8 + o) ≡ false → far p s (x * 8 + o) ≤ (x + m) * 8
       → Moved (run p s (x * 8 + o)) x (run p t (y * 8 + o)) y
-  unfolding run short far found
+  unfolding run anyReadRefused far found
   moved (done v) o sh f = record { value = refl; at = omega arith }
   moved (read n k) o sh f =
       let v = served (has s (x * 8 + o) n) _ sh in
@@ -135,9 +135,9 @@ module _ (s : List ℕ) (x : ℕ) (t : List ℕ) (y m : ℕ) (w : Alike s x t y 
       let l : o + n ≤ m * 8 = omega (arith, rw ns at f, rw ns at to) in
       rw (ns, served-next t (y * 8 + o) n (omega arith) ∙ add-assoc (y * 8) o n)
       (moved p (o + n) (rw ns at (v .1)) (rw ns at f))
-  moved (look n k) o sh f =
+  moved (peekBits n k) o sh f =
       rw (has-alike o n (omega arith), got-alike o n (omega arith)) (moved (k (has s (x * 8 + o) n) (readAt s (x * 8 + o) n)) o sh (omega arith))
-  moved (start k) o sh f =
+  moved (seekStartCode k) o sh f =
       let hit = saw-code s (found s (x * 8 + o)) ((x + m) * 8) (omega arith) (omega arith) in
       let sm = search-moved (length s - 4 - boundary (x * 8 + o)) (length t - 4 - boundary (y * 8 + o)) (boundary (x * 8 + o)) (boundary (y * 8 + o))
       (omega arith) (omega arith) refl (hit .0) (hit .1) in
@@ -157,7 +157,7 @@ in-right s t =
     }
 
 -- a run on t that is served gives the same on s ++ t, as many bits further on
-pub joined : {A : Type 0} (s t : List ℕ) (p : Prog A) (o : ℕ) → short p t o ≡ false → far p t o ≤ length t * 8
+pub joined : {A : Type 0} (s t : List ℕ) (p : Prog A) (o : ℕ) → anyReadRefused p t o ≡ false → far p t o ≤ length t * 8
     → run p (s ++ t) (length s * 8 + o) ≡ record { value = run p t o .value; at = length s * 8 + run p t o .at }
 joined s t p o sh f =
     let z : 0 * 8 + o ≡ o = omega arith in

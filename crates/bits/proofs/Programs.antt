@@ -9,7 +9,7 @@ use lib.ListN.{length}
 use lib.Dec.{eqb, leb·zero, eqb·suc-zero}
 use borrow.Author.Tests.{leb-true, le-leb, lt-leb}
 use Rattle.bits.specs.Bits.{bitsAt, has, readAt, afterRead, found}
-use Rattle.bits.specs.Programs.{Prog, done, read, skip, look, start, run, short, bind}
+use Rattle.bits.specs.Programs.{Prog, done, read, skip, peekBits, seekStartCode, run, anyReadRefused, bind}
 use Rattle.bits.proofs.Start.{found-on, found-most}
 
 -- a sequence runs one after the other
@@ -19,8 +19,8 @@ unfolding run bind
 run-bind (done x) f s a = refl
 run-bind (read n k) f s a = run-bind (k (readAt s a n)) f s (afterRead s a n)
 run-bind (skip n p) f s a = run-bind p f s (afterRead s a n)
-run-bind (look n k) f s a = run-bind (k (has s a n) (readAt s a n)) f s a
-run-bind (start k) f s a = run-bind (k (found s a .code)) f s (found s a .at)
+run-bind (peekBits n k) f s a = run-bind (k (has s a n) (readAt s a n)) f s a
+run-bind (seekStartCode k) f s a = run-bind (k (found s a .code)) f s (found s a .at)
 
 -- and is short where one of the two is
 or-assoc : (x y z w : Bool) → y ≡ (z || w) → (x || y) ≡ ((x || z) || w)
@@ -28,13 +28,13 @@ or-assoc true y z w e = refl
 or-assoc false y z w e = e
 
 pub short-bind : {A B : Type 0} (p : Prog A) (f : A → Prog B) (s : List ℕ) (a : ℕ)
-    → short (bind p f) s a ≡ (short p s a || short (f (run p s a .value)) s (run p s a .at))
-unfolding run bind short
+    → anyReadRefused (bind p f) s a ≡ (anyReadRefused p s a || anyReadRefused (f (run p s a .value)) s (run p s a .at))
+unfolding run bind anyReadRefused
 short-bind (done x) f s a = refl
 short-bind (read n k) f s a = or-assoc (not (has s a n)) _ _ _ (short-bind (k (readAt s a n)) f s (afterRead s a n))
 short-bind (skip n p) f s a = or-assoc (not (has s a n)) _ _ _ (short-bind p f s (afterRead s a n))
-short-bind (look n k) f s a = short-bind (k (has s a n) (readAt s a n)) f s a
-short-bind (start k) f s a = short-bind (k (found s a .code)) f s (found s a .at)
+short-bind (peekBits n k) f s a = short-bind (k (has s a n) (readAt s a n)) f s a
+short-bind (seekStartCode k) f s a = short-bind (k (found s a .code)) f s (found s a .at)
 
 -- places never go back, and stay within the stream
 pub next-le : (s : List ℕ) (a n : ℕ) → a ≤ afterRead s a n
@@ -58,8 +58,8 @@ unfolding run
 run-on (done x) s a = omega arith
 run-on (read n k) s a = omega (arith, next-le s a n, run-on (k (readAt s a n)) s (afterRead s a n))
 run-on (skip n p) s a = omega (arith, next-le s a n, run-on p s (afterRead s a n))
-run-on (look n k) s a = run-on (k (has s a n) (readAt s a n)) s a
-run-on (start k) s a = omega (arith, found-on s a, run-on (k (found s a .code)) s (found s a .at))
+run-on (peekBits n k) s a = run-on (k (has s a n) (readAt s a n)) s a
+run-on (seekStartCode k) s a = omega (arith, found-on s a, run-on (k (found s a .code)) s (found s a .at))
 
 -- so a program that is followed by another ends where the two do, or before
 pub bind-on : {A B : Type 0} (p : Prog A) (f : A → Prog B) (s : List ℕ) (a : ℕ) → run p s a .at ≤ run (bind p f) s a .at
@@ -70,8 +70,8 @@ unfolding run
 run-most (done x) s a m h l = h
 run-most (read n k) s a m h l = run-most (k (readAt s a n)) s (afterRead s a n) m (next-most s a n (m * 8) h (omega arith)) l
 run-most (skip n p) s a m h l = run-most p s (afterRead s a n) m (next-most s a n (m * 8) h (omega arith)) l
-run-most (look n k) s a m h l = run-most (k (has s a n) (readAt s a n)) s a m h l
-run-most (start k) s a m h l = run-most (k (found s a .code)) s (found s a .at) m (found-most s a m h l) l
+run-most (peekBits n k) s a m h l = run-most (k (has s a n) (readAt s a n)) s a m h l
+run-most (seekStartCode k) s a m h l = run-most (k (found s a .code)) s (found s a .at) m (found-most s a m h l) l
 
 -- a read that is not 0 was served
 pub got-served : (s : List ℕ) (a n : ℕ) → (readAt s a n ≡ 0 → ⊥) → (afterRead s a n ≡ a + n) × (a + n ≤ length s * 8)

@@ -13,9 +13,10 @@ use lib.Dec.{leb, eqb}
 use Rattle.laws.specs.Loops.{Step, continue, finish}
 use Rattle.bits.specs.Bounds.{longestStream}
 use Rattle.bits.specs.Bits.{Found, bitsAt, has, readAt, afterRead, found, boundary}
-use Rattle.bits.specs.Programs.{Prog, done, look, Out, run, bind, bits, skips, reads, nonZero, nextStartCode, forBelow, continueWith, loop}
+use Rattle.bits.specs.Programs.{Prog, done, peekBits, RunResult, run, bind, bits, skips, readAtMost32, nonZero, nextStartCode, forBelow, continueWith}
+use Rattle.bits.specs.Programs.{loop}
 use Rattle.bits.specs.Programs.{eqZ, findStep, findStartCode}
-use Rattle.bits.specs.Runs.{RunsAt, Runs, Inside, Reading, positionOf, readerAt, advancedBy, bitsLeft}
+use Rattle.bits.specs.Runs.{RunsAt, Runs, ReaderInBounds, RunsInBounds, positionOf, readerAt, advancedBy, bitsLeft}
 use Rattle.bits.specs.declared.reader.Reader.{Reader}
 use Rattle.bits.proofs.Start.{Searched, first, none, found-is-first}
 use Rattle.bits.proofs.Programs.{run-bind, run-most}
@@ -40,7 +41,7 @@ at-run = record { is = refl }
 pub at-call : {A B : Type 0} {s : List ℕ} {a : ℕ} {p : Prog A} (f : A → Prog B) {v : A} {e : ℕ} {w : B} {g : ℕ}
     → RunsAt p s a v e → RunsAt (f v) s e w g → RunsAt (bind p f) s a w g
 at-call {s = s} {a} {p} f q r =
-    record { is = run-bind p f s a ∙ ap (λ (o : Out _). run (f (o .value)) s (o .at)) (q .is) ∙ r .is }
+    record { is = run-bind p f s a ∙ ap (λ (o : RunResult _). run (f (o .value)) s (o .at)) (q .is) ∙ r .is }
 
 pub at-yes : {A : Type 0} {s : List ℕ} {a : ℕ} {t : Bool} {p : Prog A} (q : Prog A) {v : A} {e : ℕ} → t ≡ true → RunsAt p s a v e
     → RunsAt (cond t p q) s a v e
@@ -56,7 +57,7 @@ at-bits p q = record { is = rw (p, q) refl }
 
 -- two runs of one program end alike
 pub at-same : {A : Type 0} {p : Prog A} {s : List ℕ} {a : ℕ} {v w : A} {e g : ℕ} → RunsAt p s a v e → RunsAt p s a w g → (v ≡ w) × (e ≡ g)
-at-same {A} r q = let o = sym (r .is) ∙ q .is in (ap (λ (x : Out A). x .value) o, ap (λ (x : Out A). x .at) o)
+at-same {A} r q = let o = sym (r .is) ∙ q .is in (ap (λ (x : RunResult A). x .value) o, ap (λ (x : RunResult A). x .at) o)
 
 pub at-as : {A : Type 0} {p : Prog A} {s : List ℕ} {a : ℕ} {v w : A} {e g : ℕ} → RunsAt p s a v e → v ≡ w → e ≡ g → RunsAt p s a w g
 at-as r h k = record { is = r .is ∙ λ i. record { value = h i; at = k i } }
@@ -90,18 +91,18 @@ r-for-on n f x q r = let e : n + 1 ≡ suc n = omega arith in rw e (r-call (f n)
 
 -- the value of a run
 pub r-value : {A : Type 0} {p : Prog A} {s : List ℕ} {from to : Reader} {v : A} → Runs p s from v to → run p s (positionOf from) .value ≡ v
-r-value {A} r = ap (λ (o : Out A). o .value) (r .is)
+r-value {A} r = ap (λ (o : RunResult A). o .value) (r .is)
 
 -- a run whose value is made of that of p: what p gives, where it ends, and that the value is made of it
 pub r-inner : {A B : Type 0} {p : Prog A} (f : A → B) {s : List ℕ} {from to : Reader} {w : B} → Runs (bind p (λ x. done (f x))) s from w to
     → (v : A) × Runs p s from v to × (f v ≡ w)
 unfolding run
 r-inner {A} {B} {p} f {s} {from} {to} {w} r =
-    let o : _≡_ {A = Out B} (record { value = f v; at = run p s (positionOf from) .at }) (record { value = w; at = positionOf to })
+    let o : _≡_ {A = RunResult B} (record { value = f v; at = run p s (positionOf from) .at }) (record { value = w; at = positionOf to })
     = sym (run-bind p (λ x. done (f x)) s (positionOf from)) ∙ r .is in (
       v,
-      record { is = ap (λ (k : ℕ). record { value = v; at = k }) (ap (λ (u : Out B). u .at) o) },
-      ap (λ (u : Out B). u .value) o,
+      record { is = ap (λ (k : ℕ). record { value = v; at = k }) (ap (λ (u : RunResult B). u .at) o) },
+      ap (λ (u : RunResult B). u .value) o,
     )
   where
     v : A
@@ -125,12 +126,12 @@ pub is-start : {s : List ℕ} {from to : Reader} {c : ℤ} → found s (position
 is-start q = r-made (at-start q)
 
 -- a read of up to 32 bits is not refused for its count
-pub r-reads : {s : List ℕ} {from to : Reader} {v : ℕ} (n : ℕ) → n ≤ 32 → Runs (reads n) s from v to → Runs (bits n) s from v to
+pub r-reads : {s : List ℕ} {from to : Reader} {v : ℕ} (n : ℕ) → n ≤ 32 → Runs (readAtMost32 n) s from v to → Runs (bits n) s from v to
 r-reads n h r = rw (le-leb n 32 h) at r
 
 -- whether bits are there and not all 0, from what a read of them gives
 looked : {s : List ℕ} {from to : Reader} (n v : ℕ) → Runs (bits n) s from v to
-    → Runs (look n (λ h x. done (h && not (eqb x 0)))) s from (not (eqb v 0)) from
+    → Runs (peekBits n (λ h x. done (h && not (eqb x 0)))) s from (not (eqb v 0)) from
 unfolding run readAt
 looked {s} {from} n v r = record { is = rw (seen (has s (positionOf from) n) (sym (r-value r))) }
   where
@@ -144,10 +145,10 @@ refused {v = v} r =
     let q : 0 ≡ v = r-value r in
     record { is = rw (← q) }
 
-pub is-nonZero : {s : List ℕ} {from to : Reader} {v : ℕ} (n : ℕ) → Runs (reads n) s from v to → Runs (nonZero n) s from (not (eqb v 0)) from
+pub is-nonZero : {s : List ℕ} {from to : Reader} {v : ℕ} (n : ℕ) → Runs (readAtMost32 n) s from v to → Runs (nonZero n) s from (not (eqb v 0)) from
 is-nonZero {s} {from} {to} {v} n = go (leb n 32)
   where
-    go : (t : Bool) → Runs (cond t (bits n) (done 0)) s from v to → Runs (cond t (look n (λ h x. done (h && not (eqb x 0)))) (done false)) s from
+    go : (t : Bool) → Runs (cond t (bits n) (done 0)) s from v to → Runs (cond t (peekBits n (λ h x. done (h && not (eqb x 0)))) (done false)) s from
         (not (eqb v 0)) from
     go true r = looked n v r
     go false r = refused r
@@ -156,7 +157,7 @@ is-nonZero {s} {from} {to} {v} n = go (leb n 32)
 pub r-start-past : {s : List ℕ} {from to : Reader} {k : ℤ} → Runs nextStartCode s from k to → (k ≡ negsuc 0 → ⊥)
     → positionOf from + 32 ≤ positionOf to
 unfolding run
-r-start-past {s} {from} {to} {k} r g = go (found s a) (found-is-first s a) (r-value r) (ap (λ (o : Out ℤ). o .at) (r .is))
+r-start-past {s} {from} {to} {k} r g = go (found s a) (found-is-first s a) (r-value r) (ap (λ (o : RunResult ℤ). o .at) (r .is))
   where
     a : ℕ
     a = positionOf from
@@ -168,12 +169,12 @@ r-start-past {s} {from} {to} {k} r g = go (found s a) (found-is-first s a) (r-va
 -- ---- bounds
 
 -- a run stays within the bounds of the position
-pub r-most : {A : Type 0} {p : Prog A} {s : List ℕ} {from to : Reader} {v : A} → Runs p s from v to → Inside s from → Inside s to
+pub r-most : {A : Type 0} {p : Prog A} {s : List ℕ} {from to : Reader} {v : A} → Runs p s from v to → ReaderInBounds s from → ReaderInBounds s to
 r-most {p = p} {s} {from} r i =
     record { position = rw (r .is) at (run-most p s (positionOf from) longestStream (i .position) (i .stream)); stream = i .stream }
 
 -- so what began inside ends inside
-pub reading : {A : Type 0} {p : Prog A} {s : List ℕ} {from to : Reader} {v : A} → Inside s from → Runs p s from v to → Reading p s from v to
+pub reading : {A : Type 0} {p : Prog A} {s : List ℕ} {from to : Reader} {v : A} → ReaderInBounds s from → Runs p s from v to → RunsInBounds p s from v to
 reading i r = record { runs = r; inside = r-most r i }
 
 -- a run from a reader that is at the place a
@@ -182,11 +183,12 @@ pub from-reader : {A : Type 0} {p : Prog A} {s : List ℕ} {from to : Reader} {a
 from-reader e r = rw e at r
 
 -- at the beginning of a stream
-pub first-inside : {s : List ℕ} {from : Reader} → from ≡ readerAt 0 → length s ≤ longestStream → Inside s from
+pub first-inside : {s : List ℕ} {from : Reader} → from ≡ readerAt 0 → length s ≤ longestStream → ReaderInBounds s from
 first-inside e h = rw e (record { position = omega arith; stream = h })
 
 -- n bits on, where they are there
-pub on-inside : {s : List ℕ} {from to : Reader} (n : ℕ) → Inside s from → positionOf from + n ≤ length s * 8 → to ≡ advancedBy n from → Inside s to
+pub on-inside : {s : List ℕ} {from to : Reader} (n : ℕ) → ReaderInBounds s from → positionOf from + n ≤ length s * 8 → to ≡ advancedBy n from
+    → ReaderInBounds s to
 on-inside n i h e = rw e (record { position = omega (arith, i .stream); stream = i .stream })
 
 -- ---- a run behind another
@@ -210,7 +212,7 @@ module _ {A : Type 0} {p : Prog A} {s : List ℕ} {from : Reader} where
   pub f-call : {B : Type 0} {q : Prog B} (f : B → Prog A) {mid to : Reader} {v : B} → Follows p s from (bind q f) mid → Runs q s mid v to
       → Follows p s from (f v) to
   f-call {B} {q} f {mid} l r =
-      record { same = l .same ∙ run-bind q f s (positionOf mid) ∙ ap (λ (o : Out B). run (f (o .value)) s (o .at)) (r .is) }
+      record { same = l .same ∙ run-bind q f s (positionOf mid) ∙ ap (λ (o : RunResult B). run (f (o .value)) s (o .at)) (r .is) }
 
 -- a turn from the place a to e that goes on has taken a bit of a stream of m bits
 abbrev pub Takes : {S A : Type 0} → ℕ → ℕ → Step S A → ℕ → Type 0

@@ -33,11 +33,11 @@ pub record Runs {A : Type 0} (p : Prog A) (s : List ℕ) (from : Reader) (v : A)
   pub is : run p s (positionOf from) ≡ record { value = v; at = positionOf to }
 
 -- RULES Q1, Q2: the length of the stream and the place of the reader are within their bounds
-pub record Inside (s : List ℕ) (reader : Reader) : Type 0 where
+pub record ReaderInBounds (s : List ℕ) (reader : Reader) : Type 0 where
   pub position : positionOf reader ≤ lastPosition
   pub stream : length s ≤ longestStream
 
 -- p runs from `from` to `to`, and `to` is inside
-pub record Reading {A : Type 0} (p : Prog A) (s : List ℕ) (from : Reader) (v : A) (to : Reader) : Type 0 where
+pub record RunsInBounds {A : Type 0} (p : Prog A) (s : List ℕ) (from : Reader) (v : A) (to : Reader) : Type 0 where
   pub runs : Runs p s from v to
-  pub inside : Inside s to
+  pub inside : ReaderInBounds s to

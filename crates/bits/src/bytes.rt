@@ -6,7 +6,7 @@ ghost use mathlib.Core.Path.{_≡_};
 ghost use Prim.Native.Nat.{_+_, _-_, _*_};
 ghost use lib.ListN.{length};
 ghost use Rattle.bits.specs.Bits.{boundary, equalBytes, partAt, Within};
-ghost use Rattle.bits.specs.Runs.{Inside, positionOf};
+ghost use Rattle.bits.specs.Runs.{ReaderInBounds, positionOf};
 
 pub struct SkippedBytes {
     pub reader: Reader,
@@ -27,12 +27,12 @@ pub struct PeekedBytes {
 impl Reader {
     // To the next byte boundary, and on past the bytes that equal v.
     pub fn skip_bytes(self, s: &[u8], v: u8) -> SkippedBytes
-        requires { ⌜ Inside (now s) self ⌝ }
+        requires { ⌜ ReaderInBounds (now s) self ⌝ }
         ensures { λ r. ⌜
             r .count ≡ equalBytes (now (s .entry)) v (boundary (positionOf self)) (length (now (s .entry)) - boundary (positionOf self))
             ⌝ }
         ensures { λ r. ⌜ positionOf (r .reader) ≡ (boundary (positionOf self) + r .count) * 8 ⌝ }
-        ensures { λ r. ⌜ Inside (now (s .entry)) (r .reader) ⌝ }
+        ensures { λ r. ⌜ ReaderInBounds (now (s .entry)) (r .reader) ⌝ }
     {
         let from = self.align().tell().at.0;
         let mut b = from;

@@ -9,8 +9,8 @@ ghost use lib.ListN.{length, getD};
 ghost use lib.Dec.{leb};
 ghost use Rattle.bits.specs.Bounds.{longestStream, lastPosition};
 ghost use Rattle.bits.specs.Bits.{bitsAt, has, hasBytes, boundary};
-ghost use Rattle.bits.specs.Programs.{bits, reads, skips, nonZero};
-ghost use Rattle.bits.specs.Runs.{Inside, Reading, positionOf, readerAt, advancedBy};
+ghost use Rattle.bits.specs.Programs.{bits, readAtMost32, skips, nonZero};
+ghost use Rattle.bits.specs.Runs.{ReaderInBounds, RunsInBounds, positionOf, readerAt, advancedBy};
 
 // `at` is the Rust's `bit_index`.
 pub struct Reader {
@@ -134,8 +134,8 @@ impl Reader {
 
     // Up to 32 bits, the highest first; 0 and no advance where fewer are left.
     pub fn read(self, s: &[u8], count: usize) -> ReadBits
-        requires { ⌜ Inside (now s) self ⌝ }
-        ensures { λ r. ⌜ Reading (reads count) (now (s .entry)) self (r .value) (r .reader) ⌝ }
+        requires { ⌜ ReaderInBounds (now s) self ⌝ }
+        ensures { λ r. ⌜ RunsInBounds (readAtMost32 count) (now (s .entry)) self (r .value) (r .reader) ⌝ }
     {
         if 32 < count {
             return ReadBits {
@@ -164,8 +164,8 @@ impl Reader {
 
     // One bit, as `read` gives it for a count of 1.
     pub fn read_bit(self, s: &[u8]) -> ReadBits
-        requires { ⌜ Inside (now s) self ⌝ }
-        ensures { λ r. ⌜ Reading (bits 1) (now (s .entry)) self (r .value) (r .reader) ⌝ }
+        requires { ⌜ ReaderInBounds (now s) self ⌝ }
+        ensures { λ r. ⌜ RunsInBounds (bits 1) (now (s .entry)) self (r .value) (r .reader) ⌝ }
     {
         let at = self.at.0;
         let b = byte_of(self.at).0;
@@ -216,8 +216,8 @@ impl Reader {
 
     // count bits on, or none where fewer are left.
     pub fn skip(self, s: &[u8], count: usize) -> Reader
-        requires { ⌜ Inside (now s) self ⌝ }
-        ensures { λ r. ⌜ Reading (skips count) (now (s .entry)) self tt r ⌝ }
+        requires { ⌜ ReaderInBounds (now s) self ⌝ }
+        ensures { λ r. ⌜ RunsInBounds (skips count) (now (s .entry)) self tt r ⌝ }
     {
         if self.has(s, count).value {
             let at = self.at.0;
@@ -230,8 +230,8 @@ impl Reader {
 
     // Whether count bits are there and not all 0, with no advance.
     pub fn peek_non_zero(self, s: &[u8], count: usize) -> Peeked
-        requires { ⌜ Inside (now s) self ⌝ }
-        ensures { λ r. ⌜ Reading (nonZero count) (now (s .entry)) self (r .value) (r .reader) ⌝ }
+        requires { ⌜ ReaderInBounds (now s) self ⌝ }
+        ensures { λ r. ⌜ RunsInBounds (nonZero count) (now (s .entry)) self (r .value) (r .reader) ⌝ }
         ensures { λ r. ⌜ r .reader ≡ self ⌝ }
     {
         let peeked = self.read(s, count);

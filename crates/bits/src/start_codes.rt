@@ -8,7 +8,7 @@ ghost use lib.ListN.{length};
 ghost use lib.IntN.{natAbs};
 ghost use Rattle.bits.specs.Bits.{codePrefix};
 ghost use Rattle.bits.specs.Programs.{nextStartCode, findStartCode, run};
-ghost use Rattle.bits.specs.Runs.{Inside, Reading, positionOf};
+ghost use Rattle.bits.specs.Runs.{ReaderInBounds, RunsInBounds, positionOf};
 
 // code: the byte behind 00 00 01, or -1.
 pub struct StartCode {
@@ -27,8 +27,8 @@ fn has_prefix(s: &[u8], b: usize) -> bool
 impl Reader {
     // To behind the next start code.
     pub fn next_start_code(self, s: &[u8]) -> StartCode
-        requires { ⌜ Inside (now s) self ⌝ }
-        ensures { λ r. ⌜ Reading nextStartCode (now (s .entry)) self (r .code) (r .reader) ⌝ }
+        requires { ⌜ ReaderInBounds (now s) self ⌝ }
+        ensures { λ r. ⌜ RunsInBounds nextStartCode (now (s .entry)) self (r .code) (r .reader) ⌝ }
         ensures { λ r. ⌜ natAbs (r .code) ≤ 255 ⌝ }
     {
         let mut b = self.align().tell().at.0;
@@ -53,8 +53,8 @@ impl Reader {
 
     // To behind the next start code that is `code`; where there is none, to the end.
     pub fn find_start_code(self, s: &[u8], code: i32) -> StartCode
-        requires { ⌜ Inside (now s) self ⌝ }
-        ensures { λ r. ⌜ Reading (findStartCode code) (now (s .entry)) self (r .code) (r .reader) ⌝ }
+        requires { ⌜ ReaderInBounds (now s) self ⌝ }
+        ensures { λ r. ⌜ RunsInBounds (findStartCode code) (now (s .entry)) self (r .code) (r .reader) ⌝ }
         ensures { λ r. ⌜ natAbs (r .code) ≤ 255 ⌝ }
     {
         let mut reader = self;
@@ -73,7 +73,7 @@ impl Reader {
 
     // Whether the start code `code` lies ahead: the code, or -1, with no advance.
     pub fn has_start_code(self, s: &[u8], code: i32) -> StartCode
-        requires { ⌜ Inside (now s) self ⌝ }
+        requires { ⌜ ReaderInBounds (now s) self ⌝ }
         ensures { λ r. ⌜ (r .code ≡ run (findStartCode code) (now (s .entry)) (positionOf self) .value) × (r .reader ≡ self) ⌝ }
         ensures { λ r. ⌜ natAbs (r .code) ≤ 255 ⌝ }
     {

@@ -16,7 +16,7 @@ use Rattle.picture_state.specs.Flags.{flag}
 use Rattle.blocks.specs.Blocks.{oneBlock, patternBlock, blocks}
 use Rattle.picture_state.specs.declared.types.{Slice.Slice, Progress.Progress}
 use Rattle.picture_state.specs.Contracts.{RunsNumbered, matricesIn, MacroblockInvariant, RefinesAtMacroblock}
-use Rattle.picture_state.proofs.Results.{t-done, t-yes, t-no, r-for-bind, r-for-if-ok, way-out}
+use Rattle.picture_state.proofs.Results.{t-done, t-yes, t-no, r-for-bind, r-for-if-ok, nonzero-is-error}
 use Rattle.blocks.specs.declared.blocks.CodedBlocks.{CodedBlocks}
 
 -- a macroblock's blocks, and the one with this number
@@ -67,7 +67,7 @@ module _ {c : CodedBlocks} {t : List ℕ} {s : List ℕ} {from₀ : Reader} {w�
     pub at-stop : (r .stop ≡ 0 → ⊥) → RefinesAtMacroblock (all c t w₀) (c .context) s from₀ r left₁ store₁
     unfolding blocks
     at-stop z =
-        let e = way-out (sliceState (r .state) left₁ store₁) store₁ z in
+        let e = nonzero-is-error (sliceState (r .state) left₁ store₁) store₁ z in
         let o = r-for-bind number (numbered c t) w₀ (i .runs) (rw e at (w .runs)) in
         record { runs = rw e (r-for-if-ok (number + 1) (numbered c t) w₀ (5 - number) 6 (omega arith) o); ready = w .ready }
 

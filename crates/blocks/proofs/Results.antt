@@ -9,12 +9,12 @@ use lib.ListN.{getD}
 use Rattle.laws.specs.Signed.{clamp255}
 use Rattle.laws.proofs.Tests.{if-yes, if-no}
 use Rattle.coefficients.specs.declared.quantiser.Quantiser.{Quantiser}
-use Rattle.coefficients.specs.Blocks.{Filled}
+use Rattle.coefficients.specs.Blocks.{BlockCoefficients}
 use Rattle.transform.specs.Idct.{idct, dcOnly}
 use Rattle.prediction.specs.Writers.{setConst, overwrite, addConst, addBlock}
 use Rattle.blocks.specs.Blocks.{results}
 
-module _ (q : Quantiser) (f : Filled) (di dw : ℕ) (d : List ℕ) {r : List ℕ} where
+module _ (q : Quantiser) (f : BlockCoefficients) (di dw : ℕ) (d : List ℕ) {r : List ℕ} where
   module _ (one : f .n ≡ 1) {first : ℤ} (is : first ≡ dcOnly (getD (f .coefficients) 0 (pos 0))) where
     pub first-intra : q .intra ≡ true → {byte : ℕ} → byte ≡ clamp255 first → r ≡ setConst d di dw byte → r ≡ results q f di dw d
     unfolding results

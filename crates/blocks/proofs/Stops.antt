@@ -7,7 +7,7 @@ use native.Mathlib.Omega.{arith}
 use lib.Dec.{ltb}
 use lib.IntN.{ℤ, pos, natAbs, _+ℤ_}
 use Rattle.laws.proofs.Tests.{by-case}
-use Rattle.bits.specs.Programs.{Prog, Out, done, run, bind}
+use Rattle.bits.specs.Programs.{Prog, RunResult, done, run, bind}
 use Rattle.bits.specs.Programs as Programs
 use Rattle.bits.specs.Runs.{RunsAt}
 use Rattle.bits.proofs.Programs.{run-bind}
@@ -17,10 +17,11 @@ use Rattle.coefficients.specs.declared.coefficient.Coefficient.{Coefficient}
 use Rattle.coefficients.specs.declared.coefficient.Coefficient.the-variants.{EndOfBlock, RunLevel}
 use Rattle.coefficients.specs.declared.quantiser.Quantiser.{Quantiser}
 use Rattle.coefficients.specs.declared.block.BlockEnd.{BlockEnd}
-use Rattle.coefficients.specs.declared.block.BlockEnd.the-variants.{Whole, Dropped, Outside}
+use Rattle.coefficients.specs.declared.block.BlockEnd.the-variants.{Complete, Dropped, DcOutOfRange}
 use Rattle.coefficients.specs.Coefficients.{coefficient}
-use Rattle.coefficients.specs.Dcs.{dcDifference, dcInside}
-use Rattle.coefficients.specs.Syntax.{PairsRead, PairsEnd, CodedBlock, pairsEnd, coded, afterCoefficient, pairStep, pairs, intraCoded, otherCoded, codedBlock}
+use Rattle.coefficients.specs.Dcs.{dcDifference, dcInRange}
+use Rattle.coefficients.specs.Syntax.{PairsRead, PairsEnd, CodedBlock, pairsEnd, coded, afterCoefficient, pairStep, pairs, intraCoded, nonIntraCoded}
+use Rattle.coefficients.specs.Syntax.{codedBlock}
 use Rattle.coefficients.specs.Blocks.{BlockRead, reconstructed, blockDataAfter}
 use Rattle.picture_state.specs.declared.types.{Context.Context, Matrices.Matrices, Slice.Slice}
 use Rattle.picture_state.specs.Possible.{PossibleSlice}
@@ -29,13 +30,13 @@ use Rattle.picture_state.specs.Result.{Result, ok, error, ifOk, bindResult, lif
 use Rattle.picture_state.specs.Stop.{Stop, stop, dcOutside}
 use Rattle.picture_state.specs.Flags.{flag}
 use Rattle.picture_state.proofs.Results.{error-is-not-ok, error-injective}
-use Rattle.blocks.specs.Blocks.{predictorOf, predictorAs, dcPredictor, quantiserOf, matrixFor, written, blockEnd, oneBlock, patternBlock, blocks}
+use Rattle.blocks.specs.Blocks.{predictorOf, withDcPredictor, dcPredictor, quantiserOf, matrixFor, written, blockResult, oneBlock, patternBlock, blocks}
 use Rattle.blocks.specs.Stops.{differenceAt, DcStop, BlocksStop}
 
 -- ---- how a block that is coded ends
 
 abbrev isOutside : BlockEnd → Bool
-isOutside e = elim e [ Whole ↦ false | Dropped ↦ false | Outside ↦ true ]
+isOutside e = elim e [ Complete ↦ false | Dropped ↦ false | DcOutOfRange ↦ true ]
 
 -- coefficients never end a block so
 abbrev Inside : PairsEnd → Type 0
@@ -54,8 +55,8 @@ coded-pairs n d = g-bind _ (pairs-inside n) (λ p h. g-done h)
 
 -- it ends outside exactly where it is intra and the DC value is
 record CodedEnd (intra : Bool) (predictor d : ℤ) (c : CodedBlock) : Type 0 where
-  outside : intra ≡ true → dcInside (predictor +ℤ d) ≡ false → (c .end ≡ Outside) × (c .difference ≡ d)
-  inside : isOutside (c .end) ≡ true → (intra ≡ true) × (dcInside (predictor +ℤ d) ≡ false) × (c .difference ≡ d)
+  outside : intra ≡ true → dcInRange (predictor +ℤ d) ≡ false → (c .end ≡ DcOutOfRange) × (c .difference ≡ d)
+  inside : isOutside (c .end) ≡ true → (intra ≡ true) × (dcInRange (predictor +ℤ d) ≡ false) × (c .difference ≡ d)
 
 module _ (s : List ℕ) (a : ℕ) (luminance : Bool) (predictor : ℤ) where
   abbrev d : ℤ
@@ -63,17 +64,17 @@ module _ (s : List ℕ) (a : ℕ) (luminance : Bool) (predictor : ℤ) where
 
   -- behind the difference
   abbrev rest : Bool → Prog CodedBlock
-  rest t = cond t (bind (pairs 1) (λ p. done (coded d p))) (done (coded d (pairsEnd [] Outside)))
+  rest t = cond t (bind (pairs 1) (λ p. done (coded d p))) (done (coded d (pairsEnd [] DcOutOfRange)))
 
-  intra-run : run (intraCoded luminance predictor) s a .value ≡ run (rest (dcInside (predictor +ℤ d))) s (run (dcDifference luminance) s a .at) .value
+  intra-run : run (intraCoded luminance predictor) s a .value ≡ run (rest (dcInRange (predictor +ℤ d))) s (run (dcDifference luminance) s a .at) .value
   unfolding intraCoded
-  intra-run = ap (λ (o : Out CodedBlock). o .value) (run-bind (dcDifference luminance) _ s a)
+  intra-run = ap (λ (o : RunResult CodedBlock). o .value) (run-bind (dcDifference luminance) _ s a)
 
   intra-end : CodedEnd true predictor d (run (intraCoded luminance predictor) s a .value)
   unfolding run
-  intra-end = rw intra-run (go (dcInside (predictor +ℤ d)) refl)
+  intra-end = rw intra-run (go (dcInRange (predictor +ℤ d)) refl)
     where
-      go : (t : Bool) → dcInside (predictor +ℤ d) ≡ t → CodedEnd true predictor d (run (rest t) s (run (dcDifference luminance) s a .at) .value)
+      go : (t : Bool) → dcInRange (predictor +ℤ d) ≡ t → CodedEnd true predictor d (run (rest t) s (run (dcDifference luminance) s a .at) .value)
       go true h = record {
         outside = λ i o. absurd (true≢false (sym h ∙ o));
         inside = λ k. absurd (false≢true (sym (coded-pairs 1 d .value (run (dcDifference luminance) s a .at)) ∙ k));
@@ -81,7 +82,7 @@ module _ (s : List ℕ) (a : ℕ) (luminance : Bool) (predictor : ℤ) where
       go false h = record { outside = λ i o. (refl, refl); inside = λ k. (refl, h, refl) }
 
   coded-end : (intra : Bool) → CodedEnd intra predictor d (run (codedBlock intra luminance predictor) s a .value)
-  unfolding codedBlock otherCoded
+  unfolding codedBlock nonIntraCoded
   coded-end true = intra-end
   coded-end false = record { outside = λ i o. absurd (false≢true i); inside = λ k. absurd (false≢true (sym (coded-pairs 0 (pos 0) .value a) ∙ k)) }
 
@@ -90,7 +91,7 @@ module _ (s : List ℕ) (a : ℕ) (luminance : Bool) (predictor : ℤ) where
 reconstructed-end : (q : Quantiser) (matrix : List ℕ) (p : ℤ) (left : List ℤ) (c : CodedBlock) → reconstructed q matrix p left c .end ≡ c .end
 unfolding reconstructed
 reconstructed-end q matrix p left c =
-    by-case (λ (r : BlockRead). r .end ≡ c .end) (q .intra && not (dcInside (p +ℤ c .difference))) (λ e. refl) (λ e. refl)
+    by-case (λ (r : BlockRead). r .end ≡ c .end) (q .intra && not (dcInRange (p +ℤ c .difference))) (λ e. refl) (λ e. refl)
 
 module _ (g : Context) (m : Matrices) (intra : Bool) (number : ℕ) (w : SliceState) (s : List ℕ) (a : ℕ) where
   abbrev q : Quantiser
@@ -105,31 +106,31 @@ module _ (g : Context) (m : Matrices) (intra : Bool) (number : ℕ) (w : SliceSt
   abbrev made : BlockRead
   made = reconstructed q (matrixFor m intra) (dcPredictor number (w .slice)) (w .«block_data») read
 
-  one-run : run (oneBlock g m intra number w) s a .value ≡ blockEnd g q number w (read .difference) made
+  one-run : run (oneBlock g m intra number w) s a .value ≡ blockResult g q number w (read .difference) made
   unfolding oneBlock bindResult ifOk lift
   one-run =
-      let o : RunsAt (oneBlock g m intra number w) s a (blockEnd g q number w (read .difference) made)
+      let o : RunsAt (oneBlock g m intra number w) s a (blockResult g q number w (read .difference) made)
       (run (codedBlock intra (ltb number 4) (dcPredictor number (w .slice))) s a .at)
       = at-call (ifOk _) (at-call _ at-run at-done) at-done in
-      ap (λ (o : Out (Result Stop SliceState)). o .value) (o .is)
+      ap (λ (o : RunResult (Result Stop SliceState)). o .value) (o .is)
 
-  end-out : (d : ℤ) (r : BlockRead) → r .end ≡ Outside → blockEnd g q number w d r ≡ error (at d)
-  unfolding blockEnd
+  end-out : (d : ℤ) (r : BlockRead) → r .end ≡ DcOutOfRange → blockResult g q number w d r ≡ error (at d)
+  unfolding blockResult
   end-out d r k = rw k
 
-  end-error : (d : ℤ) (r : BlockRead) {e : Stop} → blockEnd g q number w d r ≡ error e → (isOutside (r .end) ≡ true) × (e ≡ at d)
-  unfolding blockEnd
+  end-error : (d : ℤ) (r : BlockRead) {e : Stop} → blockResult g q number w d r ≡ error e → (isOutside (r .end) ≡ true) × (e ≡ at d)
+  unfolding blockResult
   end-error d r {e} = go (r .end)
     where
       go : (k : BlockEnd) → _≡_ {A = Result Stop SliceState} (elim k as (λ x. Result Stop SliceState) [
-        | Whole ↦ ok (sliceState (predictorAs number (r .predictor) (w .slice)) (blockDataAfter q r)
-            (written g q number (natAbs (w .slice .«macroblock_address»)) (r .filled) (w .store)))
-        | Dropped ↦ ok (sliceState (predictorAs number (r .predictor) (w .slice)) (blockDataAfter q r) (w .store))
-        | Outside ↦ error (at d)
+        | Complete ↦ ok (sliceState (withDcPredictor number (r .predictor) (w .slice)) (blockDataAfter q r)
+            (written g q number (natAbs (w .slice .«macroblock_address»)) (r .blockCoefficients) (w .store)))
+        | Dropped ↦ ok (sliceState (withDcPredictor number (r .predictor) (w .slice)) (blockDataAfter q r) (w .store))
+        | DcOutOfRange ↦ error (at d)
       ]) (error e) → (isOutside k ≡ true) × (e ≡ at d)
-      go Whole h = absurd (error-is-not-ok (sym h))
+      go Complete h = absurd (error-is-not-ok (sym h))
       go Dropped h = absurd (error-is-not-ok (sym h))
-      go Outside h = (refl, sym (error-injective h))
+      go DcOutOfRange h = (refl, sym (error-injective h))
 
   -- RULES Q8: what ends a block
   pub block-stopped : {e : Stop} → run (oneBlock g m intra number w) s a .value ≡ error e → DcStop intra number w s a e
@@ -149,13 +150,13 @@ module _ (g : Context) (m : Matrices) (intra : Bool) (number : ℕ) (w : SliceSt
       ∙ ap (λ (d : ℤ). error (at d)) (c .1) ∙ ap error (sym (k .is))
 
 -- the predictor is the state's own, and inside
-pub predictor-inside : (x : Slice) → PossibleSlice x → (number : ℕ) → number < 6 → dcInside (dcPredictor number x) ≡ true
+pub predictor-inside : (x : Slice) → PossibleSlice x → (number : ℕ) → number < 6 → dcInRange (dcPredictor number x) ≡ true
 predictor-inside x k number h = k .predictors (predictorOf number) (omega arith)
 
 -- ---- the blocks of a macroblock
 
 module _ (g : Context) (m : Matrices) (intra : Bool) (pattern : ℕ) (w : SliceState) (s : List ℕ) (a : ℕ) where
-  abbrev upTo : ℕ → Out (Result Stop SliceState)
+  abbrev upTo : ℕ → RunResult (Result Stop SliceState)
   upTo n = run (forBelow n (patternBlock g m intra pattern) w) s a
 
   pattern-stopped : {e : Stop} (n : ℕ) → n < 6 → (x : SliceState) (b : ℕ) → upTo n ≡ record { value = ok x; at = b }
@@ -169,13 +170,13 @@ module _ (g : Context) (m : Matrices) (intra : Bool) (pattern : ℕ) (w : SliceS
       go false f k = absurd (error-is-not-ok (sym k))
 
   -- one more block, behind what those before it give
-  abbrev withNext : ℕ → Out (Result Stop SliceState) → Result Stop SliceState
+  abbrev withNext : ℕ → RunResult (Result Stop SliceState) → Result Stop SliceState
   withNext n o = run (ifOk (patternBlock g m intra pattern n) (o .value)) s (o .at) .value
 
   up-to-next : (n : ℕ) → upTo (suc n) .value ≡ withNext n (upTo n)
   unfolding Programs.forBelow
   up-to-next n =
-      ap (λ (o : Out (Result Stop SliceState)). o .value)
+      ap (λ (o : RunResult (Result Stop SliceState)). o .value)
       (run-bind (forBelow n (patternBlock g m intra pattern) w) (ifOk (patternBlock g m intra pattern n)) s a)
 
   up-to-stopped : {e : Stop} (n : ℕ) → n ≤ 6 → upTo n .value ≡ error e → BlocksStop g m intra pattern w s a e
@@ -186,7 +187,7 @@ module _ (g : Context) (m : Matrices) (intra : Bool) (pattern : ℕ) (w : SliceS
       go : (v : Result Stop SliceState) (b : ℕ) → upTo n ≡ record { value = v; at = b } → run (ifOk (patternBlock g m intra pattern n) v) s b .value ≡ error e
           → (upTo n .value ≡ error e → BlocksStop g m intra pattern w s a e) → BlocksStop g m intra pattern w s a e
       go (ok x) b r k again = pattern-stopped n (omega arith) x b r k
-      go (error d) b r k again = again (ap (λ (o : Out (Result Stop SliceState)). o .value) r ∙ k)
+      go (error d) b r k again = again (ap (λ (o : RunResult (Result Stop SliceState)). o .value) r ∙ k)
 
   -- RULES Q8: the blocks of a macroblock stop at one of them, with those before it written
   pub blocks-stopped : {e : Stop} → run (blocks g m intra pattern w) s a .value ≡ error e → BlocksStop g m intra pattern w s a e

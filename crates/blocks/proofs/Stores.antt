@@ -7,7 +7,7 @@ use borrow.Rule.Slice.PartMut.{midOf, putMid}
 use lib.ListN.{length}
 use Rattle.laws.proofs.Lists.{length-mid}
 use Rattle.coefficients.specs.declared.quantiser.Quantiser.{Quantiser}
-use Rattle.coefficients.specs.Blocks.{Filled}
+use Rattle.coefficients.specs.Blocks.{BlockCoefficients}
 use Rattle.prediction.specs.declared.position.Macroblock.{Macroblock}
 use Rattle.prediction.specs.declared.planes.Plane.{Plane}
 use Rattle.prediction.specs.declared.planes.Plane.the-variants.{Y, Cr, Cb}
@@ -46,7 +46,7 @@ module _ {g : Context} {l : List ℕ} (k : StoreFits g l) where
         → di + 7 * dw + 8 ≤ length (midOf start (start + size - start) l)
     block-in-part h = rw (part-length (planeOf number) is-start is-size, k .size, is-width, is-macroblock) (rw is-macroblock at h)
 
-    pub in-store : di ≡ blockAddress m number → (q : Quantiser) (f : Filled) {part : List ℕ}
+    pub in-store : di ≡ blockAddress m number → (q : Quantiser) (f : BlockCoefficients) {part : List ℕ}
         → part ≡ results q f di dw (midOf start (start + size - start) l)
         → putMid start (start + size - start) l part ≡ written g q number address f l
     unfolding written

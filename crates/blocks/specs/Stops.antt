@@ -6,7 +6,7 @@ use Prim.Native.Nat.{ℕ, _-_, _^_, _<_}
 use lib.Dec.{ltb}
 use lib.IntN.{ℤ, natAbs, _+ℤ_}
 use Rattle.bits.specs.Programs.{run}
-use Rattle.coefficients.specs.Dcs.{dcDifference, dcInside}
+use Rattle.coefficients.specs.Dcs.{dcDifference, dcInRange}
 use Rattle.picture_state.specs.declared.types.{Context.Context, Matrices.Matrices}
 use Rattle.picture_state.specs.State.{SliceState}
 use Rattle.picture_state.specs.Result.{ok, forBelow}
@@ -21,7 +21,7 @@ differenceAt number s a = run (dcDifference (ltb number 4)) s a .value
 -- RULES Q8: the block with this number, read from the place a on in the state w, has a DC value outside; e says so, and the store is that of w
 pub record DcStop (intra : Bool) (number : ℕ) (w : SliceState) (s : List ℕ) (a : ℕ) (e : Stop) : Type 0 where
   pub isIntra : intra ≡ true
-  pub outside : dcInside (dcPredictor number (w .slice) +ℤ differenceAt number s a) ≡ false
+  pub outside : dcInRange (dcPredictor number (w .slice) +ℤ differenceAt number s a) ≡ false
   pub is : e ≡ stop (dcOutside (natAbs (w .slice .«macroblock_address»)) number (dcPredictor number (w .slice)) (differenceAt number s a)) (w .store)
 
 -- it is one of the blocks that the pattern names, and `before` is the state, with the store, that those before it have left

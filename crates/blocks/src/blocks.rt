@@ -11,9 +11,9 @@ use picture_state::types::Progress;
 use picture_state::types::Slice;
 ghost use mathlib.Core.Path.{_≡_};
 ghost use Prim.Native.Nat.{_-_, _^_, _<_};
-ghost use Rattle.codes.specs.Lent.{Lent};
+ghost use Rattle.codes.specs.DecodingTables.{DecodingTables};
 ghost use Rattle.picture_state.specs.State.{sliceState};
-ghost use Rattle.blocks.specs.Blocks.{predictorOf, predictorAs, quantiserOf, oneBlock, patternBlock, blocks};
+ghost use Rattle.blocks.specs.Blocks.{predictorOf, withDcPredictor, quantiserOf, oneBlock, patternBlock, blocks};
 ghost use Rattle.picture_state.specs.Contracts.{matricesIn, MacroblockInvariant, RefinesAtMacroblock};
 
 // What the blocks of a macroblock have in common: the picture's context, whether they are intra, and the pattern that names those there are.
@@ -34,9 +34,9 @@ fn predictor_of(number: usize) -> usize
 }
 
 // The state with another predictor of the block's plane.
-fn predicted(mut state: Slice, number: usize, predictor: i32) -> Slice
+fn with_dc_predictor(mut state: Slice, number: usize, predictor: i32) -> Slice
     requires { ⌜ number < 6 ⌝ }
-    ensures { λ r. ⌜ r ≡ predictorAs number predictor state ⌝ }
+    ensures { λ r. ⌜ r ≡ withDcPredictor number predictor state ⌝ }
 {
     let k = predictor_of(number);
     let mut dc = state.dc_predictor;
@@ -67,7 +67,7 @@ fn one_block(
     number: usize,
 ) -> Progress
     requires { ⌜ MacroblockInvariant (coded .context) (now s) reader state (now values) (now store) ⌝ }
-    requires { ⌜ Lent (now tables) ⌝ }
+    requires { ⌜ DecodingTables (now tables) ⌝ }
     requires { ⌜ number < 6 ⌝ }
     ensures { λ r. ⌜
         RefinesAtMacroblock
@@ -81,7 +81,7 @@ fn one_block(
     let r = read_block(s, reader, tables, values, q, number < 4, predictor);
     let after = r.reader;
     let end = r.end;
-    if let BlockEnd::Outside = end {
+    if let BlockEnd::DcOutOfRange = end {
         return Progress {
             reader: after,
             state,
@@ -90,7 +90,7 @@ fn one_block(
     }
     let g = coded.context;
     write_block(store, values, g, state.macroblock_address, number, q, r);
-    let next = predicted(state, number, r.predictor);
+    let next = with_dc_predictor(state, number, r.predictor);
     Progress {
         reader: after,
         state: next,
@@ -119,7 +119,7 @@ fn block_of_pattern(
     number: usize,
 ) -> Progress
     requires { ⌜ MacroblockInvariant (coded .context) (now s) reader state (now values) (now store) ⌝ }
-    requires { ⌜ Lent (now tables) ⌝ }
+    requires { ⌜ DecodingTables (now tables) ⌝ }
     requires { ⌜ number < 6 ⌝ }
     ensures { λ r. ⌜
         RefinesAtMacroblock (patternBlock (coded .context) (matricesIn (now (tables .entry))) (coded .intra) (coded .pattern) number
@@ -148,7 +148,7 @@ pub fn read_blocks(
     before: Slice,
 ) -> Progress
     requires { ⌜ MacroblockInvariant (coded .context) (now s) reader before (now values) (now store) ⌝ }
-    requires { ⌜ Lent (now tables) ⌝ }
+    requires { ⌜ DecodingTables (now tables) ⌝ }
     ensures { λ r. ⌜
         RefinesAtMacroblock (blocks (coded .context) (matricesIn (now (tables .entry))) (coded .intra) (coded .pattern)
         (sliceState before (now (values .entry)) (now (store .entry))))

@@ -22,7 +22,7 @@ ghost use Prim.Native.Nat.{_+_, _*_, _≤_};
 ghost use lib.IntN.{natAbs};
 ghost use lib.ListN.{length};
 ghost use Rattle.codes.specs.Matrices.{Bounded};
-ghost use Rattle.coefficients.specs.Blocks.{filled, blockReadOf, blockDataAfter};
+ghost use Rattle.coefficients.specs.Blocks.{blockCoefficients, blockReadOf, blockDataAfter};
 ghost use Rattle.blocks.specs.Blocks.{results, written};
 ghost use Rattle.picture_state.specs.Contracts.{StoreFits, AddressInPicture};
 ghost use Rattle.blocks.specs.Contracts.{storeAfter};
@@ -32,7 +32,7 @@ fn results(d: &mut [u8], di: usize, dw: usize, values: &mut [i32; 64], q: Quanti
     requires { ⌜ 8 ≤ dw ⌝ }
     requires { ⌜ di + 7 * dw + 8 ≤ length (now d) ⌝ }
     requires { ⌜ Bounded (now values) ⌝ }
-    ensures { λ _. ⌜ now (d .exit) ≡ results q (filled (now (values .entry)) n) di dw (now (d .entry)) ⌝ }
+    ensures { λ _. ⌜ now (d .exit) ≡ results q (blockCoefficients (now (values .entry)) n) di dw (now (d .entry)) ⌝ }
 {
     let intra = q.intra;
     if n == 1 {
@@ -66,7 +66,7 @@ fn write_results(
     requires { ⌜ AddressInPicture g address ⌝ }
     requires { ⌜ Bounded (now values) ⌝ }
     ensures { λ _. ⌜
-        now (store .exit) ≡ written g q number (natAbs address) (filled (now (values .entry)) n) (now (store .entry))
+        now (store .exit) ≡ written g q number (natAbs address) (blockCoefficients (now (values .entry)) n) (now (store .entry))
         ⌝ }
 {
     let m = macroblock_at(g.sizes.mb_width, g.sizes.mb_height, address as usize);
@@ -97,7 +97,7 @@ pub fn write_block(
     ensures { λ _. ⌜ now (values .exit) ≡ blockDataAfter q (blockReadOf (now (values .entry)) r) ⌝ }
 {
     let end = r.end;
-    if let BlockEnd::Whole = end {
+    if let BlockEnd::Complete = end {
         write_results(store, values, g, address, number, q, r.n);
         block_data_after(values, q, r);
     }

@@ -12,12 +12,12 @@ use Rattle.laws.proofs.Tests.{by-case}
 use Rattle.bits.specs.Bits.{has}
 use Rattle.bits.specs.Bounds.{longestStream}
 use Rattle.bits.specs.Programs.{eqZ}
-use Rattle.header.specs.State.{noTime}
+use Rattle.header.specs.State.{zeroFloat}
 use Rattle.playback.specs.declared.outcome.Outcome.{Outcome}
 use Rattle.playback.specs.declared.outcome.Outcome.the-variants as H
 use Rattle.playback.specs.declared.state.State.{State}
 use Rattle.playback.specs.State.{mostPictures, freshState}
-use Rattle.playback.specs.Search.{nextCode}
+use Rattle.playback.specs.Search.{ensureStartCode}
 use Rattle.playback.specs.Steps.{LoopEnd, finished, aborted, pictures}
 use Rattle.playback.proofs.Displays.{count-of}
 use Rattle.decoder.specs.declared.record.Decoder.{Decoder}
@@ -41,8 +41,8 @@ Running rate k t d = (d .sequence .«has_sequence_header» ≡ true) × ClockAt 
 pub record Unset (d : Decoder) : Type 0 where
   pub header : d .sequence .«has_sequence_header» ≡ false
   pub count : d .state .display .«frames_decoded» ≡ 0
-  pub next : d .state .display .clock .time ≡ noTime
-  pub shown : d .state .display .clock .«last_frame_time» ≡ noTime
+  pub next : d .state .display .clock .time ≡ zeroFloat
+  pub shown : d .state .display .clock .«last_frame_time» ≡ zeroFloat
 
 pub fresh-unset : Unset fresh
 unfolding fresh freshState
@@ -51,42 +51,42 @@ fresh-unset = record { header = refl; count = refl; next = refl; shown = refl }
 -- ---- the header
 
 -- RULES O.3: what the questions 3, 4, 5 leave of a record with no header
-abbrev Headed : List ℕ → Decoder → CheckResult → Type 0
-Headed s d (refused n x) = Unset x
-Headed s d (passed x) = Running (rateRead s d) 0 noTime x
+abbrev HeadRead : List ℕ → Decoder → CheckResult → Type 0
+HeadRead s d (refused n x) = Unset x
+HeadRead s d (passed x) = Running (rateRead s d) 0 zeroFloat x
 
 find-unset : (s : List ℕ) (d : Decoder) → Unset d → Unset (findSequence s d)
-unfolding findSequence nextCode
+unfolding findSequence ensureStartCode
 find-unset s d h =
     by-case (λ (y : State). Unset (record { sequence = d .sequence; state = y; «block_data» = d .«block_data»; stop = d .stop })) (eqZ (startCode d) (pos 0xb3))
     (λ e. h) (λ e. record { header = h .header; count = h .count; next = h .next; shown = h .shown })
 
-header-clock : (s : List ℕ) (d : Decoder) → Unset d → Headed s d (checkHeader s d)
+header-clock : (s : List ℕ) (d : Decoder) → Unset d → HeadRead s d (checkHeader s d)
 unfolding checkHeader checkSize accepted timeAt
 header-clock s d k =
     let h = find-unset s d k in
-    by-case (Headed s d) (eqZ (startCode (findSequence s d)) (negsuc 0)) (λ e. h) (λ e.
-    by-case (Headed s d) (not (has s (position (findSequence s d)) 1088)) (λ e. h) (λ e.
-    by-case (Headed s d) (eqb (withSize s d .sequence .width) 0 || eqb (withSize s d .sequence .height) 0)
+    by-case (HeadRead s d) (eqZ (startCode (findSequence s d)) (negsuc 0)) (λ e. h) (λ e.
+    by-case (HeadRead s d) (not (has s (position (findSequence s d)) 1088)) (λ e. h) (λ e.
+    by-case (HeadRead s d) (eqb (withSize s d .sequence .width) 0 || eqb (withSize s d .sequence .height) 0)
     (λ e. record { header = h .header; count = h .count; next = h .next; shown = h .shown })
     (λ e. (refl, record { framerate = refl; count = h .count; next = h .next; shown = h .shown }))))
 
-store-clock : (s l : List ℕ) (d : Decoder) → Unset d → (a : CheckResult) → Headed s d a → Headed s d (checkStore d l a)
+store-clock : (s l : List ℕ) (d : Decoder) → Unset d → (a : CheckResult) → HeadRead s d a → HeadRead s d (checkStore d l a)
 unfolding checkStore
 store-clock s l d k (refused n x) h = h
-store-clock s l d k (passed x) h = by-case (Headed s d) (leb (storeBytes x) (length l)) (λ e. h) (λ e. k)
+store-clock s l d k (passed x) h = by-case (HeadRead s d) (leb (storeBytes x) (length l)) (λ e. h) (λ e. k)
 
 -- ---- opening
 
 -- RULES O.2: a header is accepted, or none is
 abbrev pub OpeningClock : List ℕ → Opening → Decoder → Type 0
-OpeningClock s O.Ready x = Running (rateRead s fresh) 0 noTime x
+OpeningClock s O.Ready x = Running (rateRead s fresh) 0 zeroFloat x
 OpeningClock s (O.Refused n) x = Unset x
 
 abbrev OpeningClockOf : List ℕ → CallResult Opening → Type 0
 OpeningClockOf s r = OpeningClock s (r .answer) (r .decoder)
 
-opened-clock : (s l : List ℕ) (a : CheckResult) → Headed s fresh a → OpeningClockOf s (opened l a)
+opened-clock : (s l : List ℕ) (a : CheckResult) → HeadRead s fresh a → OpeningClockOf s (opened l a)
 unfolding opened
 opened-clock s l (refused n x) h = h
 opened-clock s l (passed x) h = h
@@ -101,7 +101,7 @@ opening-clock s l =
 
 -- a header is accepted by what was given the record d and left x, or none is
 abbrev pub Accepts : List ℕ → Decoder → Decoder → Type 0
-Accepts s d x = Unset x ⊎ Running (rateRead s d) 0 noTime x
+Accepts s d x = Unset x ⊎ Running (rateRead s d) 0 zeroFloat x
 
 pub opening-accepts : (s : List ℕ) (o : Opening) (x : Decoder) → OpeningClock s o x → Accepts s fresh x
 opening-accepts s O.Ready x h = inr h
@@ -154,26 +154,26 @@ call-times s rate k t d l r =
 
 -- it accepts a header, or hands out nothing
 abbrev pub FirstTimes : List ℕ → Decoder → Outcome → Decoder → Type 0
-FirstTimes s d (H.Picture i) x = CallTimes (rateRead s d) 0 noTime (H.Picture i) x
+FirstTimes s d (H.Picture i) x = CallTimes (rateRead s d) 0 zeroFloat (H.Picture i) x
 FirstTimes s d (H.Refused n) x = Accepts s d x
 
 abbrev pub FirstTimesOf : List ℕ → Decoder → CallResult Outcome → Type 0
 FirstTimesOf s d r = FirstTimes s d (r .answer) (r .decoder)
 
 module _ (s : List ℕ) (d : Decoder) (k : Unset d) where
-  first-ended : (x : Decoder) (e : LoopEnd) → x .sequence .«has_sequence_header» ≡ true → EndTimes (rateRead s d) 0 noTime e
+  first-ended : (x : Decoder) (e : LoopEnd) → x .sequence .«has_sequence_header» ≡ true → EndTimes (rateRead s d) 0 zeroFloat e
       → 0 ≤ mostPictures → FirstTimesOf s d (callResultOf d x e)
   unfolding callResultOf
   first-ended x (finished (H.Picture i) y) h e few = (h, e, few)
   first-ended x (finished (H.Refused n) y) h e few = inr (h, e)
   first-ended x (aborted n l) h e few = inl (record { header = k .header; count = k .count; next = k .next; shown = k .shown })
 
-  first-checked : (l : List ℕ) (a : CheckResult) → Headed s d a → 0 ≤ mostPictures → FirstTimesOf s d (afterChecks s d l a)
+  first-checked : (l : List ℕ) (a : CheckResult) → HeadRead s d a → 0 ≤ mostPictures → FirstTimesOf s d (afterChecks s d l a)
   unfolding afterChecks startState
   first-checked l (refused n x) h few = inl h
   first-checked l (passed x) h few =
       first-ended x (pictures s (x .sequence .sizes) (x .sequence .matrices) (startState d x l)) (h .0)
-      (pictures-times (rateRead s d) 0 noTime s (x .sequence .sizes) (x .sequence .matrices) (startState d x l) (h .1)) few
+      (pictures-times (rateRead s d) 0 zeroFloat s (x .sequence .sizes) (x .sequence .matrices) (startState d x l) (h .1)) few
 
   pub first-times : (l : List ℕ) → FirstTimesOf s d (decode d s l)
   unfolding decode checkHeaderAndStore

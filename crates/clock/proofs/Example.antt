@@ -19,7 +19,7 @@ use Rattle.decoder.specs.Possible.{possible}
 use Rattle.decoder.specs.Headers.{findSequence, accepted, checkSize, checkHeader, checkStore}
 use Rattle.decoder.specs.Opening.{opened, openingFrom, opening}
 use Rattle.playback.specs.State.{freshState, possibleDisplay}
-use Rattle.playback.specs.Search.{nextCode, isFollowed}
+use Rattle.playback.specs.Search.{ensureStartCode, isFollowed}
 use Rattle.playback.specs.Display.{timeOf, counted, outputPicture, shown}
 use Rattle.playback.specs.Steps.{afterPicture, decoded, searched, pictureStep, pictures}
 use Rattle.decoder.specs.Decode.{callResultOf, checkHeaderAndStore, startState, afterChecks, decode}
@@ -65,6 +65,6 @@ unfolding iterate allBelow div ofInt toBits bitAt bitsAt readAt afterRead codePr
     intraQuantMatrix nonIntraQuantMatrix premultiplierMatrix bounded pixelAspectRatio pictureRate ifOk bindResult P.direction P.pictureHeader
     P.slicesInRoles P.slicesStep P.slices P.picture
     fresh freshState possibleDisplay cleared possible matrix size rest findSequence accepted checkSize checkHeader checkStore opened openingFrom opening
-    nextCode isFollowed timeOf counted outputPicture shown afterPicture decoded searched pictureStep pictures callResultOf checkHeaderAndStore startState
+    ensureStartCode isFollowed timeOf counted outputPicture shown afterPicture decoded searched pictureStep pictures callResultOf checkHeaderAndStore startState
     afterChecks decode
 times-computed = record { at-4 = refl; at-0 = refl }

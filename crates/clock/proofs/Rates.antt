@@ -11,7 +11,7 @@ use lib.Ieee.{Float, binary64, round, div, ofInt, toBits}
 use lib.Ieee.Positive.{num, den, positive}
 use Rattle.laws.proofs.Tests.{by-case, if-no}
 use Rattle.codes.specs.Rates.{pictureRate}
-use Rattle.header.specs.State.{noTime}
+use Rattle.header.specs.State.{zeroFloat}
 use Rattle.header.specs.Sequences.{rateOf}
 use Rattle.playback.specs.Display.{timeOf}
 use Rattle.clock.specs.Times.{timeAt, timesFrom, countedIn, EachCounted, IsNearestTime, IsInfinite}
@@ -19,12 +19,12 @@ use Rattle.clock.proofs.Times.{most, time-nearest, time-of-none, time-a
 
 -- ---- the codes with no rate: 0, and from 9 on
 
-no-rate : (code : ℕ) → (code ≡ 0) ⊎ (8 < code) → rateOf code ≡ noTime
+no-rate : (code : ℕ) → (code ≡ 0) ⊎ (8 < code) → rateOf code ≡ zeroFloat
 unfolding pictureRate div ofInt
 no-rate code (inl e) = ap rateOf e
 no-rate code (inr h) = go (leb 16 code) (leb→le 16 code) (nleb→lt 16 code)
   where
-    table : (k : ℕ) → k < 7 → rateOf (k + 9) ≡ noTime
+    table : (k : ℕ) → k < 7 → rateOf (k + 9) ≡ zeroFloat
     table zero h = refl
     table (suc zero) h = refl
     table (suc (suc zero)) h = refl
@@ -37,9 +37,9 @@ no-rate code (inr h) = go (leb 16 code) (leb→le 16 code) (nleb→lt 16 code)
     back : (code : ℕ) → 8 < code → code - 9 + 9 ≡ code
     back code h = omega arith
 
-    go : (b : Bool) → (T b → 16 ≤ code) → (T (not b) → code < 16) → rateOf code ≡ noTime
-    go true far near = List·getD-eq-default pictureRate noTime (far tt)
-    go false far near = subst (λ (c : ℕ). rateOf c ≡ noTime) (back code h) (table (code - 9) (omega (arith, near tt)))
+    go : (b : Bool) → (T b → 16 ≤ code) → (T (not b) → code < 16) → rateOf code ≡ zeroFloat
+    go true far near = List·getD-eq-default pictureRate zeroFloat (far tt)
+    go false far near = subst (λ (c : ℕ). rateOf c ≡ zeroFloat) (back code h) (table (code - 9) (omega (arith, near tt)))
 
 -- then every time but the first is +∞
 pub code-infinite : (code : ℕ) → (code ≡ 0) ⊎ (8 < code) → (k : ℕ) → k ≤ most → IsInfinite k (timeAt (rateOf code) k)
@@ -70,7 +70,7 @@ module _ (code : ℕ) (g : 0 < code) (c : code ≤ 8) where
   abbrev tableRate : Float
   tableRate = rateOf code
 
-  zero-time : (k : ℕ) → eqb k 0 ≡ true → timeOf k tableRate ≡ noTime
+  zero-time : (k : ℕ) → eqb k 0 ≡ true → timeOf k tableRate ≡ zeroFloat
   zero-time zero e = let r = is-rate code g c in time-of-none tableRate (r .0) (r .1)
   zero-time (suc k) e = absurd (true≢false (sym e ∙ eqb·suc-zero k))
 
@@ -94,7 +94,7 @@ each-counted P rate p k t (false ∷ fs) h = (p k (omega arith), each-counted P 
 -- ---- values, as bits
 
 -- at the code 4 the third of four pictures is flushed: it shows what the second showed, and is not counted
-pub flush-computed : map (toBits binary64) (timesFrom (rateOf 4) 0 noTime (false ∷ false ∷ true ∷ false ∷ []))
+pub flush-computed : map (toBits binary64) (timesFrom (rateOf 4) 0 zeroFloat (false ∷ false ∷ true ∷ false ∷ []))
     ≡ 0 ∷ 0x3fa11570aad666ad ∷ 0x3fa11570aad666ad ∷ 0x3fb11570aad666ad ∷ []
 unfolding timesFrom timeAt timeOf pictureRate div ofInt toBits
 flush-computed = refl

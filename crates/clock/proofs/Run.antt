@@ -8,7 +8,7 @@ use Prim.Native.Nat.{ℕ, _+_, _≤_, _<_}
 use native.Mathlib.Omega.{arith}
 use lib.Dec.{lit≤}
 use lib.Ieee.{Float}
-use Rattle.header.specs.State.{noTime}
+use Rattle.header.specs.State.{zeroFloat}
 use Rattle.header.specs.Sequences.{rateOf}
 use Rattle.playback.specs.declared.outcome.{Shown.Shown, Outcome.Outcome}
 use Rattle.playback.specs.declared.outcome.Outcome.the-variants as H
@@ -90,24 +90,24 @@ headed-run {s} {x} rate (and-then {r = r} {rs = rs} {y = y} gave c) k t small h 
 -- ---- before it
 
 module _ (s : List ℕ) (d x : Decoder) (xs : List Decoder) (ts : List Float) (fs : List Bool) (v : Display)
-    (headed : Goes (rateRead s d) ts fs v x) (unset : Unset x → RunTimes (acceptedRate s x xs) 0 noTime ts fs v) where
+    (headed : Goes (rateRead s d) ts fs v x) (unset : Unset x → RunTimes (acceptedRate s x xs) 0 zeroFloat ts fs v) where
   abbrev rateHere : Bool → Float
   rateHere b = cond b (rateRead s d) (acceptedRate s x xs)
 
-  accepted-times : Accepts s d x → RunTimes (acceptedRate s d (x ∷ xs)) 0 noTime ts fs v
+  accepted-times : Accepts s d x → RunTimes (acceptedRate s d (x ∷ xs)) 0 zeroFloat ts fs v
   unfolding acceptedRate
-  accepted-times (inl u) = subst (λ (b : Bool). RunTimes (rateHere b) 0 noTime ts fs v) (sym (u .header)) (unset u)
-  accepted-times (inr h) = subst (λ (b : Bool). RunTimes (rateHere b) 0 noTime ts fs v) (sym (h .0)) (headed 0 noTime (lit≤ tt) h)
+  accepted-times (inl u) = subst (λ (b : Bool). RunTimes (rateHere b) 0 zeroFloat ts fs v) (sym (u .header)) (unset u)
+  accepted-times (inr h) = subst (λ (b : Bool). RunTimes (rateHere b) 0 zeroFloat ts fs v) (sym (h .0)) (headed 0 zeroFloat (lit≤ tt) h)
 
-  called-times : (o : Outcome) → FirstTimes s d o x → RunTimes (acceptedRate s d (x ∷ xs)) 0 noTime (timeBy o ++ ts) (flushBy o x ++ fs) v
+  called-times : (o : Outcome) → FirstTimes s d o x → RunTimes (acceptedRate s d (x ∷ xs)) 0 zeroFloat (timeBy o ++ ts) (flushBy o x ++ fs) v
   unfolding acceptedRate
   called-times (H.Picture i) h =
-      subst (λ (b : Bool). RunTimes (rateHere b) 0 noTime (i .time ∷ ts) (flushBy (H.Picture i) x ++ fs) v) (sym (h .0))
-      (then-times (rateRead s d) 0 noTime ts fs v x headed (lit≤ tt) (H.Picture i) h)
+      subst (λ (b : Bool). RunTimes (rateHere b) 0 zeroFloat (i .time ∷ ts) (flushBy (H.Picture i) x ++ fs) v) (sym (h .0))
+      (then-times (rateRead s d) 0 zeroFloat ts fs v x headed (lit≤ tt) (H.Picture i) h)
   called-times (H.Refused n) h = accepted-times h
 
 unset-run : {s : List ℕ} {x : CallState} {rs : List DecodeResult} {y : CallState} → Calls s x rs y → Unset (x .decoder)
-    → RunTimes (acceptedRate s (x .decoder) (recordsLeft rs)) 0 noTime (timesShown rs) (flushes rs) (y .decoder .state .display)
+    → RunTimes (acceptedRate s (x .decoder) (recordsLeft rs)) 0 zeroFloat (timesShown rs) (flushes rs) (y .decoder .state .display)
 unfolding timesShown flushes timesFrom countedIn timeAt
 unset-run none u = record { times = refl; count = u .count; next = u .next; few = lit≤ tt }
 unset-run {s} {x} (and-then {r = r} {rs = rs} {y = y} gave c) u =
@@ -125,19 +125,19 @@ module _ (s l : List ℕ) (r : Opened) (m : List ℕ) (gave : Opens s l r m) (rs
   opens : OpeningClock s (r .answer) (r .decoder)
   opens = subst (λ (q : CallResult Opening). OpeningClock s (q .answer) (q .decoder)) (sym gave) (opening-clock s l)
 
-  run : RunTimes rate 0 noTime (timesShown rs) (flushes rs) (y .decoder .state .display)
+  run : RunTimes rate 0 zeroFloat (timesShown rs) (flushes rs) (y .decoder .state .display)
   run =
       accepted-times s fresh (r .decoder) (recordsLeft rs) (timesShown rs) (flushes rs) (y .decoder .state .display) (headed-run (rateRead s fresh) calls)
       (unset-run calls) (opening-accepts s (r .answer) (r .decoder) opens)
 
   -- RULES 8.9, 8.11: the picture number k, flushes not counted, shows 0.0 if k is 0, else k ÷ rate; a flush shows what the picture before it showed
-  pub run-times : timesShown rs ≡ timesFrom rate 0 noTime (flushes rs)
+  pub run-times : timesShown rs ≡ timesFrom rate 0 zeroFloat (flushes rs)
   run-times = run .times
 
   -- the rate where the opening accepts the header
-  pub ready-times : r .answer ≡ O.Ready → timesShown rs ≡ timesFrom (rateRead s fresh) 0 noTime (flushes rs)
+  pub ready-times : r .answer ≡ O.Ready → timesShown rs ≡ timesFrom (rateRead s fresh) 0 zeroFloat (flushes rs)
   ready-times e =
-      headed-run (rateRead s fresh) calls 0 noTime (lit≤ tt) (subst (λ (o : Opening). OpeningClock s o (r .decoder)) e opens) .times
+      headed-run (rateRead s fresh) calls 0 zeroFloat (lit≤ tt) (subst (λ (o : Opening). OpeningClock s o (r .decoder)) e opens) .times
 
   -- RULES 8.10, 8.11: the record counts these pictures and no flush, and has the time of the next
   pub run-counts : (frames (y .decoder .state) ≡ countedIn (flushes rs)) × (nextTime (y .decoder .state) ≡ timeAt rate (countedIn (flushes rs)))
@@ -153,8 +153,8 @@ module _ (s l : List ℕ) (r : Opened) (m : List ℕ) (gave : Opens s l r m) (rs
   module _ (code : ℕ) (by-code : rate ≡ rateOf code) where
     each : (P : ℕ → Float → Type 0) → ((k : ℕ) → k ≤ most → P k (timeAt (rateOf code) k)) → EachCounted P 0 (flushes rs) (timesShown rs)
     each P p =
-        subst (EachCounted P 0 (flushes rs)) (sym (run-times ∙ ap (λ (x : Float). timesFrom x 0 noTime (flushes rs)) by-code))
-        (each-counted P (rateOf code) p 0 noTime (flushes rs) (run .few))
+        subst (EachCounted P 0 (flushes rs)) (sym (run-times ∙ ap (λ (x : Float). timesFrom x 0 zeroFloat (flushes rs)) by-code))
+        (each-counted P (rateOf code) p 0 zeroFloat (flushes rs) (run .few))
 
     -- RULES 8.9: at a code from 1 to 8 each time is the double nearest to k ÷ rate, the rate being the double of the table
     pub run-nearest : 0 < code → code ≤ 8 → EachCounted (IsNearestTime (rateOf code)) 0 (flushes rs) (timesShown rs)

@@ -16,10 +16,10 @@ use Rattle.playback.specs.declared.outcome.Shown.{Shown}
 use Rattle.playback.specs.declared.outcome.Outcome.the-variants as H
 use Rattle.playback.specs.declared.state.{Display.Display, State.State}
 use Rattle.playback.specs.State.{position, startCode, hasReferenceFrame, stateAfterPicture, hasReferenceFrameAs}
-use Rattle.playback.specs.Search.{nextCode, nextPicture, hasEnded}
+use Rattle.playback.specs.Search.{ensureStartCode, nextPicture, hasEnded}
 use Rattle.playback.specs.Display.{timeOf, counted, isReference, isWaiting}
-use Rattle.playback.specs.Steps.{DecodingState, LoopEnd, finished, aborted, atPicture, pictureStep, pictures}
-use Rattle.playback.specs.Cases.{isFlush, Outputs, b-picture, reference-picture, flushed-picture, StepCase, outputs, keeps-reference, aborts, is-seven}
+use Rattle.playback.specs.Steps.{DecodingState, LoopEnd, finished, aborted, afterPictureSearch, pictureStep, pictures}
+use Rattle.playback.specs.Cases.{isFlush, Outputs, b-picture, reference-picture, flushed-picture, StepCase, outputs, keeps-reference, aborts, no-picture}
 use Rattle.playback.proofs.Cases.{picture-step-is}
 use Rattle.playback.proofs.TwoSteps.{Each, by-steps}
 use Rattle.clock.specs.Times.{timeAt, isFlushOutput, isFlushed}
@@ -107,10 +107,10 @@ module _ (rate : Float) (k : ℕ) (t : Float) where
   step-times s z m x h (outputs {i} {y} o) = output-times s z m x y i h o
   step-times s z m x h (keeps-reference {f} {a} r e b held) = held-clock true (stateAfterPicture f a (x .state)) h
   step-times s z m x h (aborts r e) = tt
-  step-times s z m x h (is-seven r u) = h
+  step-times s z m x h (no-picture r u) = h
 
   next-clock : (s : List ℕ) (x : State) → ClockAt rate k t (x .display) → ClockAt rate k t (nextPicture s x .display)
-  unfolding nextCode
+  unfolding ensureStartCode
   next-clock s x h = by-case (λ (y : State). ClockAt rate k t (y .display)) (eqZ (startCode x) (pos 0)) (λ e. h) (λ e. h)
 
   pub pictures-times : (s : List ℕ) (z : Sizes) (m : Matrices) (x : DecodingState) → ClockAt rate k t (x .state .display)
@@ -122,4 +122,5 @@ module _ (rate : Float) (k : ℕ) (t : Float) where
       Going y = ClockAt rate k t (y .state .display)
 
       turn : (y : DecodingState) → Going y → (u : Step DecodingState LoopEnd) → pictureStep s z m y ≡ u → Each Going (EndTimes rate k t) u
-      turn y g u e = step-times s z m (atPicture s y) (next-clock s (y .state) g) (subst (StepCase s z m (atPicture s y)) e (picture-step-is s z m y))
+      turn y g u e = step-times s z m (afterPictureSearch s y) (next-clock s (y .state) g)
+          (subst (StepCase s z m (afterPictureSearch s y)) e (picture-step-is s z m y))

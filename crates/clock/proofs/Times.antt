@@ -13,7 +13,7 @@ use lib.Ieee.Exact.{HasValue}
 use lib.Ieee.Back.{round-whole, unsigned-back}
 use lib.Ieee.Positive.{num, den, den-pos, own-value, positive, positive-of-value, value→cross, value-pos}
 use lib.Ieee.Scale.{grid, overflow, round-same}
-use Rattle.header.specs.State.{noTime}
+use Rattle.header.specs.State.{zeroFloat}
 use Rattle.playback.specs.Display.{timeOf}
 use Rattle.clock.specs.Nearest.{Nearest}
 use Rattle.clock.proofs.Rounded.{round-nearest, stays-finite}
@@ -105,7 +105,7 @@ module _ (rate : Float) (above : T (positive rate)) (least : den rate ≤ num ra
       (round-nearest binary64 (n * den rate) (num rate) over (in-range n h))
 
   -- of no picture it is 0.0
-  pub time-of-none : timeOf 0 rate ≡ noTime
+  pub time-of-none : timeOf 0 rate ≡ zeroFloat
   unfolding ofInt
   time-of-none =
       time-is 0 (lit≤ tt)

@@ -7,7 +7,7 @@ use lib.Dec.{eqb}
 use lib.Ieee.{Float, inf, binary64}
 use lib.Ieee.Positive.{num, den}
 use Rattle.bits.specs.Programs.{run, if_then_else_}
-use Rattle.header.specs.State.{noTime}
+use Rattle.header.specs.State.{zeroFloat}
 use Rattle.header.specs.Sequences.{rest, rateOf}
 use Rattle.picture_state.specs.declared.types.{Matrices.Matrices, Sizes.Sizes}
 use Rattle.playback.specs.declared.outcome.{Shown.Shown, Outcome.Outcome}
@@ -27,7 +27,7 @@ use Rattle.clock.specs.Nearest.{Nearest}
 
 -- RULES 8.9: the time of the picture number k, counted from 0: 0.0, then k ÷ rate
 unfoldable pub timeAt : Float → ℕ → Float
-timeAt rate k = if eqb k 0 then noTime else timeOf k rate
+timeAt rate k = if eqb k 0 then zeroFloat else timeOf k rate
 
 -- RULES 8.9, 8.11: the times of pictures, of each of which is said whether it is flushed. k pictures came before, flushes not counted, the last with the time t
 unfoldable pub timesFrom : Float → ℕ → Float → List Bool → List Float
@@ -94,7 +94,7 @@ rateRead s d = rateOf (run rest s (position (withSize s d)) .value .«picture_ra
 -- RULES 8.1: of the first header that is accepted: the first of these records that has one was left by the opening or call that was given the record before
 -- it. The first was given d; 0.0 where none has a header
 unfoldable pub acceptedRate : List ℕ → Decoder → List Decoder → Float
-acceptedRate s d [] = noTime
+acceptedRate s d [] = zeroFloat
 acceptedRate s d (x ∷ xs) = if x .sequence .«has_sequence_header» then rateRead s d else acceptedRate s x xs
 
 -- the records that the calls left

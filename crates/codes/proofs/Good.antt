@@ -9,7 +9,7 @@ use lib.ListN.{length}
 use lib.IntN.{ℤ, pos, negsuc}
 use mir.Facts.{and-yes}
 use Rattle.laws.proofs.Tables.{every, at}
-use Rattle.codes.specs.Rule.{Good}
+use Rattle.codes.specs.TableRule.{ValidIndices}
 use Rattle.codes.specs.Tables.{macroblockAddressIncrementIndex, macroblockTypeIntraIndex, macroblockTypePredictiveIndex, macroblockTypeBIndex}
 use Rattle.codes.specs.Tables.{codeBlockPatternIndex, motionIndex, dctSizeLuminanceIndex, dctSizeChrominanceIndex, dctCoeffIndex}
 
@@ -22,7 +22,7 @@ entry l k (negsuc m) = true
 abbrev pub table : List ℤ → Bool
 table ix = ltb 1 (length ix) && every (entry (length ix)) 0 ix
 
-pub good-of : (ix : List ℤ) → T (table ix) → Good ix
+pub good-of : (ix : List ℤ) → T (table ix) → ValidIndices ix
 good-of ix t =
     let u = and-yes (ltb 1 (length ix)) (every (entry (length ix)) 0 ix) t in
     record {
@@ -37,38 +37,38 @@ good-of ix t =
         let r = and-yes (ltb k (suc m)) (ltb (suc m + 1) (length ix)) (e .1) in
         (eqb→eq (suc m % 2) 0 (e .0), ltb→lt k (suc m) (r .0), ltb→lt (suc m + 1) (length ix) (r .1))
 
-pub good-macroblock-address-increment : Good macroblockAddressIncrementIndex
+pub good-macroblock-address-increment : ValidIndices macroblockAddressIncrementIndex
 unfolding macroblockAddressIncrementIndex
 good-macroblock-address-increment = good-of macroblockAddressIncrementIndex tt
 
-pub good-macroblock-type-intra : Good macroblockTypeIntraIndex
+pub good-macroblock-type-intra : ValidIndices macroblockTypeIntraIndex
 unfolding macroblockTypeIntraIndex
 good-macroblock-type-intra = good-of macroblockTypeIntraIndex tt
 
-pub good-macroblock-type-predictive : Good macroblockTypePredictiveIndex
+pub good-macroblock-type-predictive : ValidIndices macroblockTypePredictiveIndex
 unfolding macroblockTypePredictiveIndex
 good-macroblock-type-predictive = good-of macroblockTypePredictiveIndex tt
 
-pub good-macroblock-type-b : Good macroblockTypeBIndex
+pub good-macroblock-type-b : ValidIndices macroblockTypeBIndex
 unfolding macroblockTypeBIndex
 good-macroblock-type-b = good-of macroblockTypeBIndex tt
 
-pub good-code-block-pattern : Good codeBlockPatternIndex
+pub good-code-block-pattern : ValidIndices codeBlockPatternIndex
 unfolding codeBlockPatternIndex
 good-code-block-pattern = good-of codeBlockPatternIndex tt
 
-pub good-motion : Good motionIndex
+pub good-motion : ValidIndices motionIndex
 unfolding motionIndex
 good-motion = good-of motionIndex tt
 
-pub good-dct-size-luminance : Good dctSizeLuminanceIndex
+pub good-dct-size-luminance : ValidIndices dctSizeLuminanceIndex
 unfolding dctSizeLuminanceIndex
 good-dct-size-luminance = good-of dctSizeLuminanceIndex tt
 
-pub good-dct-size-chrominance : Good dctSizeChrominanceIndex
+pub good-dct-size-chrominance : ValidIndices dctSizeChrominanceIndex
 unfolding dctSizeChrominanceIndex
 good-dct-size-chrominance = good-of dctSizeChrominanceIndex tt
 
-pub good-dct-coeff : Good dctCoeffIndex
+pub good-dct-coeff : ValidIndices dctCoeffIndex
 unfolding dctCoeffIndex
 good-dct-coeff = good-of dctCoeffIndex tt

@@ -1,4 +1,4 @@
--- What the walk does with eight bits that are there is what `walkedEight` says of them: one law for every table that keeps the rule. Assumes nothing.
+-- What the walk does with eight bits that are there is what `walkByte` says of them: one law for every table that keeps the rule. Assumes nothing.
 use mathlib.Core.Path.{_≡_, refl, ap, sym, subst, _∙_}
 use mathlib.Core.Bool.{Bool, true, false, cond, not, _||_}
 use mathlib.Core.List.{List, [], _∷_}
@@ -10,19 +10,19 @@ use lib.IntN.{ℤ, pos, natAbs}
 use lib.Signed.{leZ}
 use Rattle.laws.specs.Loops.{Step, continue, finish}
 use Rattle.bits.specs.Bits.{bitAt, bitsAt, has, readAt, afterRead}
-use Rattle.bits.specs.Programs.{Prog, Out, done, run, short, bind, continueWith, loop}
+use Rattle.bits.specs.Programs.{Prog, RunResult, done, run, anyReadRefused, bind, continueWith, loop}
 use Rattle.bits.proofs.Bits.{bit-lt, bits-mid}
 use Rattle.bits.proofs.Gives.{got-lt}
 use Rattle.bits.proofs.Programs.{run-bind, short-bind, served-has, served-got, served-next}
-use Rattle.codes.specs.Look.{Eight, ends, unfinished, walkedFrom, walkedEight, packed, lookedUp}
-use Rattle.codes.specs.Rule.{Good}
+use Rattle.codes.specs.ByteLookup.{ByteWalk, ends, unfinished, walkedFrom, walkByte, lookupEntry, lookedUp}
+use Rattle.codes.specs.TableRule.{ValidIndices}
 use Rattle.codes.specs.Walk.{walkStep, walkFrom, walk, vlc}
 use Rattle.codes.proofs.Entries.{above}
 
 -- p from the place a on does what q does from the place b on: value, end, and whether bits were refused
 pub record Same {A : Type 0} (s : List ℕ) (p : Prog A) (a : ℕ) (q : Prog A) (b : ℕ) : Type 0 where
   pub runs : run p s a ≡ run q s b
-  pub shorts : short p s a ≡ short q s b
+  pub shorts : anyReadRefused p s a ≡ anyReadRefused q s b
 
 same-on : {A : Type 0} {s : List ℕ} {p q r : Prog A} {a b c : ℕ} → Same s p a q b → Same s q b r c → Same s p a r c
 same-on x y = record { runs = x .runs ∙ y .runs; shorts = x .shorts ∙ y .shorts }
@@ -30,8 +30,8 @@ same-on x y = record { runs = x .runs ∙ y .runs; shorts = x .shorts ∙ y .sho
 same-both : {A B : Type 0} {s : List ℕ} {p q : Prog A} {a b : ℕ} (f : A → Prog B) → Same s p a q b → Same s (bind p f) a (bind q f) b
 same-both {A} {s = s} {p} {q} {a} {b} f x =
     record {
-      runs = run-bind p f s a ∙ ap (λ (o : Out A). run (f (o .value)) s (o .at)) (x .runs) ∙ sym (run-bind q f s b);
-      shorts = short-bind p f s a ∙ (λ i. x .shorts i || short (f (x .runs i .value)) s (x .runs i .at)) ∙ sym (short-bind q f s b);
+      runs = run-bind p f s a ∙ ap (λ (o : RunResult A). run (f (o .value)) s (o .at)) (x .runs) ∙ sym (run-bind q f s b);
+      shorts = short-bind p f s a ∙ (λ i. x .shorts i || anyReadRefused (f (x .runs i .value)) s (x .runs i .at)) ∙ sym (short-bind q f s b);
     }
 
 same-bind : {A B : Type 0} {s : List ℕ} {p : Prog A} {a b : ℕ} {k : A} (f : A → Prog B) → Same s p a (done k) b → Same s (bind p f) a (f k) b
@@ -67,8 +67,8 @@ unfolding run
 choice-runs x y s e true = refl
 choice-runs x y s e false = refl
 
-choice-shorts : {A : Type 0} (x y : A) (s : List ℕ) (e : ℕ) (t : Bool) → short (cond t (done x) (done y)) s e ≡ false
-unfolding short
+choice-shorts : {A : Type 0} (x y : A) (s : List ℕ) (e : ℕ) (t : Bool) → anyReadRefused (cond t (done x) (done y)) s e ≡ false
+unfolding anyReadRefused
 choice-shorts x y s e true = refl
 choice-shorts x y s e false = refl
 
@@ -81,8 +81,8 @@ module _ (ix : List ℤ) where
   unfolding run walkStep bind
   step-runs at s c = choice-runs _ _ s _ (leZ (getD ix (at + readAt s c 1) (pos 0)) (pos 0))
 
-  step-shorts : (at : ℕ) (s : List ℕ) (c : ℕ) → short (walkStep ix at) s c ≡ not (has s c 1)
-  unfolding short walkStep bind
+  step-shorts : (at : ℕ) (s : List ℕ) (c : ℕ) → anyReadRefused (walkStep ix at) s c ≡ not (has s c 1)
+  unfolding anyReadRefused walkStep bind
   step-shorts at s c =
       ap (λ (b : Bool). not (has s c 1) || b) (choice-shorts _ _ s (afterRead s c 1) (leZ (getD ix (at + readAt s c 1) (pos 0)) (pos 0)))
       ∙ or-false (not (has s c 1))
@@ -92,7 +92,7 @@ module _ (ix : List ℤ) where
     bit-runs : run (walkStep ix at) s c ≡ record { value = step (at + bitAt s c); at = c + 1 }
     bit-runs = step-runs at s c ∙ λ i. record { value = step (at + (served-got s c 1 h ∙ bits-one s c) i); at = served-next s c 1 h i }
 
-    bit-shorts : short (walkStep ix at) s c ≡ false
+    bit-shorts : anyReadRefused (walkStep ix at) s c ≡ false
     bit-shorts = step-shorts at s c ∙ ap not (served-has s c 1 h)
 
   -- a loop of turns, one turn on
@@ -102,8 +102,9 @@ module _ (ix : List ℤ) where
     unfolding loop
     loop-runs = run-bind (walkStep ix at) (continueWith (loop n (walkStep ix) 0)) s c
 
-    loop-shorts : short (loop (suc n) (walkStep ix) 0 at) s c
-        ≡ (short (walkStep ix at) s c || short (continueWith (loop n (walkStep ix) 0) (run (walkStep ix at) s c .value)) s (run (walkStep ix at) s c .at))
+    loop-shorts : anyReadRefused (loop (suc n) (walkStep ix) 0 at) s c
+        ≡ (anyReadRefused (walkStep ix at) s c
+        || anyReadRefused (continueWith (loop n (walkStep ix) 0) (run (walkStep ix at) s c .value)) s (run (walkStep ix at) s c .at))
     unfolding loop
     loop-shorts = short-bind (walkStep ix at) (continueWith (loop n (walkStep ix) 0)) s c
 
@@ -112,17 +113,18 @@ module _ (ix : List ℤ) where
     loop-bit h =
         let o = bit-runs at s c h in
         record {
-          runs = loop-runs ∙ ap (λ (w : Out (Step ℕ ℕ)). run (continueWith (loop n (walkStep ix) 0) (w .value)) s (w .at)) o;
+          runs = loop-runs ∙ ap (λ (w : RunResult (Step ℕ ℕ)). run (continueWith (loop n (walkStep ix) 0) (w .value)) s (w .at)) o;
           shorts = loop-shorts
-              ∙ ap (λ (b : Bool). b || short (continueWith (loop n (walkStep ix) 0) (run (walkStep ix at) s c .value)) s (run (walkStep ix at) s c .at))
+              ∙ ap (λ (b : Bool). b
+              || anyReadRefused (continueWith (loop n (walkStep ix) 0) (run (walkStep ix at) s c .value)) s (run (walkStep ix at) s c .at))
               (bit-shorts at s c h)
-              ∙ ap (λ (w : Out (Step ℕ ℕ)). short (continueWith (loop n (walkStep ix) 0) (w .value)) s (w .at)) o;
+              ∙ ap (λ (w : RunResult (Step ℕ ℕ)). anyReadRefused (continueWith (loop n (walkStep ix) 0) (w .value)) s (w .at)) o;
         }
 
   -- ---- the rest of a walk
 
   -- an entry of the pair `at` that leads on leads further, and to a pair that is inside
-  module _ (g : Good ix) where
+  module _ (g : ValidIndices ix) where
     on : (at b : ℕ) → at + 1 < length ix → b < 2 → leZ (getD ix (at + b) (pos 0)) (pos 0) ≡ false
         → (at < natAbs (getD ix (at + b) (pos 0))) × (natAbs (getD ix (at + b) (pos 0)) + 1 < length ix)
     on at b h l e =
@@ -137,12 +139,12 @@ module _ (ix : List ℤ) where
     enough s zero m at c h k l = let no : ⊥ = omega arith in absurd no
     enough s (suc n) zero at c h k l = let no : ⊥ = omega arith in absurd no
     enough s (suc n) (suc m) at c h k l =
-        let both : Out (Step ℕ ℕ) → Type 0 = λ w.
+        let both : RunResult (Step ℕ ℕ) → Type 0 = λ w.
         Same s (continueWith (loop n (walkStep ix) 0) (w .value)) (w .at) (continueWith (loop m (walkStep ix) 0) (w .value)) (w .at) in
         let rest = subst both (sym (step-runs at s c)) (go (leZ z (pos 0)) refl (λ i p q. enough s n m i (afterRead s c 1) p (omega arith) (omega arith))) in
         record {
           runs = loop-runs n at s c ∙ rest .runs ∙ sym (loop-runs m at s c);
-          shorts = loop-shorts n at s c ∙ ap (λ (t : Bool). short (walkStep ix at) s c || t) (rest .shorts) ∙ sym (loop-shorts m at s c);
+          shorts = loop-shorts n at s c ∙ ap (λ (t : Bool). anyReadRefused (walkStep ix at) s c || t) (rest .shorts) ∙ sym (loop-shorts m at s c);
         }
       where
         e : ℕ
@@ -162,25 +164,25 @@ module _ (ix : List ℤ) where
 
     -- ---- the law
 
-    -- what `walkedEight` says of the eight bits at a, when the walk has come with j of them to the pair `at`, and has fuel left
+    -- what `walkByte` says of the eight bits at a, when the walk has come with j of them to the pair `at`, and has fuel left
     module _ (s : List ℕ) (a : ℕ) where
-      abbrev Says : ℕ → ℕ → ℕ → Eight → Type 0
+      abbrev Says : ℕ → ℕ → ℕ → ByteWalk → Type 0
       Says fuel at j (ends k n) = Same s (loop fuel (walkStep ix) 0 at) (a + j) (done k) (a + n) × (j < n) × (n ≤ 8)
       Says fuel at j (unfinished i) = (i + 1 < length ix) × Same s (loop fuel (walkStep ix) 0 at) (a + j) (walkFrom ix i) (a + 8)
 
       module _ (there : a + 8 ≤ length s * 8) where
-        -- the turns of `walkedEight` are those of the walk
-        abbrev onward : ℕ → ℕ → Step ℕ ℕ → Eight
+        -- the turns of `walkByte` are those of the walk
+        abbrev onward : ℕ → ℕ → Step ℕ ℕ → ByteWalk
         onward n j t = elim t [ continue i ↦ walkedFrom ix (bitsAt s a 8) n i j | finish k ↦ ends k j ]
 
         led-step : (n at j : ℕ) → j < 8 → walkedFrom ix (bitsAt s a 8) (suc n) at j ≡ onward n (j + 1) (step (at + bitAt s (a + j)))
         unfolding walkedFrom
         led-step n at j h =
             let o = bit-runs at (bitsAt s a 8 ∷ []) j (omega arith) in
-            ap (λ (w : Out (Step ℕ ℕ)). onward n (w .at) (w .value)) o ∙ ap (λ (b : ℕ). onward n (j + 1) (step (at + b))) (bit-same s a j h)
+            ap (λ (w : RunResult (Step ℕ ℕ)). onward n (w .at) (w .value)) o ∙ ap (λ (b : ℕ). onward n (j + 1) (step (at + b))) (bit-same s a j h)
 
         -- a turn before it
-        widen : (fuel at j i : ℕ) (e : Eight) → Same s (loop (suc fuel) (walkStep ix) 0 at) (a + j) (loop fuel (walkStep ix) 0 i) (a + (j + 1))
+        widen : (fuel at j i : ℕ) (e : ByteWalk) → Same s (loop (suc fuel) (walkStep ix) 0 at) (a + j) (loop fuel (walkStep ix) 0 i) (a + (j + 1))
             → Says fuel i (j + 1) e → Says (suc fuel) at j e
         widen fuel at j i (ends k n) w q = (same-on w (q .0), omega (arith, q .1), q .2)
         widen fuel at j i (unfinished m) w q = (q .0, same-on w (q .1))
@@ -218,13 +220,13 @@ module _ (ix : List ℤ) where
                 widen fuel at j (natAbs z) (walkedFrom ix (bitsAt s a 8) n (natAbs z) (j + 1)) (stepped false f) (r (natAbs z) (u .1) (u .0))
 
         -- the eight bits end the walk: at this entry, after so many bits, and none was refused
-        pub led-ends : (k n : ℕ) → walkedEight ix (bitsAt s a 8) ≡ ends k n → Same s (walk ix) a (done k) (a + n) × (0 < n) × (n ≤ 8)
-        unfolding walkedEight walk
+        pub led-ends : (k n : ℕ) → walkByte ix (bitsAt s a 8) ≡ ends k n → Same s (walk ix) a (done k) (a + n) × (0 < n) × (n ≤ 8)
+        unfolding walkByte walk
         led-ends k n e = rw add-zero at (subst (Says (length ix) 0 0) e (says 8 0 0 (length ix) refl (g .two) (omega (arith, g .two))))
 
         -- or lead further: the rest is the walk from this pair on, behind the eight
-        pub led-further : (i : ℕ) → walkedEight ix (bitsAt s a 8) ≡ unfinished i → (i + 1 < length ix) × Same s (walk ix) a (walkFrom ix i) (a + 8)
-        unfolding walkedEight walk
+        pub led-further : (i : ℕ) → walkByte ix (bitsAt s a 8) ≡ unfinished i → (i + 1 < length ix) × Same s (walk ix) a (walkFrom ix i) (a + 8)
+        unfolding walkByte walk
         led-further i e = rw add-zero at (subst (Says (length ix) 0 0) e (says 8 0 0 (length ix) refl (g .two) (omega (arith, g .two))))
 
         -- ---- an entry of the table
@@ -234,10 +236,10 @@ module _ (ix : List ℤ) where
           pub look-agrees : 0 < lookedUp ix vs (bitsAt s a 8)
               → Same s (vlc ix vs 0) a (done (lookedUp ix vs (bitsAt s a 8) / 16)) (a + lookedUp ix vs (bitsAt s a 8) % 16)
           unfolding lookedUp vlc
-          look-agrees h = go (walkedEight ix (bitsAt s a 8)) refl h
+          look-agrees h = go (walkByte ix (bitsAt s a 8)) refl h
             where
-              go : (e : Eight) → walkedEight ix (bitsAt s a 8) ≡ e → 0 < packed vs e
-                  → Same s (bind (walk ix) (λ k. done (getD vs k 0))) a (done (packed vs e / 16)) (a + packed vs e % 16)
+              go : (e : ByteWalk) → walkByte ix (bitsAt s a 8) ≡ e → 0 < lookupEntry vs e
+                  → Same s (bind (walk ix) (λ k. done (getD vs k 0))) a (done (lookupEntry vs e / 16)) (a + lookupEntry vs e % 16)
               go (ends k n) q p =
                   let w = led-ends k n q in
                   let value : (16 * getD vs k 0 + n) / 16 ≡ getD vs k 0 = omega (arith, w .2) in
@@ -246,7 +248,7 @@ module _ (ix : List ℤ) where
               go (unfinished i) q p = let no : ⊥ = omega arith in absurd no
 
           -- a longer code is read on from the pair to which its eight bits lead
-          pub look-further : (i : ℕ) → walkedEight ix (bitsAt s a 8) ≡ unfinished i
+          pub look-further : (i : ℕ) → walkByte ix (bitsAt s a 8) ≡ unfinished i
               → Same s (vlc ix vs 0) a (bind (walkFrom ix i) (λ k. done (getD vs k 0))) (a + 8)
           unfolding vlc
           look-further i q = same-both (λ k. done (getD vs k 0)) (led-further i q .1)

@@ -14,7 +14,7 @@ use Rattle.bits.specs.Bits.{bitsAt}
 use Rattle.bits.specs.Runs.{RunsAt}
 use Rattle.bits.proofs.Rules.{at-same, at-as}
 use Rattle.codes.specs.Walk.{walk, vlc}
-use Rattle.codes.specs.Standard.{Code, _∈_, Stands, Begins, Possible, taken}
+use Rattle.codes.specs.Standard.{Code, _∈_, CodeWordAt, Begins, IsCodePrefix, taken}
 use Rattle.codes.proofs.Agreement.{Agrees}
 use Rattle.codes.proofs.Begins.{begins-whole, padded-bits, padded-front}
 use Rattle.codes.proofs.Follow.{Bits, follow, stream-bits, past-bits, end, walk-end, vlc-end}
@@ -40,7 +40,7 @@ module _ {A : Type 0} (eq : A → A → Bool) (eq-yes : (x y : A) → T (eq x y)
     here : Fits ix vs d (bitsAt s a) codes (end ix s a)
     here = along (stream-bits s a)
 
-    reads : (c : Code A) → c ∈ codes → Stands c s a → RunsAt (vlc ix vs d) s a (c .value) (taken s a (c .bits))
+    reads : (c : Code A) → c ∈ codes → CodeWordAt c s a → RunsAt (vlc ix vs d) s a (c .value) (taken s a (c .bits))
     reads c m h =
         ⊎-elim
         (λ v.
@@ -51,7 +51,7 @@ module _ {A : Type 0} (eq : A → A → Bool) (eq-yes : (x y : A) → T (eq x y)
         here
 
     only : (k e : ℕ) → RunsAt (walk ix) s a k e → getD ix k (pos 0) ≡ pos 0
-        → (c : Code A) × (c ∈ codes) × Stands c s a × (c .value ≡ getD vs k d) × (taken s a (c .bits) ≡ e)
+        → (c : Code A) × (c ∈ codes) × CodeWordAt c s a × (c .value ≡ getD vs k d) × (taken s a (c .bits) ≡ e)
     only k e r z =
         let same = at-same r (walk-end ix s a) in
         ⊎-elim
@@ -65,8 +65,8 @@ module _ {A : Type 0} (eq : A → A → Bool) (eq-yes : (x y : A) → T (eq x y)
         (λ v. absurd (v .index (ap (λ (j : ℕ). getD ix j (pos 0)) (sym (same .0)) ∙ z)))
         here
 
-    none : ((c : Code A) → c ∈ codes → Stands c s a → ⊥)
-        → (n : ℕ) × Possible codes n (bitsAt s a n) × (Possible codes (n + 1) (bitsAt s a (n + 1)) → ⊥)
+    none : ((c : Code A) → c ∈ codes → CodeWordAt c s a → ⊥)
+        → (n : ℕ) × IsCodePrefix codes n (bitsAt s a n) × (IsCodePrefix codes (n + 1) (bitsAt s a (n + 1)) → ⊥)
         × RunsAt (vlc ix vs d) s a d (taken s a (n + 1))
     none h =
         ⊎-elim

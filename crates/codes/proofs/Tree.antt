@@ -13,7 +13,7 @@ use lib.ListN.{length, getD}
 use lib.IntN.{ℤ, pos, negsuc, natAbs}
 use lib.Signed.{leZ, nonNeg}
 use mir.Facts.{and-yes}
-use Rattle.codes.specs.Standard.{Code, _∈_, Begins, Possible}
+use Rattle.codes.specs.Standard.{Code, _∈_, Begins, IsCodePrefix}
 use Rattle.codes.proofs.Follow.{Bits, End, follow, follow-bits}
 use Rattle.codes.proofs.Begins.{begins, begins-yes, yes-begins, begins-whole, whole-begins, begins-less}
 
@@ -47,7 +47,7 @@ module _ {A : Type 0} where
   longer-all n [] t o m = absurd t
   longer-all n (c ∷ cs) t o m = ltb→lt n (o .bits) (all-pass (λ o. ltb n (o .bits)) (c ∷ cs) t o m)
 
-  longer-some : (n : ℕ) (cs : List (Code A)) {w : ℕ} → T (longer n cs) → ((o : Code A) → o ∈ cs → Begins o n w) → Possible cs n w
+  longer-some : (n : ℕ) (cs : List (Code A)) {w : ℕ} → T (longer n cs) → ((o : Code A) → o ∈ cs → Begins o n w) → IsCodePrefix cs n w
   longer-some n [] t b = absurd t
   longer-some n (c ∷ cs) t b = record { some = c; printed = List·Memᴰ·head refl; begins = b c (List·Memᴰ·head refl) }
 
@@ -99,8 +99,8 @@ module _ {A : Type 0} (ix : List ℤ) (vs : List A) (d : A) where
     pub bits : e .bits ≡ suc before
     pub index : getD ix (e .position) (pos 0) ≡ pos 0 → ⊥
     pub value : getD vs (e .position) d ≡ d
-    pub possible : Possible cs before (f before)
-    pub impossible : Possible cs (suc before) (f (suc before)) → ⊥
+    pub possible : IsCodePrefix cs before (f before)
+    pub impossible : IsCodePrefix cs (suc before) (f (suc before)) → ⊥
     pub no-code : (o : Code A) → o ∈ cs → f (o .bits) ≡ o .word → ⊥
 
   abbrev pub Fits : (ℕ → ℕ) → List (Code A) → End → Type 0
@@ -149,7 +149,7 @@ module _ {A : Type 0} (eq : A → A → Bool) (ix : List ℤ) (vs : List A) (d :
     -- cs are the codes that begin with the first n bits of f; all are longer
     record Inner (n : ℕ) (cs : List (Code A)) : Type 0 where
       long : (o : Code A) → o ∈ cs → n < o .bits
-      some : Possible cs n (f n)
+      some : IsCodePrefix cs n (f n)
 
     inner-of : (n : ℕ) (cs : List (Code A)) → T (longer n cs) → ((o : Code A) → o ∈ cs → Begins o n (f n)) → Inner n cs
     inner-of n cs t b = record { long = longer-all n cs t; some = longer-some n cs t b }

@@ -12,13 +12,13 @@ use Rattle.laws.proofs.Tables.{every, at}
 use Rattle.bits.specs.Bits.{bitsAt}
 use Rattle.bits.specs.Runs.{RunsAt}
 use Rattle.bits.proofs.Rules.{at-same}
-use Rattle.codes.specs.Rule.{Good}
+use Rattle.codes.specs.TableRule.{ValidIndices}
 use Rattle.codes.specs.Walk.{vlc}
 use Rattle.codes.proofs.Follow.{follow-some, end, vlc-end}
 
 module _ {A : Type 0} (ix : List ℤ) (vs : List A) (d : A) {s : List ℕ} {a : ℕ} {v : A} {e : ℕ} (r : RunsAt (vlc ix vs d) s a v e) where
   -- before the end of the stream it takes a bit
-  pub vlc-takes : Good ix → a < length s * 8 → a < e
+  pub vlc-takes : ValidIndices ix → a < length s * 8 → a < e
   vlc-takes g h = omega (arith, at-same r (vlc-end ix s a vs d), follow-some ix (bitsAt s a) (length ix) 0 0 (omega (arith, g .two)))
 
   -- its value passes a test that d and all values of the table pass

@@ -1,9 +1,9 @@
 pub mod Codes
-pub mod Lent
-pub mod Look
+pub mod DecodingTables
+pub mod ByteLookup
 pub mod Matrices
 pub mod Rates
-pub mod Rule
+pub mod TableRule
 pub mod Standard
 pub mod Tables
 pub mod Walk

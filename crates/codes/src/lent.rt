@@ -4,7 +4,7 @@ ghost use mathlib.Core.Path.{_≡_};
 ghost use Prim.Native.Nat.{_<_};
 ghost use lib.IntN.{pos};
 ghost use lib.ListN.{getD};
-ghost use Rattle.codes.specs.Lent.{Lent, matrixOf};
+ghost use Rattle.codes.specs.DecodingTables.{DecodingTables, matrixOf};
 ghost use Rattle.codes.specs.Matrices.{zigZag, premultiplierMatrix};
 
 // The length of the array.
@@ -30,25 +30,25 @@ pub const CHROMINANCE: usize = 332;
 
 pub const COEFFICIENT: usize = 350;
 
-pub const ORDER: usize = 574;
+pub const SCAN: usize = 574;
 
 pub const PREMULTIPLIERS: usize = 638;
 
 pub const INTRA_MATRIX: usize = 702;
 
-pub const OTHER_MATRIX: usize = 766;
+pub const NON_INTRA_MATRIX: usize = 766;
 
 // The place of the coefficient that is number n in zig-zag order.
-pub fn position_of(tables: &Tables, n: usize) -> usize
-    requires { ⌜ Lent (now tables) ⌝ }
+pub fn zig_zag_position(tables: &Tables, n: usize) -> usize
+    requires { ⌜ DecodingTables (now tables) ⌝ }
     requires { ⌜ n < 64 ⌝ }
     ensures { λ r. ⌜ r ≡ getD zigZag n 0 ⌝ }
 {
-    tables[ORDER + n] as usize
+    tables[SCAN + n] as usize
 }
 
 pub fn premultiplier(tables: &Tables, position: usize) -> i32
-    requires { ⌜ Lent (now tables) ⌝ }
+    requires { ⌜ DecodingTables (now tables) ⌝ }
     requires { ⌜ position < 64 ⌝ }
     ensures { λ r. ⌜ r ≡ getD premultiplierMatrix position (pos 0) ⌝ }
 {
@@ -57,12 +57,12 @@ pub fn premultiplier(tables: &Tables, position: usize) -> i32
 
 // The entry at this place of the matrix for intra blocks, or of the other.
 pub fn entry(tables: &Tables, intra: bool, position: usize) -> u8
-    requires { ⌜ Lent (now tables) ⌝ }
+    requires { ⌜ DecodingTables (now tables) ⌝ }
     requires { ⌜ position < 64 ⌝ }
     ensures { λ r. ⌜ r ≡ getD (matrixOf (now (tables .entry)) intra) position 0 ⌝ }
 {
     if intra {
         return tables[INTRA_MATRIX + position] as u8;
     }
-    tables[OTHER_MATRIX + position] as u8
+    tables[NON_INTRA_MATRIX + position] as u8
 }

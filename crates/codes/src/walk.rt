@@ -5,8 +5,8 @@ ghost use Prim.Native.Nat.{ℕ, _+_, _≤_, _<_};
 ghost use lib.Dec.{T};
 ghost use lib.ListN.{length, getD};
 ghost use lib.IntN.{ℤ, pos};
-ghost use Rattle.bits.specs.Runs.{Inside, Reading};
-ghost use Rattle.codes.specs.Lent.{Joined, Leading, all, near, indices};
+ghost use Rattle.bits.specs.Runs.{ReaderInBounds, RunsInBounds};
+ghost use Rattle.codes.specs.DecodingTables.{IsMergedTable, ValidMergedTable, all, absBelow256, indices};
 ghost use Rattle.codes.specs.Walk.{walkFrom, walk, vlcFrom, vlc};
 
 // The entry at which a walk ends.
@@ -28,10 +28,10 @@ pub struct VlcUint {
 // From a pair of entries on. A bit chooses an entry of the pair. Below 256 it is the index of the next pair; values stand above the indices, and the
 // walk ends at one.
 pub fn walk_from(s: &[u8], reader: Reader, table: &[u16], pair: usize) -> Leaf
-    requires { ⌜ Inside (now s) reader ⌝ }
-    requires { ⌜ Leading (now table) ⌝ }
+    requires { ⌜ ReaderInBounds (now s) reader ⌝ }
+    requires { ⌜ ValidMergedTable (now table) ⌝ }
     requires { ⌜ pair + 1 < length (now table) ⌝ }
-    ensures { λ r. ⌜ Reading (walkFrom (indices (now (table .entry))) pair) (now (s .entry)) reader (r .position) (r .reader) ⌝ }
+    ensures { λ r. ⌜ RunsInBounds (walkFrom (indices (now (table .entry))) pair) (now (s .entry)) reader (r .position) (r .reader) ⌝ }
     ensures { λ r. ⌜ r .position < length (now (table .entry)) ⌝ }
     ensures { λ r. ⌜ 256 ≤ getD (now (table .entry)) (r .position) 0 ⌝ }
 {
@@ -54,9 +54,9 @@ pub fn walk_from(s: &[u8], reader: Reader, table: &[u16], pair: usize) -> Leaf
 
 // The whole walk.
 pub fn walk(s: &[u8], reader: Reader, table: &[u16]) -> Leaf
-    requires { ⌜ Inside (now s) reader ⌝ }
-    requires { ⌜ Leading (now table) ⌝ }
-    ensures { λ r. ⌜ Reading (walk (indices (now (table .entry)))) (now (s .entry)) reader (r .position) (r .reader) ⌝ }
+    requires { ⌜ ReaderInBounds (now s) reader ⌝ }
+    requires { ⌜ ValidMergedTable (now table) ⌝ }
+    ensures { λ r. ⌜ RunsInBounds (walk (indices (now (table .entry)))) (now (s .entry)) reader (r .position) (r .reader) ⌝ }
     ensures { λ r. ⌜ r .position < length (now (table .entry)) ⌝ }
     ensures { λ r. ⌜ 256 ≤ getD (now (table .entry)) (r .position) 0 ⌝ }
 {
@@ -65,10 +65,10 @@ pub fn walk(s: &[u8], reader: Reader, table: &[u16]) -> Leaf
 
 // The value at the end of the walk through a code table as it is lent, with its sign: whatever indices ix and values vs it is made of.
 pub fn read_vlc(s: &[u8], reader: Reader, table: &[u16]) -> Vlc
-    requires { ⌜ Inside (now s) reader ⌝ }
-    requires { ⌜ Leading (now table) ⌝ }
-    ensures { λ r. ⌜ ((ix vs : List ℤ) → Joined ix vs (now (table .entry)) → T (all near vs)
-        → Reading (vlc ix vs (pos 0)) (now (s .entry)) reader (r .value) (r .reader)) ⌝ }
+    requires { ⌜ ReaderInBounds (now s) reader ⌝ }
+    requires { ⌜ ValidMergedTable (now table) ⌝ }
+    ensures { λ r. ⌜ ((ix vs : List ℤ) → IsMergedTable ix vs (now (table .entry)) → T (all absBelow256 vs)
+        → RunsInBounds (vlc ix vs (pos 0)) (now (s .entry)) reader (r .value) (r .reader)) ⌝ }
 {
     let leaf = walk(s, reader, table);
     let after = leaf.reader;
@@ -83,11 +83,11 @@ pub fn read_vlc(s: &[u8], reader: Reader, table: &[u16]) -> Vlc
 
 // The same for a table whose values are natural numbers, from a pair of entries on.
 pub fn read_vlc_uint(s: &[u8], reader: Reader, table: &[u16], pair: usize) -> VlcUint
-    requires { ⌜ Inside (now s) reader ⌝ }
-    requires { ⌜ Leading (now table) ⌝ }
+    requires { ⌜ ReaderInBounds (now s) reader ⌝ }
+    requires { ⌜ ValidMergedTable (now table) ⌝ }
     requires { ⌜ pair + 1 < length (now table) ⌝ }
-    ensures { λ r. ⌜ ((ix : List ℤ) (vs : List ℕ) → Joined ix (map pos vs) (now (table .entry))
-        → Reading (vlcFrom ix vs 0 pair) (now (s .entry)) reader (r .value) (r .reader)) ⌝ }
+    ensures { λ r. ⌜ ((ix : List ℤ) (vs : List ℕ) → IsMergedTable ix (map pos vs) (now (table .entry))
+        → RunsInBounds (vlcFrom ix vs 0 pair) (now (s .entry)) reader (r .value) (r .reader)) ⌝ }
 {
     let leaf = walk_from(s, reader, table, pair);
     let after = leaf.reader;

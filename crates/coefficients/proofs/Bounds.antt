@@ -12,7 +12,7 @@ use lib.ListN.{length, getD, set, replicate, getD-replicate}
 use lib.Seq.{set-out, getD-set-same, getD-set-other}
 use Rattle.laws.proofs.Nums.{mul-abs}
 use Rattle.codes.specs.Matrices.{premultiplierMatrix, Bounded}
-use Rattle.coefficients.specs.Dcs.{dcInside}
+use Rattle.coefficients.specs.Dcs.{dcInRange}
 use Rattle.coefficients.proofs.Sizes.{inside-small}
 
 -- a store that keeps to the bound at its place
@@ -29,7 +29,7 @@ module _ {xs : List ℤ} (p : ℕ) (v : ℤ) (h : natAbs v ≤ 2048 * natAbs (ge
   bounded-set = record { each = at-position }
 
 -- the coefficient of a DC value
-pub bounded-dc : {xs : List ℤ} (x : ℤ) → dcInside x ≡ true → Bounded xs → Bounded (set xs 0 (x *ℤ pos 256))
+pub bounded-dc : {xs : List ℤ} (x : ℤ) → dcInRange x ≡ true → Bounded xs → Bounded (set xs 0 (x *ℤ pos 256))
 unfolding premultiplierMatrix
 bounded-dc x e b = bounded-set 0 (x *ℤ pos 256) (omega (arith, mul-abs x (pos 256), inside-small x e)) b
 

@@ -13,12 +13,12 @@ use Rattle.codes.specs.Codes.{dctSizeLuminance, dctCoeff}
 use Rattle.codes.specs.Tables.{dctSizeLuminanceIndex, dctSizeLuminanceValue, dctCoeffIndex, dctCoeffValue}
 use Rattle.codes.specs.Matrices.{zigZag, diagonals, downFrom, premultiplierMatrix}
 use Rattle.codes.specs.Walk.{vlc, walk, walkStep}
-use Rattle.coefficients.specs.declared.block.BlockEnd.the-variants.{Whole, Dropped}
+use Rattle.coefficients.specs.declared.block.BlockEnd.the-variants.{Complete, Dropped}
 use Rattle.coefficients.specs.Coefficients.{coefficient, runLevel, escape, escapeLevel}
 use Rattle.coefficients.specs.Dcs.{added, dcDifference, dcSize}
 use Rattle.coefficients.specs.Dequantise.{quantiser, dequantised}
 use Rattle.coefficients.specs.Syntax.{pairStep, pairs, intraCoded, codedBlock}
-use Rattle.coefficients.specs.Blocks.{filled, allPlaced, reconstructed, block}
+use Rattle.coefficients.specs.Blocks.{blockCoefficients, withPairs, reconstructed, block}
 
 pub w8 : pos 128 +ℤ added 3 0b101 ≡ pos 133
 unfolding added
@@ -56,18 +56,26 @@ below-clip = refl
 
 -- an intra block: size 0 (100), so the predictor 128; run 0 and level 1 (11, sign 0) at place 1; the end (10)
 pub whole : run (block (quantiser true 1) (replicate 64 19) true (pos 128) (replicate 64 (pos 0))) (0b10011010 ∷ []) 0
-    ≡ record { value = record { filled = filled (set (set (replicate 64 (pos 0)) 0 (pos 32768)) 1 (pos 44)) 2; predictor = pos 128; end = Whole }; at = 8 }
+    ≡ record {
+      value = record
+          { blockCoefficients = blockCoefficients (set (set (replicate 64 (pos 0)) 0 (pos 32768)) 1 (pos 44)) 2; predictor = pos 128; end = Complete };
+      at = 8;
+    }
 unfolding run bind loop readAt afterRead bitsAt bitAt block codedBlock intraCoded dcDifference dcSize dctSizeLuminance dctSizeLuminanceIndex
     dctSizeLuminanceValue vlc walk walkStep pairs pairStep coefficient dctCoeff dctCoeffIndex dctCoeffValue runLevel
-    reconstructed allPlaced dequantised odd zigZag diagonals downFrom premultiplierMatrix
+    reconstructed withPairs dequantised odd zigZag diagonals downFrom premultiplierMatrix
 whole = refl
 
 -- RULES 3.7, 3.9: size 0 (100); an escape (000001) with run 63 (111111) and level 1 (00000001) leads from place 1 to place 64, and what stood before
 -- and the DC value remain
 pub dropped : run (block (quantiser true 1) (replicate 64 19) true (pos 128) (set (replicate 64 (pos 0)) 9 (pos 77)))
     (0b10000000 ∷ 0b11111110 ∷ 0b00000010 ∷ []) 0
-    ≡ record { value = record { filled = filled (set (set (replicate 64 (pos 0)) 9 (pos 77)) 0 (pos 32768)) 1; predictor = pos 128; end = Dropped }; at = 23 }
+    ≡ record {
+      value = record
+          { blockCoefficients = blockCoefficients (set (set (replicate 64 (pos 0)) 9 (pos 77)) 0 (pos 32768)) 1; predictor = pos 128; end = Dropped };
+      at = 23;
+    }
 unfolding run bind loop readAt afterRead bitsAt bitAt block codedBlock intraCoded dcDifference dcSize dctSizeLuminance dctSizeLuminanceIndex
     dctSizeLuminanceValue vlc walk walkStep pairs pairStep coefficient dctCoeff dctCoeffIndex dctCoeffValue runLevel escape escapeLevel
-    reconstructed allPlaced
+    reconstructed withPairs
 dropped = refl

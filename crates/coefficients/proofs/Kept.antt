@@ -14,12 +14,12 @@ use Rattle.laws.proofs.Tests.{by-case}
 use Rattle.bits.proofs.Gives.{Gives, g-done, g-any, g-bind}
 use Rattle.codes.specs.Matrices.{zigZag, premultiplierMatrix, Bounded}
 use Rattle.coefficients.specs.declared.block.BlockEnd.{BlockEnd}
-use Rattle.coefficients.specs.declared.block.BlockEnd.the-variants.{Whole, Dropped, Outside}
+use Rattle.coefficients.specs.declared.block.BlockEnd.the-variants.{Complete, Dropped, DcOutOfRange}
 use Rattle.coefficients.specs.declared.quantiser.Quantiser.{Quantiser}
-use Rattle.coefficients.specs.Dcs.{dcInside}
+use Rattle.coefficients.specs.Dcs.{dcInRange}
 use Rattle.coefficients.specs.Dequantise.{doubled, madeOdd, clipped, dequantised}
 use Rattle.coefficients.specs.Syntax.{Pair, CodedBlock, codedBlock}
-use Rattle.coefficients.specs.Blocks.{Filled, filled, placed, allPlaced, BlockRead, withDc, reconstructed, block, blockDataAfter}
+use Rattle.coefficients.specs.Blocks.{BlockCoefficients, blockCoefficients, withPair, withPairs, BlockRead, withDc, reconstructed, block, blockDataAfter}
 use Rattle.coefficients.proofs.Bounds.{bounded-set, bounded-dc, bounded-zero}
 
 clipped-small : (x : ℤ) → natAbs (clipped x) ≤ 2048
@@ -39,30 +39,30 @@ product-small q level entry place =
     let factor = getD premultiplierMatrix place (pos 0) in
     omega (arith, mul-abs (dequantised q level entry) factor, mul-le-mul-right (natAbs factor) (dequantised-small q level entry))
 
-placed-bounded : (q : Quantiser) (m : List ℕ) (f : Filled) (p : Pair) → Bounded (f .coefficients) → Bounded (placed q m f p .coefficients)
+placed-bounded : (q : Quantiser) (m : List ℕ) (f : BlockCoefficients) (p : Pair) → Bounded (f .coefficients) → Bounded (withPair q m f p .coefficients)
 placed-bounded q m f p b =
     let place = getD zigZag (f .n + p .run) 0 in
     bounded-set place _ (product-small q (p .level) (getD m place 0) place) b
 
-all-bounded : (q : Quantiser) (m : List ℕ) (f : Filled) (ps : List Pair) → Bounded (f .coefficients) → Bounded (allPlaced q m f ps .coefficients)
-unfolding allPlaced
+all-bounded : (q : Quantiser) (m : List ℕ) (f : BlockCoefficients) (ps : List Pair) → Bounded (f .coefficients) → Bounded (withPairs q m f ps .coefficients)
+unfolding withPairs
 all-bounded q m f [] b = b
-all-bounded q m f (p ∷ ps) b = all-bounded q m (placed q m f p) ps (placed-bounded q m f p b)
+all-bounded q m f (p ∷ ps) b = all-bounded q m (withPair q m f p) ps (placed-bounded q m f p b)
 
 -- the predictor inside, and the coefficients bounded
 pub record Kept (r : BlockRead) : Type 0 where
-  pub predictor : dcInside (r .predictor) ≡ true
-  pub bounded : Bounded (r .filled .coefficients)
+  pub predictor : dcInRange (r .predictor) ≡ true
+  pub bounded : Bounded (r .blockCoefficients .coefficients)
 
-module _ (q : Quantiser) (m : List ℕ) (predictor : ℤ) (left : List ℤ) (p : dcInside predictor ≡ true) (b : Bounded left) where
+module _ (q : Quantiser) (m : List ℕ) (predictor : ℤ) (left : List ℤ) (p : dcInRange predictor ≡ true) (b : Bounded left) where
   pub reconstructed-kept : (c : CodedBlock) → Kept (reconstructed q m predictor left c)
   unfolding reconstructed
-  reconstructed-kept c = go (q .intra) (dcInside (predictor +ℤ c .difference)) refl
+  reconstructed-kept c = go (q .intra) (dcInRange (predictor +ℤ c .difference)) refl
     where
-      go : (t i : Bool) → dcInside (predictor +ℤ c .difference) ≡ i
-          → Kept (cond (t && not i) (record { filled = filled left 0; predictor = predictor; end = c .end })
+      go : (t i : Bool) → dcInRange (predictor +ℤ c .difference) ≡ i
+          → Kept (cond (t && not i) (record { blockCoefficients = blockCoefficients left 0; predictor = predictor; end = c .end })
           (record {
-            filled = allPlaced q m (cond t (withDc (cond t (predictor +ℤ c .difference) predictor) left) (filled left 0)) (c .pairs);
+            blockCoefficients = withPairs q m (cond t (withDc (cond t (predictor +ℤ c .difference) predictor) left) (blockCoefficients left 0)) (c .pairs);
             predictor = cond t (predictor +ℤ c .difference) predictor;
             end = c .end;
           }))
@@ -74,11 +74,12 @@ module _ (q : Quantiser) (m : List ℕ) (predictor : ℤ) (left : List ℤ) (p :
   unfolding block
   block-gives luminance = g-bind _ (g-any (codedBlock (q .intra) luminance predictor)) (λ c u. g-done (reconstructed-kept c))
 
-pub left-bounded : (q : Quantiser) (r : BlockRead) → Bounded (r .filled .coefficients) → Bounded (blockDataAfter q r)
+pub left-bounded : (q : Quantiser) (r : BlockRead) → Bounded (r .blockCoefficients .coefficients) → Bounded (blockDataAfter q r)
 unfolding blockDataAfter
 left-bounded q r b = go (r .end)
   where
-    go : (e : BlockEnd) → Bounded (elim e [ Whole ↦ replicate 64 (pos 0) | Dropped ↦ r .filled .coefficients | Outside ↦ r .filled .coefficients ])
-    go Whole = bounded-zero
+    go : (e : BlockEnd) → Bounded
+        (elim e [ Complete ↦ replicate 64 (pos 0) | Dropped ↦ r .blockCoefficients .coefficients | DcOutOfRange ↦ r .blockCoefficients .coefficients ])
+    go Complete = bounded-zero
     go Dropped = b
-    go Outside = b
+    go DcOutOfRange = b

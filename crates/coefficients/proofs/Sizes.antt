@@ -17,7 +17,7 @@ use Rattle.codes.proofs.Values.{coefficient-most, size-luminance-most, size-chr
 use Rattle.coefficients.specs.declared.coefficient.Coefficient.{Coefficient}
 use Rattle.coefficients.specs.declared.coefficient.Coefficient.the-variants.{EndOfBlock, RunLevel}
 use Rattle.coefficients.specs.Coefficients.{escapeLevel, escape, runLevel, coefficient}
-use Rattle.coefficients.specs.Dcs.{added, byTopBit, dcInside, dcSize, dcDifference}
+use Rattle.coefficients.specs.Dcs.{added, byTopBit, dcInRange, dcSize, dcDifference}
 use Rattle.coefficients.proofs.DcTable.{added-is}
 
 -- a run and a level that can be read
@@ -80,7 +80,7 @@ module _ {s : List ℕ} where
       (λ e. g-bind _ (g-bits n) (λ d l. g-done (added-small n d (not-zero n e) h l))))
 
 -- a DC value that question 8 admits
-pub inside-small : (x : ℤ) → dcInside x ≡ true → natAbs x ≤ 256
+pub inside-small : (x : ℤ) → dcInRange x ≡ true → natAbs x ≤ 256
 inside-small x e =
     let b = both (leZ (negℤ (pos 256)) x) (leZ x (pos 255)) e in
     let l = le-yes (neg (lit 256)) (v x) (b .0) in

@@ -26,7 +26,7 @@ use Rattle.bits.specs.Runs.{RunsAt}
 use Rattle.bits.proofs.Bits.{bits-append, bits-lt}
 use Rattle.bits.proofs.Programs.{served-has, served-next}
 use Rattle.bits.proofs.Rules.{at-bits, at-call, at-yes, at-no, at-done}
-use Rattle.codes.specs.{Matrices.nonIntraQuantMatrix, Standard.code, Standard.Stands}
+use Rattle.codes.specs.{Matrices.nonIntraQuantMatrix, Standard.code, Standard.CodeWordAt}
 use Rattle.coefficients.specs.Coefficients.{escapeLevel}
 use Rattle.coefficients.specs.Dcs.{added, byTopBit}
 use Rattle.coefficients.proofs.DcTable.{added-is}
@@ -107,13 +107,13 @@ unfolding levelCode
 rows = (refl, refl, refl, refl, refl, refl, refl, refl)
 
 -- each code of the table is read as its level, wherever it stands
-pub escape-as-printed : (level : ℤ) → 0 < natAbs level → natAbs level ≤ 255 → (s : List ℕ) (a : ℕ) → Stands (levelCode level) s a
+pub escape-as-printed : (level : ℤ) → 0 < natAbs level → natAbs level ≤ 255 → (s : List ℕ) (a : ℕ) → CodeWordAt (levelCode level) s a
     → a + levelCode level .bits ≤ length s * 8
     → RunsAt escapeLevel s a level (a + levelCode level .bits)
 unfolding levelCode escapeLevel
 escape-as-printed (pos n) l m s a = go (ltb n 128) refl
   where
-    go : (t : Bool) → ltb n 128 ≡ t → Stands (cond t (code 8 n (pos n)) (code 16 n (pos n))) s a
+    go : (t : Bool) → ltb n 128 ≡ t → CodeWordAt (cond t (code 8 n (pos n)) (code 16 n (pos n))) s a
         → a + cond t (code 8 n (pos n)) (code 16 n (pos n)) .bits ≤ length s * 8
         → RunsAt escapeLevel s a (pos n) (a + cond t (code 8 n (pos n)) (code 16 n (pos n)) .bits)
     go true e w h =
@@ -128,7 +128,7 @@ escape-as-printed (negsuc n) l m s a = go (ltb n 127) refl
     less : pos (255 - n) -ℤ pos 256 ≡ negsuc n
     less = eq-by (lit (255 - n) ⊖ lit 256) (v (negsuc n)) (omega arith)
 
-    go : (t : Bool) → ltb n 127 ≡ t → Stands (cond t (code 8 (255 - n) (negsuc n)) (code 16 (32768 + (255 - n)) (negsuc n))) s a
+    go : (t : Bool) → ltb n 127 ≡ t → CodeWordAt (cond t (code 8 (255 - n) (negsuc n)) (code 16 (32768 + (255 - n)) (negsuc n))) s a
         → a + cond t (code 8 (255 - n) (negsuc n)) (code 16 (32768 + (255 - n)) (negsuc n)) .bits ≤ length s * 8
         → RunsAt escapeLevel s a (negsuc n) (a + cond t (code 8 (255 - n) (negsuc n)) (code 16 (32768 + (255 - n)) (negsuc n)) .bits)
     go true e w h =

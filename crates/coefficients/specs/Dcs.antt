@@ -29,5 +29,5 @@ dcDifference luminance = do
     done (added s d)
 
 -- RULES Q8
-abbrev pub dcInside : ℤ → Bool
-dcInside x = leZ (negℤ (pos 256)) x && leZ x (pos 255)
+abbrev pub dcInRange : ℤ → Bool
+dcInRange x = leZ (negℤ (pos 256)) x && leZ x (pos 255)

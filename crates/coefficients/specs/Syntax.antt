@@ -9,9 +9,9 @@ use Rattle.bits.specs.Programs.{Prog, done, loop, _>>=_, _>>_, if_then_else_}
 use Rattle.coefficients.specs.declared.coefficient.Coefficient.{Coefficient}
 use Rattle.coefficients.specs.declared.coefficient.Coefficient.the-variants.{EndOfBlock, RunLevel}
 use Rattle.coefficients.specs.declared.block.BlockEnd.{BlockEnd}
-use Rattle.coefficients.specs.declared.block.BlockEnd.the-variants.{Whole, Dropped, Outside}
+use Rattle.coefficients.specs.declared.block.BlockEnd.the-variants.{Complete, Dropped, DcOutOfRange}
 use Rattle.coefficients.specs.Coefficients.{coefficient}
-use Rattle.coefficients.specs.Dcs.{dcDifference, dcInside}
+use Rattle.coefficients.specs.Dcs.{dcDifference, dcInRange}
 
 -- RULES 3.5: a run and the level behind it
 pub record Pair : Type 0 where
@@ -36,7 +36,7 @@ pairsEnd pairs end = record { pairs = pairs; end = end }
 
 -- RULES 3.5, 3.7: a coefficient ends the block, drops it where its run leads past the last place, or takes one place more
 abbrev pub afterCoefficient : PairsRead → Coefficient → Step PairsRead PairsEnd
-afterCoefficient x EndOfBlock = finish (pairsEnd (x .pairs) Whole)
+afterCoefficient x EndOfBlock = finish (pairsEnd (x .pairs) Complete)
 afterCoefficient x (RunLevel run level) =
     cond (ltb (x .n + run) 64) (continue (pairsRead (x .pairs ++ (record { run = run; level = level } ∷ [])) (x .n + run + 1)))
     (finish (pairsEnd (x .pairs) Dropped))
@@ -64,15 +64,15 @@ coded difference p = record { difference = difference; pairs = p .pairs; end = p
 unfoldable pub intraCoded : Bool → ℤ → Prog CodedBlock
 intraCoded luminance predictor = do
   difference ← dcDifference luminance
-  if dcInside (predictor +ℤ difference) then (do p ← pairs 1; done (coded difference p))
-      else done (coded difference (pairsEnd [] Outside))
+  if dcInRange (predictor +ℤ difference) then (do p ← pairs 1; done (coded difference p))
+      else done (coded difference (pairsEnd [] DcOutOfRange))
 
 -- RULES 3.4
-unfoldable pub otherCoded : Prog CodedBlock
-otherCoded = do
+unfoldable pub nonIntraCoded : Prog CodedBlock
+nonIntraCoded = do
   p ← pairs 0
   done (coded (pos 0) p)
 
 -- a block, intra or not
 unfoldable pub codedBlock : Bool → Bool → ℤ → Prog CodedBlock
-codedBlock intra luminance predictor = if intra then intraCoded luminance predictor else otherCoded
+codedBlock intra luminance predictor = if intra then intraCoded luminance predictor else nonIntraCoded

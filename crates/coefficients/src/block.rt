@@ -1,32 +1,32 @@
 // The coefficients of a block.
 use crate::coefficient::Coefficient;
 use crate::coefficient::read_coefficient;
-use crate::dc::dc_inside;
+use crate::dc::dc_in_range;
 use crate::dc::read_dc_difference;
 use crate::dequantise::dequantise;
 use crate::quantiser::Quantiser;
 use bits::reader::Reader;
 use codes::lent::Tables;
 use codes::lent::entry;
-use codes::lent::position_of;
 use codes::lent::premultiplier;
+use codes::lent::zig_zag_position;
 ghost use mathlib.Core.Path.{_≡_};
 ghost use mathlib.Core.Bool.{true};
 ghost use Prim.Native.Nat.{_≤_, _<_, _*_};
 ghost use lib.IntN.{pos, natAbs, _*ℤ_};
 ghost use lib.ListN.{getD};
-ghost use Rattle.bits.specs.Runs.{Inside, Reading};
-ghost use Rattle.codes.specs.Lent.{Lent, matrixOf};
+ghost use Rattle.bits.specs.Runs.{ReaderInBounds, RunsInBounds};
+ghost use Rattle.codes.specs.DecodingTables.{DecodingTables, matrixOf};
 ghost use Rattle.codes.specs.Matrices.{premultiplierMatrix};
-ghost use Rattle.coefficients.specs.Dcs.{dcInside};
+ghost use Rattle.coefficients.specs.Dcs.{dcInRange};
 ghost use Rattle.coefficients.specs.Dequantise.{dequantised};
-ghost use Rattle.coefficients.specs.Blocks.{filled, fill, coefficients, block, blockReadOf, blockDataAfter};
+ghost use Rattle.coefficients.specs.Blocks.{blockCoefficients, blockCoefficientsEnd, coefficients, block, blockReadOf, blockDataAfter};
 
 // How a block ended: read to its end; dropped, its run having led past the last place; or its DC value outside -256..255 (number 8).
 pub enum BlockEnd {
-    Whole,
+    Complete,
     Dropped,
-    Outside,
+    DcOutOfRange,
 }
 
 // n: the places used; predictor: that of the block's plane from now on.
@@ -46,7 +46,7 @@ struct CoefficientsEnd {
 
 // RULES 3.8 with its last step: the coefficient at a place.
 fn premultiplied(tables: &Tables, q: Quantiser, level: i32, position: usize) -> i32
-    requires { ⌜ Lent (now tables) ⌝ }
+    requires { ⌜ DecodingTables (now tables) ⌝ }
     requires { ⌜ (natAbs level ≤ 256) × (q .scale ≤ 31) × (position < 64) ⌝ }
     ensures { λ r. ⌜
         r ≡ dequantised q level (getD (matrixOf (now (tables .entry)) (q .intra)) position 0) *ℤ getD premultiplierMatrix position (pos 0)
@@ -66,12 +66,12 @@ fn read_coefficients(
     q: Quantiser,
     first: usize,
 ) -> CoefficientsEnd
-    requires { ⌜ Inside (now s) reader ⌝ }
-    requires { ⌜ Lent (now tables) ⌝ }
+    requires { ⌜ ReaderInBounds (now s) reader ⌝ }
+    requires { ⌜ DecodingTables (now tables) ⌝ }
     requires { ⌜ (first ≤ 64) × (q .scale ≤ 31) ⌝ }
     ensures { λ r. ⌜
-        Reading (coefficients q (matrixOf (now (tables .entry)) (q .intra)) (filled (now (values .entry)) first))
-        (now (s .entry)) reader (fill (filled (now (values .exit)) (r .n)) (r .end)) (r .reader)
+        RunsInBounds (coefficients q (matrixOf (now (tables .entry)) (q .intra)) (blockCoefficients (now (values .entry)) first))
+        (now (s .entry)) reader (blockCoefficientsEnd (blockCoefficients (now (values .exit)) (r .n)) (r .end)) (r .reader)
         ⌝ }
 {
     let mut from = reader;
@@ -84,7 +84,7 @@ fn read_coefficients(
             return CoefficientsEnd {
                 reader: from,
                 n,
-                end: BlockEnd::Whole,
+                end: BlockEnd::Complete,
             };
         };
         let at = n + run;
@@ -95,7 +95,7 @@ fn read_coefficients(
                 end: BlockEnd::Dropped,
             };
         }
-        let position = position_of(tables, at);
+        let position = zig_zag_position(tables, at);
         let v = premultiplied(tables, q, level, position);
         values[position] = v;
         n = at + 1;
@@ -112,23 +112,23 @@ fn read_intra_block(
     luminance: bool,
     predictor: i32,
 ) -> Block
-    requires { ⌜ Inside (now s) reader ⌝ }
-    requires { ⌜ Lent (now tables) ⌝ }
-    requires { ⌜ (q .intra ≡ true) × (q .scale ≤ 31) × (dcInside predictor ≡ true) ⌝ }
+    requires { ⌜ ReaderInBounds (now s) reader ⌝ }
+    requires { ⌜ DecodingTables (now tables) ⌝ }
+    requires { ⌜ (q .intra ≡ true) × (q .scale ≤ 31) × (dcInRange predictor ≡ true) ⌝ }
     ensures { λ r. ⌜
-        Reading (block q (matrixOf (now (tables .entry)) (q .intra)) luminance predictor (now (values .entry)))
+        RunsInBounds (block q (matrixOf (now (tables .entry)) (q .intra)) luminance predictor (now (values .entry)))
         (now (s .entry)) reader (blockReadOf (now (values .exit)) r) (r .reader)
         ⌝ }
 {
     let difference = read_dc_difference(s, reader, tables, luminance);
     let after = difference.reader;
     let dc = predictor + difference.value;
-    if !dc_inside(dc) {
+    if !dc_in_range(dc) {
         return Block {
             reader: after,
             n: 0,
             predictor,
-            end: BlockEnd::Outside,
+            end: BlockEnd::DcOutOfRange,
         };
     }
     values[0] = dc * 256;
@@ -153,11 +153,11 @@ pub fn read_block(
     luminance: bool,
     predictor: i32,
 ) -> Block
-    requires { ⌜ Inside (now s) reader ⌝ }
-    requires { ⌜ Lent (now tables) ⌝ }
-    requires { ⌜ (q .scale ≤ 31) × (dcInside predictor ≡ true) ⌝ }
+    requires { ⌜ ReaderInBounds (now s) reader ⌝ }
+    requires { ⌜ DecodingTables (now tables) ⌝ }
+    requires { ⌜ (q .scale ≤ 31) × (dcInRange predictor ≡ true) ⌝ }
     ensures { λ r. ⌜
-        Reading (block q (matrixOf (now (tables .entry)) (q .intra)) luminance predictor (now (values .entry)))
+        RunsInBounds (block q (matrixOf (now (tables .entry)) (q .intra)) luminance predictor (now (values .entry)))
         (now (s .entry)) reader (blockReadOf (now (values .exit)) r) (r .reader)
         ⌝ }
 {
@@ -181,7 +181,7 @@ pub fn block_data_after(values: &mut [i32; 64], q: Quantiser, block: Block)
     ensures { λ r. ⌜ now (values .exit) ≡ blockDataAfter q (blockReadOf (now (values .entry)) block) ⌝ }
 {
     let end = block.end;
-    if let BlockEnd::Whole = end {
+    if let BlockEnd::Complete = end {
         *values = [0; 64];
     }
 }

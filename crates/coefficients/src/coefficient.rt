@@ -2,8 +2,8 @@
 use bits::reader::Reader;
 use codes::codes::read_dct_coeff;
 use codes::lent::Tables;
-ghost use Rattle.bits.specs.Runs.{Inside, Reading};
-ghost use Rattle.codes.specs.Lent.{Lent};
+ghost use Rattle.bits.specs.Runs.{ReaderInBounds, RunsInBounds};
+ghost use Rattle.codes.specs.DecodingTables.{DecodingTables};
 ghost use Rattle.coefficients.specs.Coefficients.{escapeLevel, escape, runLevel, coefficient};
 
 // RULES 3.5
@@ -24,8 +24,8 @@ struct LevelRead {
 
 // The level behind an escape, in 8 bits or in 16.
 fn read_escape_level(s: &[u8], reader: Reader) -> LevelRead
-    requires { ⌜ Inside (now s) reader ⌝ }
-    ensures { λ r. ⌜ Reading escapeLevel (now (s .entry)) reader (r .level) (r .reader) ⌝ }
+    requires { ⌜ ReaderInBounds (now s) reader ⌝ }
+    ensures { λ r. ⌜ RunsInBounds escapeLevel (now (s .entry)) reader (r .level) (r .reader) ⌝ }
 {
     let first = reader.read(s, 8);
     let after = first.reader;
@@ -57,8 +57,8 @@ fn read_escape_level(s: &[u8], reader: Reader) -> LevelRead
 }
 
 fn read_escape(s: &[u8], reader: Reader) -> CoefficientRead
-    requires { ⌜ Inside (now s) reader ⌝ }
-    ensures { λ r. ⌜ Reading escape (now (s .entry)) reader (r .coefficient) (r .reader) ⌝ }
+    requires { ⌜ ReaderInBounds (now s) reader ⌝ }
+    ensures { λ r. ⌜ RunsInBounds escape (now (s .entry)) reader (r .coefficient) (r .reader) ⌝ }
 {
     let first = reader.read(s, 6);
     let run = first.value as usize;
@@ -73,8 +73,8 @@ fn read_escape(s: &[u8], reader: Reader) -> CoefficientRead
 
 // The pair of a code, 256 × run + level, and its sign bit; or of an escape.
 fn read_run_level(s: &[u8], reader: Reader, code: u32) -> CoefficientRead
-    requires { ⌜ Inside (now s) reader ⌝ }
-    ensures { λ r. ⌜ Reading (runLevel code) (now (s .entry)) reader (r .coefficient) (r .reader) ⌝ }
+    requires { ⌜ ReaderInBounds (now s) reader ⌝ }
+    ensures { λ r. ⌜ RunsInBounds (runLevel code) (now (s .entry)) reader (r .coefficient) (r .reader) ⌝ }
 {
     if code == 0xffff {
         return read_escape(s, reader);
@@ -98,9 +98,9 @@ fn read_run_level(s: &[u8], reader: Reader, code: u32) -> CoefficientRead
 
 // A coefficient, or the end of a block that has n places used.
 pub fn read_coefficient(s: &[u8], reader: Reader, tables: &Tables, n: usize) -> CoefficientRead
-    requires { ⌜ Inside (now s) reader ⌝ }
-    requires { ⌜ Lent (now tables) ⌝ }
-    ensures { λ r. ⌜ Reading (coefficient n) (now (s .entry)) reader (r .coefficient) (r .reader) ⌝ }
+    requires { ⌜ ReaderInBounds (now s) reader ⌝ }
+    requires { ⌜ DecodingTables (now tables) ⌝ }
+    ensures { λ r. ⌜ RunsInBounds (coefficient n) (now (s .entry)) reader (r .coefficient) (r .reader) ⌝ }
 {
     let code = read_dct_coeff(s, reader, tables);
     let after = code.reader;

@@ -7,9 +7,9 @@ use codes::walk::VlcUint;
 ghost use mathlib.Core.Path.{_≡_};
 ghost use Prim.Native.Nat.{_≤_, _<_, _^_};
 ghost use lib.IntN.{natAbs};
-ghost use Rattle.bits.specs.Runs.{Inside, Reading};
-ghost use Rattle.codes.specs.Lent.{Lent};
-ghost use Rattle.coefficients.specs.Dcs.{added, dcDifference, dcInside, dcSize};
+ghost use Rattle.bits.specs.Runs.{ReaderInBounds, RunsInBounds};
+ghost use Rattle.codes.specs.DecodingTables.{DecodingTables};
+ghost use Rattle.coefficients.specs.Dcs.{added, dcDifference, dcInRange, dcSize};
 
 pub struct DcDifference {
     pub reader: Reader,
@@ -18,9 +18,9 @@ pub struct DcDifference {
 
 // How many bits the differential has.
 fn read_dc_size(s: &[u8], reader: Reader, tables: &Tables, luminance: bool) -> VlcUint
-    requires { ⌜ Inside (now s) reader ⌝ }
-    requires { ⌜ Lent (now tables) ⌝ }
-    ensures { λ r. ⌜ Reading (dcSize luminance) (now (s .entry)) reader (r .value) (r .reader) ⌝ }
+    requires { ⌜ ReaderInBounds (now s) reader ⌝ }
+    requires { ⌜ DecodingTables (now tables) ⌝ }
+    ensures { λ r. ⌜ RunsInBounds (dcSize luminance) (now (s .entry)) reader (r .value) (r .reader) ⌝ }
 {
     if luminance {
         return read_dct_size_luminance(s, reader, tables);
@@ -46,9 +46,9 @@ pub fn read_dc_difference(
     tables: &Tables,
     luminance: bool,
 ) -> DcDifference
-    requires { ⌜ Inside (now s) reader ⌝ }
-    requires { ⌜ Lent (now tables) ⌝ }
-    ensures { λ r. ⌜ Reading (dcDifference luminance) (now (s .entry)) reader (r .value) (r .reader) ⌝ }
+    requires { ⌜ ReaderInBounds (now s) reader ⌝ }
+    requires { ⌜ DecodingTables (now tables) ⌝ }
+    ensures { λ r. ⌜ RunsInBounds (dcDifference luminance) (now (s .entry)) reader (r .value) (r .reader) ⌝ }
 {
     let code = read_dc_size(s, reader, tables, luminance);
     let after = code.reader;
@@ -66,8 +66,8 @@ pub fn read_dc_difference(
 }
 
 // Question 8.
-pub fn dc_inside(value: i32) -> bool
-    ensures { λ r. ⌜ r ≡ dcInside value ⌝ }
+pub fn dc_in_range(value: i32) -> bool
+    ensures { λ r. ⌜ r ≡ dcInRange value ⌝ }
 {
     -256 <= value && value <= 255
 }

@@ -15,7 +15,7 @@ ghost use mathlib.Core.Path.{_≡_};
 ghost use lib.Ieee.{binary64, ofBits};
 ghost use lib.ListN.{replicate};
 ghost use Rattle.memory.specs.Memory.{memory};
-ghost use Rattle.mpeg1.specs.Calls.{hostResult, opensIn, pictureCount, decodesIn};
+ghost use Rattle.mpeg1.specs.Calls.{hostResult, hostOpen, pictureCount, hostDecode};
 
 fn show_sum(sum: u64) {
     io::write_all(STDOUT_FILENO, b" ");
@@ -56,7 +56,7 @@ pub fn open(
     clock: &mut [f64],
 ) -> u32
     ensures { λ r. ⌜ hostResult r (now (store .exit)) (memory (now (numbers .exit)) (now (integers .exit)) (now (matrices .exit)) (now (clock .exit)))
-        ≡ opensIn (now (stream .entry)) (now (store .entry))
+        ≡ hostOpen (now (stream .entry)) (now (store .entry))
         (memory (now (numbers .entry)) (now (integers .entry)) (now (matrices .entry)) (now (clock .entry))) ⌝ }
 {
     let answer = mpeg1_open(stream, store, numbers, integers, matrices, clock);
@@ -118,7 +118,7 @@ pub fn decode(
     clock: &mut [f64],
 ) -> u32
     ensures { λ r. ⌜ hostResult r (now (store .exit)) (memory (now (numbers .exit)) (now (integers .exit)) (now (matrices .exit)) (now (clock .exit)))
-        ≡ decodesIn (now (stream .entry)) (now (store .entry))
+        ≡ hostDecode (now (stream .entry)) (now (store .entry))
         (memory (now (numbers .entry)) (now (integers .entry)) (now (matrices .entry)) (now (clock .entry))) (replicate pictureCount 0) (ofBits binary64 0)
         .kept ⌝ }
 {

@@ -1,6 +1,6 @@
 // Checksums.
 use crate::floats::bits;
-use answer_lists::numbers::held;
+use answer_lists::numbers::twos_complement;
 ghost use mathlib.Core.Path.{_≡_};
 ghost use Prim.Native.Nat.{_<_};
 ghost use Rattle.conformance.specs.Sums.{mixed, summed, words, halves, signedWord, floatWords, recordSum};
@@ -70,7 +70,7 @@ fn sum_integers(before: u64, integers: &[i32]) -> u64
     let mut i: usize = 0;
     while i < integers.len() {
         let z = integers[i];
-        sum = mixed(sum, held(z));
+        sum = mixed(sum, twos_complement(z));
         i += 1;
     }
     sum

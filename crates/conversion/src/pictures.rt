@@ -1,5 +1,5 @@
 // RULES part 9: the picture in a store, and the area that it is converted into.
-use argb::scaled::Display;
+use argb::scaled::DisplaySize;
 use argb::scaled::write_rgb_scaled;
 use header::state::Sequence;
 use prediction::planes::Plane;
@@ -54,7 +54,7 @@ pub fn write_picture(q: Sequence, store: &[u8], index: usize, area: &mut [u32], 
     let width = q.width;
     let height = q.height;
     let luma_width = q.sizes.mb_width * 16;
-    let size = Display {
+    let size = DisplaySize {
         width,
         height,
         luma_width,

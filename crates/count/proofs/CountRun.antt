@@ -8,7 +8,7 @@ use native.Mathlib.Nat.{eq-or-lt-of-le}
 use native.Mathlib.Omega.{arith}
 use lib.ListN.{length, getD}
 use Rattle.bits.specs.Bounds.{longestStream}
-use Rattle.bits.specs.Programs.{many}
+use Rattle.bits.specs.Programs.{streamFuel}
 use Rattle.decoder.specs.declared.record.Decoder.{Decoder}
 use Rattle.decoder.specs.declared.answers.{Opening.Opening, Opened.Opened}
 use Rattle.decoder.specs.declared.answers.Opening.the-variants as O
@@ -21,7 +21,7 @@ use Rattle.decoder.specs.Opening.{opening}
 use Rattle.playback.specs.Steps.{LoopEnd, finished, aborted}
 use Rattle.decoder.specs.Decode.{callResultOf}
 use Rattle.decoder.specs.Calls.{Opens}
-use Rattle.decoder.specs.Run.{CallState, callState, call, stateAfterOpening, before, answer, pictureIn, picturesOutput}
+use Rattle.decoder.specs.Run.{CallState, callState, call, stateAfterOpening, stateBeforeCall, answer, picturesOfOutcome, picturesOutput}
 use Rattle.demands.specs.ErrorCodes.{member}
 use Rattle.demands.proofs.After.{opening-ready}
 use Rattle.demands.proofs.Keeps.{Keeps}
@@ -34,10 +34,10 @@ use Rattle.count.proofs.Counting.{ready-short}
 
 -- the calls 0 .. n - 1 handed out a picture each
 record Handed (s : List ℕ) (x : CallState) (n : ℕ) : Type 0 where
-  pictures : (k : ℕ) → k < n → pictureIn (answer s x k) ≡ 1
+  pictures : (k : ℕ) → k < n → picturesOfOutcome (answer s x k) ≡ 1
   output : picturesOutput s x n ≡ n
 
-module _ (s : List ℕ) (x : CallState) (n : ℕ) (h : Handed s x n) (one : pictureIn (answer s x n) ≡ 1) where
+module _ (s : List ℕ) (x : CallState) (n : ℕ) (h : Handed s x n) (one : picturesOfOutcome (answer s x n) ≡ 1) where
   one-more : Handed s x (suc n)
   unfolding picturesOutput
   one-more = record {
@@ -80,23 +80,24 @@ module _ (s : List ℕ) (short : length s ≤ longestStream) (bytes : (k : ℕ) 
 module _ (s : List ℕ) (short : length s ≤ longestStream) (bytes : (k : ℕ) → getD s k 0 < 256) (x : CallState) (begins : Between s x 0)
     (header : x .decoder .sequence .«has_sequence_header» ≡ true) where
   -- RULES R.1: the fuel is more than the pictures that are left
-  from-run : (j n : ℕ) → Handed s x n → 8 * length s / 29 + 1 < n + j → CountsRun s x (countFrom j s n (before s x n .decoder) (before s x n .store))
-  unfolding countFrom before answer
+  from-run : (j n : ℕ) → Handed s x n → 8 * length s / 29 + 1 < n + j
+      → CountsRun s x (countFrom j s n (stateBeforeCall s x n .decoder) (stateBeforeCall s x n .store))
+  unfolding countFrom stateBeforeCall answer
   from-run zero n h p =
       let f = few s short bytes (run-on s short bytes begins n) in let z = h .output in let no : ⊥ = omega arith in absurd no
   from-run (suc j) n h p = go (answer s x n) refl (λ r. from-run j (suc n) r (omega arith))
     where
       next : CallState
-      next = before s x (suc n)
+      next = stateBeforeCall s x (suc n)
 
-      first : n ≡ 0 → before s x n .decoder .sequence .«has_sequence_header» ≡ true
+      first : n ≡ 0 → stateBeforeCall s x n .decoder .sequence .«has_sequence_header» ≡ true
       first q = rw q header
 
       go : (o : Outcome) → answer s x n ≡ o → (Handed s x (suc n) → CountsRun s x (countFrom j s (suc n) (next .decoder) (next .store)))
           → CountsRun s x (elim (decodeAnswer o) [ result i ↦ countFrom j s (n + 1) (next .decoder) (next .store) | number a ↦ counts a n (next .store) ])
       go (H.Picture i) e r =
           subst (λ (k : ℕ). CountsRun s x (countFrom j s k (next .decoder) (next .store))) (omega arith)
-          (r (one-more s x n h (ap pictureIn e)))
+          (r (one-more s x n h (ap picturesOfOutcome e)))
       go (H.Refused a) e r = record {
         pictures = h .pictures;
         output = h .output;
@@ -118,12 +119,12 @@ ready-header s l e = ap (λ (d : Decoder). d .sequence .«has_sequence_header»)
 
 -- a run of calls is the run that the definitions give
 run-calls : {s : List ℕ} {x : CallState} {c : Counts} → CountsRun s x c → CountsCalls s x c
-unfolding before answer
+unfolding stateBeforeCall answer
 run-calls {s} {x} {c} k = record {
   pictures = λ rs y h e. calls-output h ∙ ap (picturesOutput s x) e ∙ k .output ∙ sym e;
   ends = λ rs y h e r m gave.
-      let at : y ≡ before s x (c .pictures) = calls-before h ∙ ap (before s x) e in
-      let is : callResult (r .outcome) (r .decoder) m ≡ call s (before s x (c .pictures)) = decodes-call s y r m gave ∙ ap (call s) at in
+      let at : y ≡ stateBeforeCall s x (c .pictures) = calls-before h ∙ ap (stateBeforeCall s x) e in
+      let is : callResult (r .outcome) (r .decoder) m ≡ call s (stateBeforeCall s x (c .pictures)) = decodes-call s y r m gave ∙ ap (call s) at in
       (ap (λ (q : CallResult Outcome). q .answer) is ∙ k .ends, ap (λ (q : CallResult Outcome). q .store) is ∙ k .stored);
   number = k .number;
 }
@@ -131,11 +132,11 @@ run-calls {s} {x} {c} k = record {
 module _ (s l : List ℕ) (bytes : (k : ℕ) → getD s k 0 < 256) (ready : opening s l .answer ≡ O.Ready) where
   -- RULES R: the count is that of the run
   pub count-runs : CountsRun s (stateAfterOpening s l) (countsIn s l)
-  unfolding countOf before picturesOutput
+  unfolding countOf stateBeforeCall picturesOutput
   count-runs =
       let h = ready-short s l ready in
       rw ready
-      (from-run s h bytes (stateAfterOpening s l) (opening-begins s h bytes l) (ready-header s l ready) many 0
+      (from-run s h bytes (stateAfterOpening s l) (opening-begins s h bytes l) (ready-header s l ready) streamFuel 0
       (record { pictures = λ k p. omega arith; output = refl }) (omega arith))
 
   -- RULES R.2: behind 7 no call hands out a picture

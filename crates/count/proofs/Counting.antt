@@ -7,7 +7,7 @@ use native.Mathlib.Omega.{arith}
 use lib.Dec.{leb}
 use lib.ListN.{length, getD}
 use Rattle.bits.specs.Bounds.{longestStream}
-use Rattle.bits.specs.Programs.{many}
+use Rattle.bits.specs.Programs.{streamFuel}
 use Rattle.decoder.specs.declared.record.Decoder.{Decoder}
 use Rattle.playback.specs.declared.outcome.{Shown.Shown, Outcome.Outcome}
 use Rattle.decoder.specs.declared.answers.Opening.{Opening}
@@ -17,7 +17,7 @@ use Rattle.decoder.specs.Record.{CallResult, callResult}
 use Rattle.decoder.specs.Answers.{result, number, decodeAnswer, openingErrorCode}
 use Rattle.decoder.specs.Opening.{opening}
 use Rattle.decoder.specs.Decode.{decode}
-use Rattle.decoder.specs.Run.{callState, stateAfter, pictureIn}
+use Rattle.decoder.specs.Run.{callState, stateAfter, picturesOfOutcome}
 use Rattle.demands.proofs.RunCall.{Between, call-on, few}
 use Rattle.demands.proofs.Run.{by-length, opening-begins}
 use Rattle.count.specs.Count.{Counts, counts, countFrom, countOf, countsIn}
@@ -38,7 +38,7 @@ module _ (s l : List ℕ) (d : Decoder) (m : List ℕ) where
   unfolding countOf
   refused-counts a e = ap (countOf s) e
 
-  pub ready-counts : callResult O.Ready d m ≡ opening s l → countFrom many s 0 d m ≡ countsIn s l
+  pub ready-counts : callResult O.Ready d m ≡ opening s l → countFrom streamFuel s 0 d m ≡ countsIn s l
   unfolding countOf
   ready-counts e = ap (countOf s) e
 
@@ -59,20 +59,20 @@ pub record Counting (s l₀ : List ℕ) (d₀ : Decoder) (l : List ℕ) (d : Dec
   pub bytes : (k : ℕ) → getD s k 0 < 256
   pub run : Between s (callState d l) n
   pub long : length l ≡ length l₀
-  pub whole : countFrom (many - n) s n d l ≡ countFrom many s 0 d₀ l₀
+  pub whole : countFrom (streamFuel - n) s n d l ≡ countFrom streamFuel s 0 d₀ l₀
 
 module _ {s l₀ : List ℕ} {d₀ : Decoder} {l : List ℕ} {d : Decoder} {n : ℕ} (h : Counting s l₀ d₀ l d n) where
   -- RULES R.1
   pub counting-few : n ≤ 4628198
   counting-few = let x = h .short in let y = few s x (h .bytes) (h .run) in omega arith
 
-  more : many - n ≡ suc (many - (n + 1))
+  more : streamFuel - n ≡ suc (streamFuel - (n + 1))
   more = let f = counting-few in omega arith
 
-  following : (x : CallResult Outcome) → x ≡ decode d s l → onward (many - (n + 1)) n s x ≡ countFrom many s 0 d₀ l₀
-  following x q = sym (ap (λ (k : ℕ). countFrom k s n d l) more ∙ onward-is (many - (n + 1)) n s l d x q) ∙ h .whole
+  following : (x : CallResult Outcome) → x ≡ decode d s l → onward (streamFuel - (n + 1)) n s x ≡ countFrom streamFuel s 0 d₀ l₀
+  following x q = sym (ap (λ (k : ℕ). countFrom k s n d l) more ∙ onward-is (streamFuel - (n + 1)) n s l d x q) ∙ h .whole
 
-  pub counting-end : (a : ℕ) (e : Decoder) (m : List ℕ) → callResult (H.Refused a) e m ≡ decode d s l → counts a n m ≡ countFrom many s 0 d₀ l₀
+  pub counting-end : (a : ℕ) (e : Decoder) (m : List ℕ) → callResult (H.Refused a) e m ≡ decode d s l → counts a n m ≡ countFrom streamFuel s 0 d₀ l₀
   counting-end a e m q = following (callResult (H.Refused a) e m) q
 
   pub counting-on : (i : Shown) (e : Decoder) (m : List ℕ) → callResult (H.Picture i) e m ≡ decode d s l → length m ≡ length l
@@ -81,7 +81,7 @@ module _ {s l₀ : List ℕ} {d₀ : Decoder} {l : List ℕ} {d : Decoder} {n : 
     short = h .short;
     bytes = h .bytes;
     run =
-        subst (λ (r : CallResult Outcome). Between s (stateAfter r) (n + pictureIn (r .answer))) (sym q)
+        subst (λ (r : CallResult Outcome). Between s (stateAfter r) (n + picturesOfOutcome (r .answer))) (sym q)
         (call-on s (h .short) (h .bytes) (h .run) .0);
     long = k ∙ h .long;
     whole = following (callResult (H.Picture i) e m) q;

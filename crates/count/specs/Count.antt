@@ -4,7 +4,7 @@ use mathlib.Core.Bool.{true}
 use mathlib.Core.List.{List, [], _∷_}
 use Prim.Native.Nat.{ℕ, zero, suc, _+_, _<_}
 use lib.ListN.{length}
-use Rattle.bits.specs.Programs.{many}
+use Rattle.bits.specs.Programs.{streamFuel}
 use Rattle.decoder.specs.declared.record.Decoder.{Decoder}
 use Rattle.decoder.specs.declared.answers.Opening.{Opening}
 use Rattle.playback.specs.declared.outcome.Outcome.the-variants as H
@@ -37,7 +37,7 @@ countFrom (suc fuel) s n d l =
 
 -- a number from opening ends it at once
 unfoldable pub countOf : List ℕ → CallResult Opening → Counts
-countOf s x = elim (openingAnswer (x .answer)) [ result y ↦ countFrom many s 0 (x .decoder) (x .store) | number answer ↦ counts answer 0 (x .store) ]
+countOf s x = elim (openingAnswer (x .answer)) [ result y ↦ countFrom streamFuel s 0 (x .decoder) (x .store) | number answer ↦ counts answer 0 (x .store) ]
 
 abbrev pub countsIn : List ℕ → List ℕ → Counts
 countsIn s l = countOf s (opening s l)
@@ -53,8 +53,8 @@ pub record CountsCalls (s : List ℕ) (x : CallState) (c : Counts) : Type 0 wher
 -- the same of the run of calls that the definitions give (decoder, Run.antt)
 pub record CountsRun (s : List ℕ) (x : CallState) (c : Counts) : Type 0 where
   -- the calls before the last one hand out a picture each, and that one answers with the number
-  pub pictures : (k : ℕ) → k < c .pictures → Run.pictureIn (Run.answer s x k) ≡ 1
+  pub pictures : (k : ℕ) → k < c .pictures → Run.picturesOfOutcome (Run.answer s x k) ≡ 1
   pub output : Run.picturesOutput s x (c .pictures) ≡ c .pictures
   pub ends : Run.answer s x (c .pictures) ≡ H.Refused (c .answer)
   pub number : member (c .answer) (7 ∷ 8 ∷ 9 ∷ []) ≡ true
-  pub stored : Run.before s x (suc (c .pictures)) .store ≡ c .store
+  pub stored : Run.stateBeforeCall s x (suc (c .pictures)) .store ≡ c .store

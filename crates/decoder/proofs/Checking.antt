@@ -8,7 +8,7 @@ use lib.Dec.{eqb}
 use lib.ListN.{length}
 use borrow.Author.Tests.{le-leb, lt-leb}
 use Rattle.bits.specs.Bits.{has}
-use Rattle.bits.specs.Programs.{Out, eqZ}
+use Rattle.bits.specs.Programs.{RunResult, eqZ}
 use Rattle.bits.specs.Runs.{Runs, positionOf, readerAt}
 use Rattle.bits.specs.declared.reader.Reader.{Reader}
 use Rattle.header.specs.Sequences.{Size, Rest, size, rest}
@@ -17,7 +17,7 @@ use Rattle.decoder.specs.Record.{position, startCode, storeBytes}
 use Rattle.decoder.specs.Headers.{refused, passed, withSizeRead, accepted, findSequence, checkSize, checkHeader, checkStore}
 use Rattle.decoder.specs.Checking.{checkResult}
 
-abbrev pub ending : {A : Type 0} → A → ℕ → Out A
+abbrev pub ending : {A : Type 0} → A → ℕ → RunResult A
 ending v e = record { value = v; at = e }
 
 -- RULES Q5

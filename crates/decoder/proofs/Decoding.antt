@@ -15,7 +15,7 @@ use Rattle.playback.specs.declared.outcome.Outcome.the-variants.{Refused}
 use Rattle.playback.specs.Steps.{decodingState, LoopEnd, pictures}
 use Rattle.playback.specs.StepResults.{endOf}
 use Rattle.decoder.specs.declared.record.Decoder.{Decoder}
-use Rattle.decoder.specs.Record.{stopAs, decodingStateOf, withDecodingState, CallResult, callResult, storeBytes}
+use Rattle.decoder.specs.Record.{withStop, decodingStateOf, withDecodingState, CallResult, callResult, storeBytes}
 use Rattle.decoder.specs.Possible.{possibleWith}
 use Rattle.decoder.specs.Headers.{CheckResult, passed, checkHeader, checkStore}
 use Rattle.decoder.specs.Decode.{callResultOf, checkHeaderAndStore, startState, afterChecks, decode}
@@ -42,7 +42,7 @@ played s b d l p q = ap (callResultOf b d) (p ∙ ap (pictures s (d .sequence .s
 
 -- RULES 8.14
 module _ (b d : Decoder) (t : StepResult) (c : List ℤ) (m : List ℕ) where
-  pub ended-stop : (n : ℕ) → (n ≡ 0 → ⊥) → callResult (Refused n) (stopAs n b) m ≡ callResultOf b d (endOf n t c m)
+  pub ended-stop : (n : ℕ) → (n ≡ 0 → ⊥) → callResult (Refused n) (withStop n b) m ≡ callResultOf b d (endOf n t c m)
   unfolding callResultOf
   ended-stop zero g = absurd (g refl)
   ended-stop (suc n) g = refl
@@ -79,14 +79,14 @@ module _ (s : List ℕ) (d : Decoder) (l : List ℕ) where
     go-on zero g e f = rw (← e) f
     go-on (suc n) g e f = absurd (omega arith)
 
-  pub hand-1 : longestStream < length s → callResult (Refused 1) d l ≡ decode d s l
+  pub after-decode-1 : longestStream < length s → callResult (Refused 1) d l ≡ decode d s l
   unfolding decode
-  hand-1 h = rw (lt-leb _ _ h)
+  after-decode-1 h = rw (lt-leb _ _ h)
 
   module _ (h : length s ≤ longestStream) where
-    pub hand-2 : possibleWith s d ≡ false → callResult (Refused 2) d l ≡ decode d s l
+    pub after-decode-2 : possibleWith s d ≡ false → callResult (Refused 2) d l ≡ decode d s l
     unfolding decode
-    hand-2 e = rw (le-leb _ _ h, e)
+    after-decode-2 e = rw (le-leb _ _ h, e)
 
     module _ (p : possibleWith s d ≡ true) where
       pub decode-mark : (d .stop ≡ 0 → ⊥) → callResult (Refused (d .stop)) d l ≡ decode d s l

@@ -22,8 +22,8 @@ use Rattle.playback.specs.State.{freshState, possibleDisplay}
 use Rattle.playback.proofs.Displays.{timed-possible}
 use Rattle.playback.proofs.Fits.{next-fits}
 use Rattle.decoder.specs.declared.record.Decoder.{Decoder}
-use Rattle.decoder.specs.Record.{position, fresh, stopAs}
-use Rattle.decoder.specs.Possible.{possibleMark, possible}
+use Rattle.decoder.specs.Record.{position, fresh, withStop}
+use Rattle.decoder.specs.Possible.{possibleStop, possible}
 use Rattle.decoder.specs.Headers.{findSequence, withSizeRead, accepted}
 use Rattle.decoder.specs.Fit.{Fit}
 use Rattle.decoder.proofs.Starts.{fresh-starts}
@@ -37,14 +37,14 @@ pub record Possible (d : Decoder) : Type 0 where
   pub picture : possiblePicture (d .state .picture) ≡ true
   pub block : bounded (d .«block_data») ≡ true
   pub display : possibleDisplay (d .state .display) ≡ true
-  pub mark : possibleMark (d .stop) ≡ true
+  pub mark : possibleStop (d .stop) ≡ true
 
 pub possible-parts : (d : Decoder) → possible d ≡ true → Possible d
 unfolding possible
 possible-parts d e =
     let h = each (leb (position d) lastPosition)
     (possibleSequence (d .sequence) ∷ possiblePicture (d .state .picture) ∷ bounded (d .«block_data») ∷ possibleDisplay (d .state .display) ∷
-    possibleMark (d .stop) ∷ []) e in
+    possibleStop (d .stop) ∷ []) e in
     record { inside = leb-true _ _ (h 0); sequence = h 1; picture = h 2; block = h 3; display = h 4; mark = h 5 }
 
 all-true : {a q p b v m : Bool} → a ≡ true → q ≡ true → p ≡ true → b ≡ true → v ≡ true → m ≡ true → (a && q && p && b && v && m) ≡ true
@@ -55,7 +55,7 @@ unfolding possible
 possible-all {d} k = all-true (le-leb (position d) lastPosition (k .inside)) (k .sequence) (k .picture) (k .block) (k .display) (k .mark)
 
 -- RULES Q8, Q9: with a stop mark
-pub marked-possible : (d : Decoder) (n : ℕ) → possible d ≡ true → (n ≡ 8) ⊎ (n ≡ 9) → possible (stopAs n d) ≡ true
+pub marked-possible : (d : Decoder) (n : ℕ) → possible d ≡ true → (n ≡ 8) ⊎ (n ≡ 9) → possible (withStop n d) ≡ true
 marked-possible d n e m =
     let k = possible-parts d e in
     possible-all (record {
@@ -73,7 +73,7 @@ numbers-first true m v q p b =
     rw (and-comm m v, and-assoc (v && m) q p, and-assoc (v && m) (q && p) b, and-comm (v && m) (q && p && b), ← and-assoc (q && p && b) v m)
 numbers-first false m v q p b = refl
 
-pub possible-by : (d : Decoder) {n v q p b : Bool} → n ≡ (leb (position d) lastPosition && possibleMark (d .stop)) → v ≡ possibleDisplay (d .state .display)
+pub possible-by : (d : Decoder) {n v q p b : Bool} → n ≡ (leb (position d) lastPosition && possibleStop (d .stop)) → v ≡ possibleDisplay (d .state .display)
     → q ≡ possibleSequence (d .sequence) → p ≡ possiblePicture (d .state .picture) → b ≡ bounded (d .«block_data») → (n && v && q && p && b) ≡ possible d
 unfolding possible
 possible-by d numbers display sequence picture block =

@@ -14,15 +14,15 @@ use Rattle.decoder.specs.Record.{storeBytes}
 use Rattle.decoder.specs.Possible.{possible}
 
 -- RULES C.1: what the conversion gives: its answer and the whole area
-pub record Area : Type 0 where
+pub record ConversionOutput : Type 0 where
   pub answer : Converted
   pub area : List ℕ
 
-abbrev pub area : Converted → List ℕ → Area
+abbrev pub area : Converted → List ℕ → ConversionOutput
 area x a = record { answer = x; area = a }
 
 -- RULES Q: the questions 2, 6, 10, 11
-unfoldable pub converted : Decoder → List ℕ → ℕ → List ℕ → ℕ → ℕ → Area
+unfoldable pub converted : Decoder → List ℕ → ℕ → List ℕ → ℕ → ℕ → ConversionOutput
 converted d l k a w h =
     if not (possible d) then area (Refused 2) a
     else if not (leb (storeBytes d) (length l)) then area (Refused 6) a

@@ -11,14 +11,14 @@ use Rattle.decoder.specs.declared.record.Decoder.{Decoder}
 use Rattle.playback.specs.declared.outcome.Outcome.{Outcome}
 use Rattle.playback.specs.declared.outcome.Outcome.the-variants.{Refused}
 use Rattle.playback.specs.Steps.{DecodingState, LoopEnd, finished, aborted, pictures}
-use Rattle.decoder.specs.Record.{stopAs, decodingStateOf, withDecodingState, CallResult, callResult, storeBytes}
+use Rattle.decoder.specs.Record.{withStop, decodingStateOf, withDecodingState, CallResult, callResult, storeBytes}
 use Rattle.decoder.specs.Possible.{possibleWith}
 use Rattle.decoder.specs.Headers.{CheckResult, refused, passed, checkHeader, checkStore}
 
 -- RULES 8.14: the end of the turns, of a call that was given d and came to them with x; after 8 or 9 the record is d with the stop mark
 unfoldable pub callResultOf : Decoder → Decoder → LoopEnd → CallResult Outcome
 callResultOf d x (finished o y) = callResult o (withDecodingState x y) (y .store)
-callResultOf d x (aborted n l) = callResult (Refused n) (stopAs n d) l
+callResultOf d x (aborted n l) = callResult (Refused n) (withStop n d) l
 
 -- RULES 8.1, Q: the questions 3, 4, 5 while no header is accepted, then 6
 unfoldable pub checkHeaderAndStore : List ℕ → Decoder → List ℕ → CheckResult

@@ -6,14 +6,14 @@ use lib.Dec.{eqb, leb}
 use lib.IntN.{pos, negsuc}
 use lib.ListN.{length}
 use Rattle.bits.specs.Bits.{has}
-use Rattle.bits.specs.Programs.{Out, run, eqZ, if_then_else_}
-use Rattle.picture_state.specs.State.{storesAs, firstStores}
+use Rattle.bits.specs.Programs.{RunResult, run, eqZ, if_then_else_}
+use Rattle.picture_state.specs.State.{withStores, firstStores}
 use Rattle.header.specs.Possible.{sizesOf}
 use Rattle.header.specs.Sequences.{Size, Rest, size, rest, aspectOf, rateOf}
 use Rattle.decoder.specs.declared.record.Decoder.{Decoder}
 use Rattle.playback.specs.State.{nextTime, shownTime, timedAs}
-use Rattle.playback.specs.Search.{nextCode}
-use Rattle.decoder.specs.Record.{position, startCode, positionAs, sequenceAs, stateAs, storeBytes}
+use Rattle.playback.specs.Search.{ensureStartCode}
+use Rattle.decoder.specs.Record.{position, startCode, withPosition, withSequence, stateAs, storeBytes}
 
 -- the result of some checks (RULES Q: questions): the first "no" with its number and the record that it leaves, or the record with which the call goes on
 pub data CheckResult : Type 0 where
@@ -22,11 +22,11 @@ pub data CheckResult : Type 0 where
 
 -- RULES Q3, Q4: the sequence start code is searched, unless the record has it already
 unfoldable pub findSequence : List ℕ → Decoder → Decoder
-findSequence s d = stateAs (nextCode (pos 0xb3) s (d .state)) d
+findSequence s d = stateAs (ensureStartCode (pos 0xb3) s (d .state)) d
 
 -- RULES Q5: width and height as read, and the place behind them
-abbrev pub withSizeRead : Out Size → Decoder → Decoder
-withSizeRead o d = positionAs (o .at) (sequenceAs (record {
+abbrev pub withSizeRead : RunResult Size → Decoder → Decoder
+withSizeRead o d = withPosition (o .at) (withSequence (record {
   «has_sequence_header» = d .sequence .«has_sequence_header»;
   width = o .value .width;
   height = o .value .height;
@@ -35,7 +35,7 @@ withSizeRead o d = positionAs (o .at) (sequenceAs (record {
 }) d)
 
 -- RULES O.3, O.4: what accepting a header sets
-unfoldable pub accepted : Out Rest → Decoder → Decoder
+unfoldable pub accepted : RunResult Rest → Decoder → Decoder
 accepted o d = record {
   sequence = record {
     «has_sequence_header» = true;
@@ -46,7 +46,7 @@ accepted o d = record {
   };
   state = record {
     position = record { 0 = o .at };
-    picture = storesAs firstStores (d .state .picture);
+    picture = withStores firstStores (d .state .picture);
     display = timedAs (record {
       framerate = rateOf (o .value .«picture_rate»);
       «pixel_aspect_ratio» = aspectOf (o .value .«pel_aspect_ratio»);

@@ -3,7 +3,7 @@ use mathlib.Core.List.{List, [], _∷_}
 use Prim.Native.Nat.{ℕ, zero, suc, _+_}
 use lib.Dec.{leb}
 use lib.ListN.{length, replicate}
-use Rattle.bits.specs.Programs.{many, if_then_else_}
+use Rattle.bits.specs.Programs.{streamFuel, if_then_else_}
 use Rattle.decoder.specs.declared.record.Decoder.{Decoder}
 use Rattle.decoder.specs.declared.answers.Opening.{Opening}
 use Rattle.decoder.specs.Record.{CallResult}
@@ -33,7 +33,7 @@ linesFrom (suc fuel) s n d l =
 
 -- RULES L.3: a number from opening is the only line
 unfoldable pub linesOf : List ℕ → CallResult Opening → List Line
-linesOf s x = elim (openingAnswer (x .answer)) [ result y ↦ linesFrom many s 0 (x .decoder) (x .store) | number answer ↦ line 0 0 0 answer ∷ [] ]
+linesOf s x = elim (openingAnswer (x .answer)) [ result y ↦ linesFrom streamFuel s 0 (x .decoder) (x .store) | number answer ↦ line 0 0 0 answer ∷ [] ]
 
 -- RULES L.1: at most 65,536 bytes; a store for 48 macroblocks
 unfoldable pub listing : List ℕ → List Line

@@ -23,23 +23,23 @@ unfoldable pub fresh : Decoder
 fresh = record { sequence = freshSequence; state = S.freshState; «block_data» = freshBlock; stop = 0 }
 
 -- the record with one thing changed
-abbrev pub sequenceAs : Sequence → Decoder → Decoder
-sequenceAs q d = record { sequence = q; state = d .state; «block_data» = d .«block_data»; stop = d .stop }
+abbrev pub withSequence : Sequence → Decoder → Decoder
+withSequence q d = record { sequence = q; state = d .state; «block_data» = d .«block_data»; stop = d .stop }
 
 abbrev pub stateAs : State → Decoder → Decoder
 stateAs x d = record { sequence = d .sequence; state = x; «block_data» = d .«block_data»; stop = d .stop }
 
 -- RULES Q8, Q9: the stop mark
-abbrev pub stopAs : ℕ → Decoder → Decoder
-stopAs n d = record { sequence = d .sequence; state = d .state; «block_data» = d .«block_data»; stop = n }
+abbrev pub withStop : ℕ → Decoder → Decoder
+withStop n d = record { sequence = d .sequence; state = d .state; «block_data» = d .«block_data»; stop = n }
 
 -- at the place a
-abbrev pub positionAs : ℕ → Decoder → Decoder
-positionAs a d = stateAs (record { position = record { 0 = a }; picture = d .state .picture; display = d .state .display }) d
+abbrev pub withPosition : ℕ → Decoder → Decoder
+withPosition a d = stateAs (record { position = record { 0 = a }; picture = d .state .picture; display = d .state .display }) d
 
 -- a search that ended at the place a with the start code c
-abbrev pub searchedAs : ℤ → ℕ → Decoder → Decoder
-searchedAs c a d = stateAs (S.searchedAs c a (d .state)) d
+abbrev pub withSearchResult : ℤ → ℕ → Decoder → Decoder
+withSearchResult c a d = stateAs (S.withSearchResult c a (d .state)) d
 
 -- what the turns of a hand-out are given of a record, with the store l; and the record with what they leave
 abbrev pub decodingStateOf : Decoder → List ℕ → DecodingState

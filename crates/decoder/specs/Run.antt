@@ -28,19 +28,19 @@ abbrev pub stateAfterOpening : List ℕ → List ℕ → CallState
 stateAfterOpening s l = callState (opening s l .decoder) (opening s l .store)
 
 -- record and store before call n; call 0 is given x
-unfoldable pub before : List ℕ → CallState → ℕ → CallState
-before s x zero = x
-before s x (suc n) = stateAfter (call s (before s x n))
+unfoldable pub stateBeforeCall : List ℕ → CallState → ℕ → CallState
+stateBeforeCall s x zero = x
+stateBeforeCall s x (suc n) = stateAfter (call s (stateBeforeCall s x n))
 
 -- the answer of call n
 unfoldable pub answer : List ℕ → CallState → ℕ → Outcome
-answer s x n = call s (before s x n) .answer
+answer s x n = call s (stateBeforeCall s x n) .answer
 
 -- RULES R.1: is it a picture?
-abbrev pub pictureIn : Outcome → ℕ
-pictureIn o = elim (decodeAnswer o) [ result p ↦ 1 | number n ↦ 0 ]
+abbrev pub picturesOfOutcome : Outcome → ℕ
+picturesOfOutcome o = elim (decodeAnswer o) [ result p ↦ 1 | number n ↦ 0 ]
 
 -- how many pictures the calls 0 .. n - 1 output (RULES S.7: hand out)
 unfoldable pub picturesOutput : List ℕ → CallState → ℕ → ℕ
 picturesOutput s x zero = 0
-picturesOutput s x (suc n) = picturesOutput s x n + pictureIn (answer s x n)
+picturesOutput s x (suc n) = picturesOutput s x n + picturesOfOutcome (answer s x n)

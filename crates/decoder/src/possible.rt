@@ -10,12 +10,12 @@ use playback::state::possible_display;
 ghost use mathlib.Core.Path.{_≡_};
 ghost use mathlib.Core.Bool.{_&&_};
 ghost use lib.Dec.{leb};
-ghost use Rattle.decoder.specs.Possible.{possibleMark, possible, possibleWith};
+ghost use Rattle.decoder.specs.Possible.{possibleStop, possible, possibleWith};
 ghost use Rattle.bits.specs.Bounds.{lastPosition};
 
 // Position, stop mark.
 fn possible_numbers(at: usize, stop: u32) -> bool
-    ensures { λ r. ⌜ r ≡ (leb at lastPosition && possibleMark stop) ⌝ }
+    ensures { λ r. ⌜ r ≡ (leb at lastPosition && possibleStop stop) ⌝ }
 {
     (at <= LAST_POSITION) & ((stop == 0) | (stop == 8) | (stop == 9))
 }

@@ -21,12 +21,12 @@ use Rattle.playback.specs.declared.outcome.{Shown.Shown, Outcome.Outcome}
 use Rattle.playback.specs.declared.outcome.Outcome.the-variants as H
 use Rattle.playback.specs.Steps.{LoopEnd}
 use Rattle.decoder.specs.Record.{CallResult, decodingStateOf, fresh, storeBytes}
-use Rattle.decoder.specs.Possible.{possibleMark, possible, possibleWith}
+use Rattle.decoder.specs.Possible.{possibleStop, possible, possibleWith}
 use Rattle.decoder.specs.Headers.{CheckResult, refused, passed, accepted, checkHeader, checkStore}
 use Rattle.decoder.specs.Opening.{opened, openingFrom, opening}
 use Rattle.decoder.specs.Decode.{callResultOf, checkHeaderAndStore, startState, afterChecks, decode}
 use Rattle.decoder.proofs.Fits.{possible-parts}
-use Rattle.demands.specs.Checks.{withHeader, withHeaderRead}
+use Rattle.demands.specs.Checks.{withHeader, withHeaderIfMissing}
 use Rattle.demands.specs.Stores.{SameFrom}
 use Rattle.demands.specs.After as A
 use Rattle.demands.specs.After.{LeftByOpening, LeftByDecode}
@@ -68,7 +68,7 @@ opening-ready s l e = subst (λ (o : Opening). OpeningRow s l o (opening s l .de
 -- ---- a possible record
 
 -- RULES QA: a stop mark other than 0 is 8 or 9
-marks : (n : ℕ) → possibleMark n ≡ true → eqb n 0 ≡ false → (n ≡ 8) ⊎ (n ≡ 9)
+marks : (n : ℕ) → possibleStop n ≡ true → eqb n 0 ≡ false → (n ≡ 8) ⊎ (n ≡ 9)
 marks n h z = go (eqb n 8) refl (rw z at h)
   where
     go : (b : Bool) → eqb n 8 ≡ b → (b || eqb n 9) ≡ true → (n ≡ 8) ⊎ (n ≡ 9)
@@ -97,8 +97,8 @@ module _ (d : Decoder) (s l : List ℕ) where
   begun-same x h =
       by-case (SameFrom (storeBytes x) l) (d .sequence .«has_sequence_header») (λ e. same-from) (λ e. cleared-same (storeBytes x) h)
 
-  begun-room : possible d ≡ true → storeBytes (withHeaderRead s d) ≤ length l
-      → RoomFor (withHeaderRead s d .sequence .sizes) (startState d (withHeaderRead s d) l)
+  begun-room : possible d ≡ true → storeBytes (withHeaderIfMissing s d) ≤ length l
+      → RoomFor (withHeaderIfMissing s d .sequence .sizes) (startState d (withHeaderIfMissing s d) l)
   unfolding startState accepted
   begun-room p = go (d .sequence .«has_sequence_header») refl
     where
@@ -117,41 +117,41 @@ module _ (d : Decoder) (s l : List ℕ) where
 
   record Row (r : CallResult Outcome) : Type 0 where
     after : Answered (r .answer) (r .decoder) (r .store)
-    same : SameFrom (storeBytes (withHeaderRead s d)) l (r .store)
+    same : SameFrom (storeBytes (withHeaderIfMissing s d)) l (r .store)
 
   -- the sizes and the matrices of the header
   abbrev sizes : Sizes
-  sizes = withHeaderRead s d .sequence .sizes
+  sizes = withHeaderIfMissing s d .sequence .sizes
 
   abbrev matrices : Matrices
-  matrices = withHeaderRead s d .sequence .matrices
+  matrices = withHeaderIfMissing s d .sequence .matrices
 
-  module _ (long : storeBytes (withHeaderRead s d) ≤ length l) (mark : d .stop ≡ 0) where
-    on-to : {m : List ℕ} → SameFrom (storeBytes (withHeaderRead s d)) (startState d (withHeaderRead s d) l .store) m
-        → SameFrom (storeBytes (withHeaderRead s d)) l m
-    on-to h = then-same (begun-same (withHeaderRead s d) long) h
+  module _ (long : storeBytes (withHeaderIfMissing s d) ≤ length l) (mark : d .stop ≡ 0) where
+    on-to : {m : List ℕ} → SameFrom (storeBytes (withHeaderIfMissing s d)) (startState d (withHeaderIfMissing s d) l .store) m
+        → SameFrom (storeBytes (withHeaderIfMissing s d)) l m
+    on-to h = then-same (begun-same (withHeaderIfMissing s d) long) h
 
-    ended-row : {e : LoopEnd} → CallEnd s sizes matrices (startState d (withHeaderRead s d) l) e → Row (callResultOf d (withHeaderRead s d) e)
+    ended-row : {e : LoopEnd} → CallEnd s sizes matrices (startState d (withHeaderIfMissing s d) l) e → Row (callResultOf d (withHeaderIfMissing s d) e)
     unfolding callResultOf
     ended-row (hands k i h) =
         record { after = record { given = _; step = k .step; left = _; outputs = i; decoder = refl; store = refl }; same = on-to h }
     ended-row (seven k t u) = record { after = A.after-7 (k .step) t u; same = on-to (k .same) }
     ended-row (stops k t e h) = record { after = A.after-8-9 mark t (k .step) e refl; same = on-to h }
 
-  store-row : possible d ≡ true → d .stop ≡ 0 → Row (afterChecks s d l (checkStore d l (passed (withHeaderRead s d))))
+  store-row : possible d ≡ true → d .stop ≡ 0 → Row (afterChecks s d l (checkStore d l (passed (withHeaderIfMissing s d))))
   unfolding afterChecks checkStore
   store-row p mark =
-      by-case (λ a. Row (afterChecks s d l a)) (leb (storeBytes (withHeaderRead s d)) (length l))
-      (λ e. let h = leb-true (storeBytes (withHeaderRead s d)) (length l) e in
-      ended-row h mark (pictures-end s sizes matrices (startState d (withHeaderRead s d) l) (begun-room p h)))
-      (λ e. record { after = A.after-6 (leb-false (storeBytes (withHeaderRead s d)) (length l) e); same = same-from })
+      by-case (λ a. Row (afterChecks s d l a)) (leb (storeBytes (withHeaderIfMissing s d)) (length l))
+      (λ e. let h = leb-true (storeBytes (withHeaderIfMissing s d)) (length l) e in
+      ended-row h mark (pictures-end s sizes matrices (startState d (withHeaderIfMissing s d) l) (begun-room p h)))
+      (λ e. record { after = A.after-6 (leb-false (storeBytes (withHeaderIfMissing s d)) (length l) e); same = same-from })
 
   header-row : possible d ≡ true → d .stop ≡ 0 → d .sequence .«has_sequence_header» ≡ false → (a : CheckResult) → CheckAfter s d a → IsHeaded s d a
       → Row (afterChecks s d l (checkStore d l a))
   unfolding afterChecks checkStore
   header-row p mark f (refused n x) h e = record { after = A.after-header f h; same = same-from }
   header-row p mark f (passed x) h e =
-      let is : x ≡ withHeaderRead s d = e ∙ sym (rw f refl) in
+      let is : x ≡ withHeaderIfMissing s d = e ∙ sym (rw f refl) in
       subst (λ (y : Decoder). Row (afterChecks s d l (checkStore d l (passed y)))) (sym is) (store-row p mark)
 
   first-row : length s ≤ longestStream → possible d ≡ true → d .stop ≡ 0 → Row (afterChecks s d l (checkHeaderAndStore s d l))
@@ -160,7 +160,7 @@ module _ (d : Decoder) (s l : List ℕ) where
     where
       go : (b : Bool) → d .sequence .«has_sequence_header» ≡ b → Row (afterChecks s d l (checkStore d l (cond b (passed d) (checkHeader s d))))
       go true e =
-          let is : withHeaderRead s d ≡ d = rw e refl in
+          let is : withHeaderIfMissing s d ≡ d = rw e refl in
           subst (λ (y : Decoder). Row (afterChecks s d l (checkStore d l (passed y)))) is (store-row p mark)
       go false e = header-row p mark e (checkHeader s d) (header-after s d h) (header-passed s d)
 
@@ -172,16 +172,16 @@ module _ (d : Decoder) (s l : List ℕ) where
       by-case Row (not (possibleWith s d)) (λ f. record { after = A.after-2 (not-true (possible d) f); same = same-from }) (λ f.
       by-case Row (not (eqb (d .stop) 0))
       (λ g. let mark = possible-parts d (not-false (possible d) f) .mark in
-      record { after = A.after-mark (marks (d .stop) mark (not-true (eqb (d .stop) 0) g)); same = same-from })
+      record { after = A.after-stop (marks (d .stop) mark (not-true (eqb (d .stop) 0) g)); same = same-from })
       (λ g. first-row (leb-true (length s) longestStream (not-false (leb (length s) longestStream) e)) (not-false (possible d) f)
       (eqb-true (d .stop) 0 (not-false (eqb (d .stop) 0) g)))))
 
   pub decode-after : (n : ℕ) → decode d s l .answer ≡ H.Refused n → LeftByDecode d s l n (decode d s l .decoder) (decode d s l .store)
   decode-after n e = subst (λ (o : Outcome). Answered o (decode d s l .decoder) (decode d s l .store)) e (decode-row .after)
 
-  pub hand-picture : (i : Shown) → decode d s l .answer ≡ H.Picture i → DecodeOutputs d s l i (decode d s l .decoder) (decode d s l .store)
-  hand-picture i e = subst (λ (o : Outcome). Answered o (decode d s l .decoder) (decode d s l .store)) e (decode-row .after)
+  pub decode-outputs : (i : Shown) → decode d s l .answer ≡ H.Picture i → DecodeOutputs d s l i (decode d s l .decoder) (decode d s l .store)
+  decode-outputs i e = subst (λ (o : Outcome). Answered o (decode d s l .decoder) (decode d s l .store)) e (decode-row .after)
 
   -- RULES D2.3
-  pub hand-same : SameFrom (storeBytes (withHeaderRead s d)) l (decode d s l .store)
-  hand-same = decode-row .same
+  pub decode-keeps-rest : SameFrom (storeBytes (withHeaderIfMissing s d)) l (decode d s l .store)
+  decode-keeps-rest = decode-row .same

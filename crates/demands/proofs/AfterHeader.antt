@@ -11,43 +11,43 @@ use lib.ListN.{length}
 use borrow.Author.Tests.{eqb-true, leb-true, leb-false}
 use Rattle.bits.specs.Bounds.{longestStream}
 use Rattle.bits.specs.Bits.{has, bitsAt}
-use Rattle.bits.specs.Programs.{Out, run, bind, eqZ, findStartCode}
+use Rattle.bits.specs.Programs.{RunResult, run, bind, eqZ, findStartCode}
 use Rattle.bits.proofs.Programs.{served-got, served-next}
 use Rattle.laws.proofs.Tests.{by-case}
 use Rattle.header.specs.Sequences.{size}
 use Rattle.decoder.specs.declared.record.Decoder.{Decoder}
 use Rattle.playback.specs.State as S
-use Rattle.playback.specs.Search.{nextCode}
-use Rattle.decoder.specs.Record.{position, startCode, stateAs, searchedAs}
+use Rattle.playback.specs.Search.{ensureStartCode}
+use Rattle.decoder.specs.Record.{position, startCode, stateAs, withSearchResult}
 use Rattle.decoder.specs.Headers.{CheckResult, refused, passed, findSequence, checkSize, checkHeader}
 use Rattle.playback.proofs.Searches.{eqZ-is}
-use Rattle.demands.specs.Codes.{NoneFound}
+use Rattle.demands.specs.StartCodes.{NoneFound}
 use Rattle.demands.specs.Checks.{withSize, withHeader}
-use Rattle.demands.specs.After.{AtCode, had-it, found-it, AfterHeader, after-3, after-4, after-5}
+use Rattle.demands.specs.After.{AtSequenceCode, already-there, found-by-search, AfterHeader, after-3, after-4, after-5}
 use Rattle.demands.proofs.Codes.{SearchEnd, with-code, with-none, search-end}
 
 -- ---- the search
 
 pub data Finds (s : List ℕ) (d : Decoder) : Decoder → Type 0 where
-  a-code : {x : Decoder} → AtCode s d x → Finds s d x
-  no-code : {e : ℕ} → (startCode d ≡ pos 0xb3 → ⊥) → NoneFound s 0xb3 (position d) e → Finds s d (searchedAs (negsuc 0) e d)
+  a-code : {x : Decoder} → AtSequenceCode s d x → Finds s d x
+  no-code : {e : ℕ} → (startCode d ≡ pos 0xb3 → ⊥) → NoneFound s 0xb3 (position d) e → Finds s d (withSearchResult (negsuc 0) e d)
 
 pub find-sequence : (s : List ℕ) (d : Decoder) → length s ≤ longestStream → Finds s d (findSequence s d)
-unfolding findSequence nextCode
+unfolding findSequence ensureStartCode
 find-sequence s d h = go (eqZ (startCode d) (pos 0xb3)) refl (run (findStartCode (pos 0xb3)) s (position d)) (search-end s 0xb3 (position d) h)
   where
     searches : eqZ (startCode d) (pos 0xb3) ≡ false → startCode d ≡ pos 0xb3 → ⊥
     searches e c = true≢false (sym (ap (λ (k : ℤ). eqZ k (pos 0xb3)) c) ∙ e)
 
-    go : (b : Bool) → eqZ (startCode d) (pos 0xb3) ≡ b → (o : Out ℤ) → SearchEnd s 0xb3 (position d) o
-        → Finds s d (stateAs (cond b (d .state) (S.searchedAs (o .value) (o .at) (d .state))) d)
-    go true e o k = a-code (had-it (eqZ-is (startCode d) (pos 0xb3) e))
-    go false e o (with-code v k) = rw v (a-code (found-it (searches e) k))
+    go : (b : Bool) → eqZ (startCode d) (pos 0xb3) ≡ b → (o : RunResult ℤ) → SearchEnd s 0xb3 (position d) o
+        → Finds s d (stateAs (cond b (d .state) (S.withSearchResult (o .value) (o .at) (d .state))) d)
+    go true e o k = a-code (already-there (eqZ-is (startCode d) (pos 0xb3) e))
+    go false e o (with-code v k) = rw v (a-code (found-by-search (searches e) k))
     go false e o (with-none v k) = rw v (no-code (searches e) k)
 
-pub at-code : {s : List ℕ} {d x : Decoder} → AtCode s d x → startCode x ≡ pos 0xb3
-at-code (had-it e) = e
-at-code (found-it n k) = refl
+pub at-code : {s : List ℕ} {d x : Decoder} → AtSequenceCode s d x → startCode x ≡ pos 0xb3
+at-code (already-there e) = e
+at-code (found-by-search n k) = refl
 
 -- ---- width and height
 
@@ -71,7 +71,7 @@ abbrev pub CheckAfter : List ℕ → Decoder → CheckResult → Type 0
 CheckAfter s d (refused n x) = AfterHeader s d n x
 CheckAfter s d (passed x) = Unit {0}
 
-size-after : (s : List ℕ) (d x : Decoder) → AtCode s d x → position x + 1088 ≤ length s * 8 → CheckAfter s d (checkSize s x)
+size-after : (s : List ℕ) (d x : Decoder) → AtSequenceCode s d x → position x + 1088 ≤ length s * 8 → CheckAfter s d (checkSize s x)
 unfolding checkSize
 size-after s d x k h =
     rw (size-read s (position x) (omega arith))
@@ -82,7 +82,7 @@ pub header-after : (s : List ℕ) (d : Decoder) → length s ≤ longestStream �
 unfolding checkHeader
 header-after s d h = go (findSequence s d) (find-sequence s d h)
   where
-    code : {x : Decoder} → AtCode s d x
+    code : {x : Decoder} → AtSequenceCode s d x
         → CheckAfter s d (cond (eqZ (startCode x) (negsuc 0)) (refused 3 x) (cond (not (has s (position x) 1088)) (refused 4 x) (checkSize s x)))
     code {x} k =
         let found : eqZ (startCode x) (negsuc 0) ≡ false = ap (λ (c : ℤ). eqZ c (negsuc 0)) (at-code k) in

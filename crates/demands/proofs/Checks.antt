@@ -11,7 +11,7 @@ use lib.ListN.{length}
 use Rattle.laws.specs.Loops.{Step, continue, finish}
 use Rattle.bits.specs.Bounds.{longestStream}
 use Rattle.bits.specs.Bits.{has}
-use Rattle.bits.specs.Programs.{Out, eqZ}
+use Rattle.bits.specs.Programs.{RunResult, eqZ}
 use Rattle.picture_state.specs.declared.types.{Matrices.Matrices, Sizes.Sizes}
 use Rattle.picture_state.specs.Result.{Result, error}
 use Rattle.picture_state.specs.Stop.{Cause, dcOutside, predictionOutside, errorCode, Stop}
@@ -22,10 +22,10 @@ use Rattle.decoder.specs.declared.answers.Opening.{Opening}
 use Rattle.playback.specs.declared.outcome.Outcome.{Outcome}
 use Rattle.playback.specs.declared.outcome.Outcome.the-variants as H
 use Rattle.playback.specs.State as S
-use Rattle.playback.specs.Steps.{DecodingState, LoopEnd, finished, aborted, pictureStateOf, atPicture, pictureRun, pictureStep, pictures}
+use Rattle.playback.specs.Steps.{DecodingState, LoopEnd, finished, aborted, pictureStateOf, afterPictureSearch, pictureRun, pictureStep, pictures}
 use Rattle.playback.specs.Cases.{isPictureReady, isFlush, ReadsPicture, b-picture, reference-picture, flushed-picture, StepCase, outputs, keeps-reference}
 use Rattle.playback.specs.Cases.{aborts}
-use Rattle.playback.specs.Cases.{is-seven}
+use Rattle.playback.specs.Cases.{no-picture}
 use Rattle.playback.proofs.Cases.{picture-step-is}
 use Rattle.playback.proofs.TwoSteps.{Each, by-steps}
 use Rattle.decoder.specs.Record.{CallResult, fresh, position, startCode, storeBytes}
@@ -33,7 +33,7 @@ use Rattle.decoder.specs.Possible.{possible, possibleWith}
 use Rattle.decoder.specs.Headers.{CheckResult, refused, passed, findSequence, checkSize, checkHeader, checkStore}
 use Rattle.decoder.specs.Opening.{opened, openingFrom, opening}
 use Rattle.decoder.specs.Decode.{callResultOf, checkHeaderAndStore, startState, afterChecks, decode}
-use Rattle.decoder.specs.Conversion.{Area, converted}
+use Rattle.decoder.specs.Conversion.{ConversionOutput, converted}
 use Rattle.decoder.specs.Answers.{openingErrorCode, decodeErrorCode, conversionErrorCode}
 use Rattle.demands.specs.Checks as Q
 use Rattle.demands.specs.Checks.{Check, check, firstFailing, IsFirstFailing, this-one, a-later, withSize, withHeader, stepChecks, picturesChecks}
@@ -71,7 +71,8 @@ module _ {R : Type 0} (N : R → ℕ) where
 
 -- the questions 3, 4, 5, and qs behind them
 header-checks : (N : CheckResult → ℕ) → ((n : ℕ) (x : Decoder) → N (refused n x) ≡ n) → (s : List ℕ) (d : Decoder) (qs : List Check)
-    → N (passed (withHeader s d)) ≡ firstFailing qs → N (checkHeader s d) ≡ firstFailing (Q.hasCode s d ∷ Q.hasBits s d ∷ Q.hasSize s d ∷ qs)
+    → N (passed (withHeader s d)) ≡ firstFailing qs
+    → N (checkHeader s d) ≡ firstFailing (Q.checkSequenceCode s d ∷ Q.checkHeaderBits s d ∷ Q.checkNonZeroSize s d ∷ qs)
 unfolding checkHeader checkSize firstFailing
 header-checks N says s d qs rest =
     if-not N (eqZ (startCode (findSequence s d)) (negsuc 0)) (says 3 _)
@@ -84,7 +85,7 @@ pub opening-checks : (s l : List ℕ) → openingErrorCode (opening s l .answer)
 unfolding opening openingFrom opened checkStore firstFailing
 opening-checks s l =
     if-yes (λ (r : CallResult Opening). openingErrorCode (r .answer)) (leb (length s) longestStream)
-    (header-checks (λ a. openingErrorCode (opened l (checkStore fresh l a) .answer)) (λ n x. refl) s fresh (Q.hasStore (withHeader s fresh) l ∷ [])
+    (header-checks (λ a. openingErrorCode (opened l (checkStore fresh l a) .answer)) (λ n x. refl) s fresh (Q.checkStoreLength (withHeader s fresh) l ∷ [])
     (if-yes (λ a. openingErrorCode (opened l a .answer)) (leb (storeBytes (withHeader s fresh)) (length l)) refl refl)) refl
 
 -- ---- the pictures of a hand-out
@@ -105,13 +106,15 @@ module _ (s : List ℕ) (z : Sizes) (m : Matrices) where
   read-checks : (x : DecodingState) {f : PictureState} {a : ℕ} → isPictureReady s (x .state) ≡ true → ReadsPicture s z m x f a
       → stepChecks s z m x ≡ check 7 true ∷ check 8 true ∷ check 9 true ∷ []
   unfolding stepChecks
-  read-checks x i r = rw i (ap (λ (o : Out (Result Stop PictureState)). check 7 true ∷ Q.areDcsInside (o .value) ∷ Q.arePredictionsInside (o .value) ∷ []) r)
+  read-checks x i r = rw i
+      (ap (λ (o : RunResult (Result Stop PictureState)). check 7 true ∷ Q.areDcsInside (o .value) ∷ Q.arePredictionsInside (o .value) ∷ []) r)
 
   -- it leaves early
   if-ok-checks : (x : DecodingState) {e : Stop} {a : ℕ} → isPictureReady s (x .state) ≡ true → pictureRun s z m x ≡ record { value = error e; at = a }
       → stepChecks s z m x ≡ check 7 true ∷ check 8 (not (Q.isDc (e .cause))) ∷ check 9 (not (Q.isPrediction (e .cause))) ∷ []
   unfolding stepChecks
-  if-ok-checks x i r = rw i (ap (λ (o : Out (Result Stop PictureState)). check 7 true ∷ Q.areDcsInside (o .value) ∷ Q.arePredictionsInside (o .value) ∷ []) r)
+  if-ok-checks x i r =
+      rw i (ap (λ (o : RunResult (Result Stop PictureState)). check 7 true ∷ Q.areDcsInside (o .value) ∷ Q.arePredictionsInside (o .value) ∷ []) r)
 
   -- none is there
   none-checks : (x : DecodingState) {b : Bool} → isPictureReady s (x .state) ≡ false → isFlush s (x .state) ≡ b → stepChecks s z m x ≡ check 7 b ∷ []
@@ -134,31 +137,31 @@ module _ (s : List ℕ) (z : Sizes) (m : Matrices) where
   step-says x (outputs (flushed-picture i u)) = ap firstFailing (sym (none-checks x i u))
   step-says x (keeps-reference i r b h) = λ rs. ap (λ (qs : List Check). firstFailing (qs ++ rs)) (read-checks x i r)
   step-says x (aborts i r) = if-ok-says x i r
-  step-says x (is-seven i u) = ap firstFailing (sym (none-checks x i u))
+  step-says x (no-picture i u) = ap firstFailing (sym (none-checks x i u))
 
   -- the turn from x on
   from-says : (x : DecodingState) (t : Step DecodingState LoopEnd) → pictureStep s z m x ≡ t
-      → Each (λ y. Yes (stepChecks s z m (atPicture s x))) (Says (stepChecks s z m (atPicture s x))) t
-  from-says x t e = step-says (atPicture s x) (subst (StepCase s z m (atPicture s x)) e (picture-step-is s z m x))
+      → Each (λ y. Yes (stepChecks s z m (afterPictureSearch s x))) (Says (stepChecks s z m (afterPictureSearch s x))) t
+  from-says x t e = step-says (afterPictureSearch s x) (subst (StepCase s z m (afterPictureSearch s x)) e (picture-step-is s z m x))
 
   pictures-say : (x : DecodingState) → Says (picturesChecks s z m x) (pictures s z m x)
   unfolding picturesChecks
   pictures-say x =
-      by-steps s z m x (λ y. Yes (stepChecks s z m (atPicture s x))) (λ y v. Unit {0}) (Says (picturesChecks s z m x))
+      by-steps s z m x (λ y. Yes (stepChecks s z m (afterPictureSearch s x))) (λ y v. Unit {0}) (Says (picturesChecks s z m x))
       (λ t e. first t e (from-says x t e)) (λ y e k t f. second y e k t (from-says y t f))
     where
       -- the questions of one turn, and of two
       first : (t : Step DecodingState LoopEnd) → pictureStep s z m x ≡ t
-          → Each (λ y. Yes (stepChecks s z m (atPicture s x))) (Says (stepChecks s z m (atPicture s x))) t
-          → Each (λ y. Yes (stepChecks s z m (atPicture s x))) (Says (picturesChecks s z m x)) t
+          → Each (λ y. Yes (stepChecks s z m (afterPictureSearch s x))) (Says (stepChecks s z m (afterPictureSearch s x))) t
+          → Each (λ y. Yes (stepChecks s z m (afterPictureSearch s x))) (Says (picturesChecks s z m x)) t
       first (continue y) e h = h
-      first (finish v) e h = rw e (h ∙ ap firstFailing (sym (append-nil (stepChecks s z m (atPicture s x)))))
+      first (finish v) e h = rw e (h ∙ ap firstFailing (sym (append-nil (stepChecks s z m (afterPictureSearch s x)))))
 
-      second : (y : DecodingState) → pictureStep s z m x ≡ continue y → Yes (stepChecks s z m (atPicture s x)) → (t : Step DecodingState LoopEnd)
-          → Each (λ v. Yes (stepChecks s z m (atPicture s y))) (Says (stepChecks s z m (atPicture s y))) t
+      second : (y : DecodingState) → pictureStep s z m x ≡ continue y → Yes (stepChecks s z m (afterPictureSearch s x)) → (t : Step DecodingState LoopEnd)
+          → Each (λ v. Yes (stepChecks s z m (afterPictureSearch s y))) (Says (stepChecks s z m (afterPictureSearch s y))) t
           → Each (λ v. Unit {0}) (Says (picturesChecks s z m x)) t
       second y e k (continue v) h = tt
-      second y e k (finish v) h = rw e (h ∙ sym (k (stepChecks s z m (atPicture s y))))
+      second y e k (finish v) h = rw e (h ∙ sym (k (stepChecks s z m (afterPictureSearch s y))))
 
 -- ---- a hand-out
 
@@ -175,15 +178,15 @@ module _ (d : Decoder) (s l : List ℕ) where
   abbrev asks : Decoder → List Check
   asks x = picturesChecks s (x .sequence .sizes) (x .sequence .matrices) (startState d x l)
 
-  store-checks : (x : Decoder) → N (checkStore d l (passed x)) ≡ firstFailing (Q.hasStore x l ∷ asks x)
+  store-checks : (x : Decoder) → N (checkStore d l (passed x)) ≡ firstFailing (Q.checkStoreLength x l ∷ asks x)
   unfolding checkStore afterChecks firstFailing
   store-checks x =
       if-yes N (leb (storeBytes x) (length l)) (ended-number d x _ ∙ pictures-say s (x .sequence .sizes) (x .sequence .matrices) (startState d x l)) refl
 
   first-checks : (b : Bool)
       → N (checkStore d l (cond b (passed d) (checkHeader s d)))
-      ≡ firstFailing (cond b [] (Q.hasCode s d ∷ Q.hasBits s d ∷ Q.hasSize s d ∷ []) ++
-      (Q.hasStore (cond b d (withHeader s d)) l ∷ asks (cond b d (withHeader s d))))
+      ≡ firstFailing (cond b [] (Q.checkSequenceCode s d ∷ Q.checkHeaderBits s d ∷ Q.checkNonZeroSize s d ∷ []) ++
+      (Q.checkStoreLength (cond b d (withHeader s d)) l ∷ asks (cond b d (withHeader s d))))
   unfolding checkStore afterChecks
   first-checks true = store-checks d
   first-checks false = header-checks (λ a. N (checkStore d l a)) (λ n x. refl) s d _ (store-checks (withHeader s d))
@@ -202,7 +205,7 @@ pub conversion-checks : (d : Decoder) (l : List ℕ) (k : ℕ) (a : List ℕ) (w
     → conversionErrorCode (converted d l k a w h .answer) ≡ firstFailing (Q.conversionChecks d l k a w h)
 unfolding converted firstFailing
 conversion-checks d l k a w h =
-    let M : Area → ℕ = λ r. conversionErrorCode (r .answer) in
+    let M : ConversionOutput → ℕ = λ r. conversionErrorCode (r .answer) in
     unless M (possible d) refl
     (unless M (leb (storeBytes d) (length l)) refl
     (unless M (d .sequence .«has_sequence_header» && leb k 2) refl

@@ -12,14 +12,14 @@ use borrow.Author.Tests.{eqb-true, eq-eqb}
 use Rattle.laws.specs.Loops.{continue, finish}
 use Rattle.bits.specs.Bounds.{longestStream}
 use Rattle.bits.specs.Bits.{Found, boundary, found}
-use Rattle.bits.specs.Programs.{Out, done, bind, run, eqZ, continueWith, loop, many, findStep, findStartCode}
+use Rattle.bits.specs.Programs.{RunResult, done, bind, run, eqZ, continueWith, loop, streamFuel, findStep, findStartCode}
 use Rattle.bits.proofs.Start.{First, Searched, first, none, found-is-first}
-use Rattle.demands.specs.Codes.{FirstCode, NoCode, codeAt, Passes, none-yet, another, CodeFound, found-at, NoneFound, none-from}
+use Rattle.demands.specs.StartCodes.{FirstCode, NoCode, codeAt, Passes, none-yet, another, StartCodeFound, found-at, NoneFound, none-from}
 
 -- ---- the end of a search
 
-pub data SearchEnd (s : List ℕ) (c a : ℕ) (o : Out ℤ) : Type 0 where
-  with-code : o .value ≡ pos c → CodeFound s c a (o .at) → SearchEnd s c a o
+pub data SearchEnd (s : List ℕ) (c a : ℕ) (o : RunResult ℤ) : Type 0 where
+  with-code : o .value ≡ pos c → StartCodeFound s c a (o .at) → SearchEnd s c a o
   with-none : o .value ≡ negsuc 0 → NoneFound s c a (o .at) → SearchEnd s c a o
 
 first-code : {s : List ℕ} {f b : ℕ} → First s f b → FirstCode s f b
@@ -33,10 +33,10 @@ module _ {s : List ℕ} {c : ℕ} (a : ℕ) {p : ℕ} (w : FirstCode s (boundary
   passing : {g : ℕ} → Passes s c (boundary ((p + 4) * 8)) g → Passes s c (boundary a) g
   passing {g} k = another w n (subst (λ (j : ℕ). Passes s c j g) (at-byte (p + 4)) k)
 
-  further : {o : Out ℤ} → SearchEnd s c ((p + 4) * 8) o → SearchEnd s c a o
+  further : {o : RunResult ℤ} → SearchEnd s c ((p + 4) * 8) o → SearchEnd s c a o
   further (with-code v k) = with-code v (go k)
     where
-      go : {e : ℕ} → CodeFound s c ((p + 4) * 8) e → CodeFound s c a e
+      go : {e : ℕ} → StartCodeFound s c ((p + 4) * 8) e → StartCodeFound s c a e
       go (found-at k x y) = found-at (passing k) x y
   further (with-none v k) = with-none v (go k)
     where
@@ -70,7 +70,7 @@ search-from s c (suc n) a h = go (found s a) (found-is-first s a) (λ e. search-
 
 pub search-end : (s : List ℕ) (c a : ℕ) → length s ≤ longestStream → SearchEnd s c a (run (findStartCode (pos c)) s a)
 unfolding findStartCode
-search-end s c a h = search-from s c many a (omega arith)
+search-end s c a h = search-from s c streamFuel a (omega arith)
 
 -- ---- there is one end
 
@@ -99,7 +99,7 @@ module _ {s : List ℕ} {c : ℕ} where
   passes-same {h = h} (another x n p) u (another y m q) v =
       passes-same p u (subst (λ (j : ℕ). Passes s c (j + 4) h) (first-same y x) q) v
 
-  pub found-same : {a e i : ℕ} → CodeFound s c a e → CodeFound s c a i → e ≡ i
+  pub found-same : {a e i : ℕ} → StartCodeFound s c a e → StartCodeFound s c a i → e ≡ i
   found-same (found-at {b = b} p x m) (found-at {b = d} q y n) =
       let k = passes-same q (at-code y n) p (at-code x m) in
       ap (λ (j : ℕ). (j + 4) * 8) (first-same x (subst (λ (g : ℕ). FirstCode s g d) k y))

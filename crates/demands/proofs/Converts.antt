@@ -14,13 +14,13 @@ use Rattle.header.specs.Possible.{sizesOf}
 use Rattle.decoder.specs.declared.record.Decoder.{Decoder}
 use Rattle.decoder.specs.declared.answers.Converted.the-variants.{Written}
 use Rattle.playback.specs.State.{freshState, possibleDisplay}
-use Rattle.decoder.specs.Record.{fresh, sequenceAs}
+use Rattle.decoder.specs.Record.{fresh, withSequence}
 use Rattle.decoder.specs.Possible.{possible}
 use Rattle.decoder.specs.Conversion.{area, converted}
 
 -- the fresh record with a header of 1 × 1 samples
 abbrev pub one : Decoder
-one = sequenceAs (record { «has_sequence_header» = true; width = 1; height = 1; sizes = sizesOf 1 1; matrices = fresh .sequence .matrices }) fresh
+one = withSequence (record { «has_sequence_header» = true; width = 1; height = 1; sizes = sizesOf 1 1; matrices = fresh .sequence .matrices }) fresh
 
 -- store 1 is white without colour, the others are 0
 abbrev pub stores : List ℕ

@@ -20,16 +20,16 @@ use Rattle.decoder.specs.Record.{CallResult, callResult, fresh, storeBytes}
 use Rattle.decoder.specs.Possible.{possible}
 use Rattle.decoder.specs.Opening.{opening}
 use Rattle.decoder.specs.Decode.{decode}
-use Rattle.decoder.specs.Conversion.{Area}
+use Rattle.decoder.specs.Conversion.{ConversionOutput}
 use Rattle.decoder.specs.Answers.{openingErrorCode, decodeErrorCode, conversionErrorCode}
 use Rattle.decoder.specs.Calls.{Opens, Decodes, Converts}
 use Rattle.demands.specs.Checks.{firstFailing, IsFirstFailing, withHeader, openingChecks, decodeChecks, conversionChecks}
 use Rattle.demands.specs.ErrorCodes.{member, openingErrorCodes, decodeErrorCodes, conversionErrorCodes}
 use Rattle.demands.specs.After.{AfterHeader, LeftByOpening, LeftByDecode, AfterOpening, AfterDecode}
-use Rattle.demands.specs.Rows.{Row3, Row4, Row5, TriesAgain, Row6, Row7, Row89}
+use Rattle.demands.specs.AfterErrors.{AfterError3, AfterError4, AfterError5, TriesAgain, AfterError6, AfterError7, AfterError8Or9}
 use Rattle.demands.proofs.Checks.{first-is, is-first, opening-checks, decode-checks, conversion-checks}
 use Rattle.demands.proofs.After.{opening-after, decode-after}
-use Rattle.demands.proofs.ErrorCodes.{opening-named, opening-positive, hand-named, positive, conversion-after, conversion-positive}
+use Rattle.demands.proofs.ErrorCodes.{opening-named, opening-positive, decode-error-listed, positive, conversion-after, conversion-positive}
 use Rattle.demands.proofs.Rows as Rows
 use Rattle.demands.proofs.OneResult.{tries-again, opening-one, decode-one}
 use Rattle.bits.specs.Bounds.{longestStream}
@@ -68,13 +68,13 @@ module _ (s l : List ℕ) (r : Opened) (m : List ℕ) (gave : Opens s l r m) whe
   pub open-1 : r .answer ≡ O.Refused 1 → (longestStream < length s) × (r .decoder ≡ fresh)
   open-1 e = Rows.opening-1 (opened-left 1 e .0) refl
 
-  pub open-3 : r .answer ≡ O.Refused 3 → Row3 s fresh (r .decoder)
+  pub open-3 : r .answer ≡ O.Refused 3 → AfterError3 s fresh (r .decoder)
   open-3 e = Rows.header-3 (Rows.opening-header (opened-left 3 e .0) (omega arith) (omega arith)) refl
 
-  pub open-4 : r .answer ≡ O.Refused 4 → Row4 s fresh (r .decoder)
+  pub open-4 : r .answer ≡ O.Refused 4 → AfterError4 s fresh (r .decoder)
   open-4 e = Rows.header-4 (Rows.opening-header (opened-left 4 e .0) (omega arith) (omega arith)) refl
 
-  pub open-5 : r .answer ≡ O.Refused 5 → Row5 s fresh (r .decoder)
+  pub open-5 : r .answer ≡ O.Refused 5 → AfterError5 s fresh (r .decoder)
   open-5 e = Rows.header-5 (Rows.opening-header (opened-left 5 e .0) (omega arith) (omega arith)) refl
 
   pub open-6 : r .answer ≡ O.Refused 6 → IsFirstFailing 6 (openingChecks s l) × (length l < storeBytes (withHeader s fresh)) × (r .decoder ≡ fresh)
@@ -112,7 +112,7 @@ module _ (d : Decoder) (s l : List ℕ) (r : DecodeResult) (m : List ℕ) (gave 
 
   -- D1.3
   pub decode-named : (n : ℕ) → r .outcome ≡ H.Refused n → member n decodeErrorCodes ≡ true
-  decode-named n e = hand-named (decoded-left n e)
+  decode-named n e = decode-error-listed (decoded-left n e)
 
   -- D1.4, both ways
   pub decode-says : (n : ℕ) → 0 < n → IsFirstFailing n (decodeChecks d s l) → r .outcome ≡ H.Refused n
@@ -131,38 +131,38 @@ module _ (d : Decoder) (s l : List ℕ) (r : DecodeResult) (m : List ℕ) (gave 
 
   -- the rows of the table
   pub decode-1 : r .outcome ≡ H.Refused 1 → (longestStream < length s) × (r .decoder ≡ d) × (m ≡ l)
-  decode-1 e = Rows.hand-1 (decoded-left 1 e) refl
+  decode-1 e = Rows.after-decode-1 (decoded-left 1 e) refl
 
   pub decode-2 : r .outcome ≡ H.Refused 2 → (possible d ≡ false) × (r .decoder ≡ d) × (m ≡ l)
-  decode-2 e = Rows.hand-2 (decoded-left 2 e) refl
+  decode-2 e = Rows.after-decode-2 (decoded-left 2 e) refl
 
   header-left : (n : ℕ) → r .outcome ≡ H.Refused n → 2 < n → n < 6
       → (d .sequence .«has_sequence_header» ≡ false) × AfterHeader s d n (r .decoder) × (m ≡ l)
   header-left n e p q = Rows.decode-header (decoded-left n e) p q
 
-  pub decode-3 : r .outcome ≡ H.Refused 3 → (d .sequence .«has_sequence_header» ≡ false) × Row3 s d (r .decoder) × (m ≡ l)
+  pub decode-3 : r .outcome ≡ H.Refused 3 → (d .sequence .«has_sequence_header» ≡ false) × AfterError3 s d (r .decoder) × (m ≡ l)
   decode-3 e = let h = header-left 3 e (omega arith) (omega arith) in (h .0, Rows.header-3 (h .1) refl, h .2)
 
-  pub decode-4 : r .outcome ≡ H.Refused 4 → (d .sequence .«has_sequence_header» ≡ false) × Row4 s d (r .decoder) × (m ≡ l)
+  pub decode-4 : r .outcome ≡ H.Refused 4 → (d .sequence .«has_sequence_header» ≡ false) × AfterError4 s d (r .decoder) × (m ≡ l)
   decode-4 e = let h = header-left 4 e (omega arith) (omega arith) in (h .0, Rows.header-4 (h .1) refl, h .2)
 
-  pub decode-5 : r .outcome ≡ H.Refused 5 → (d .sequence .«has_sequence_header» ≡ false) × Row5 s d (r .decoder) × (m ≡ l)
+  pub decode-5 : r .outcome ≡ H.Refused 5 → (d .sequence .«has_sequence_header» ≡ false) × AfterError5 s d (r .decoder) × (m ≡ l)
   decode-5 e = let h = header-left 5 e (omega arith) (omega arith) in (h .0, Rows.header-5 (h .1) refl, h .2)
 
   pub decode-5-next : r .outcome ≡ H.Refused 5 → TriesAgain s (r .decoder)
   decode-5-next e = let h = decode-5 e in tries-again (h .1) (h .0)
 
-  pub decode-6 : r .outcome ≡ H.Refused 6 → Row6 d s l (r .decoder) m
-  decode-6 e = Rows.hand-6 (decoded-left 6 e) refl (decode-means 6 e)
+  pub decode-6 : r .outcome ≡ H.Refused 6 → AfterError6 d s l (r .decoder) m
+  decode-6 e = Rows.after-decode-6 (decoded-left 6 e) refl (decode-means 6 e)
 
-  pub decode-7 : r .outcome ≡ H.Refused 7 → Row7 d s l (r .decoder) m
-  decode-7 e = Rows.hand-7 (decoded-left 7 e) refl (decode-means 7 e)
+  pub decode-7 : r .outcome ≡ H.Refused 7 → AfterError7 d s l (r .decoder) m
+  decode-7 e = Rows.after-decode-7 (decoded-left 7 e) refl (decode-means 7 e)
 
   -- QA: for the stop mark nothing is changed
-  pub decode-8 : r .outcome ≡ H.Refused 8 → ((d .stop ≡ 8) × (r .decoder ≡ d) × (m ≡ l)) ⊎ Row89 d s l 8 (r .decoder) m
+  pub decode-8 : r .outcome ≡ H.Refused 8 → ((d .stop ≡ 8) × (r .decoder ≡ d) × (m ≡ l)) ⊎ AfterError8Or9 d s l 8 (r .decoder) m
   decode-8 e = Rows.decode-8-9 (decoded-left 8 e) (omega arith) (decode-means 8 e)
 
-  pub decode-9 : r .outcome ≡ H.Refused 9 → ((d .stop ≡ 9) × (r .decoder ≡ d) × (m ≡ l)) ⊎ Row89 d s l 9 (r .decoder) m
+  pub decode-9 : r .outcome ≡ H.Refused 9 → ((d .stop ≡ 9) × (r .decoder ≡ d) × (m ≡ l)) ⊎ AfterError8Or9 d s l 9 (r .decoder) m
   decode-9 e = Rows.decode-8-9 (decoded-left 9 e) (omega arith) (decode-means 9 e)
 
 -- D1.5, the other way
@@ -171,7 +171,7 @@ pub decode-only : (d : Decoder) (s l : List ℕ) (n : ℕ) (x : Decoder) (m : Li
 decode-only d s l n x m a =
     let o = decode d s l in
     let r : DecodeResult = record { decoder = o .decoder; outcome = o .answer } in
-    let e : o .answer ≡ H.Refused n = decode-says d s l r (o .store) refl n (positive n (hand-named (a .left))) (a .first) in
+    let e : o .answer ≡ H.Refused n = decode-says d s l r (o .store) refl n (positive n (decode-error-listed (a .left))) (a .first) in
     let k = decode-one a (decode-left d s l r (o .store) refl n e) in
     ap₂ (λ (y : Decoder) (m : List ℕ). callResult (H.Refused n) y m) (k .0) (k .1)
     ∙ ap (λ (v : Outcome). callResult v (o .decoder) (o .store)) (sym e)
@@ -181,12 +181,13 @@ decode-only d s l n x m a =
 module _ (d : Decoder) (l : List ℕ) (k : ℕ) (a : List ℕ) (w h : ℕ) (r : Converted) (b : List ℕ) (gave : Converts d l k a w h r b) where
   -- D1.4
   pub convert-number : conversionErrorCode r ≡ firstFailing (conversionChecks d l k a w h)
-  convert-number = ap (λ (x : Area). conversionErrorCode (x .answer)) gave ∙ conversion-checks d l k a w h
+  convert-number = ap (λ (x : ConversionOutput). conversionErrorCode (x .answer)) gave ∙ conversion-checks d l k a w h
 
   -- D1.3, D1.5: whatever the number, the area is as it was
   pub convert-left : (n : ℕ) → r ≡ C.Refused n → (member n conversionErrorCodes ≡ true) × (b ≡ a)
   convert-left n e =
-      subst (λ (x : Area). x .answer ≡ C.Refused n → (member n conversionErrorCodes ≡ true) × (x .area ≡ a)) (sym gave) (conversion-after d l k a w h n) e
+      subst (λ (x : ConversionOutput). x .answer ≡ C.Refused n → (member n conversionErrorCodes ≡ true) × (x .area ≡ a)) (sym gave)
+      (conversion-after d l k a w h n) e
 
   -- D1.4, both ways: the questions 2, 6, 10 and 11
   pub convert-says : (n : ℕ) → 0 < n → IsFirstFailing n (conversionChecks d l k a w h) → r ≡ C.Refused n

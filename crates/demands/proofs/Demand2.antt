@@ -27,13 +27,13 @@ use Rattle.decoder.specs.Record.{CallResult, callResult, fresh, storeBytes}
 use Rattle.decoder.specs.Possible.{possible}
 use Rattle.decoder.specs.Opening.{opening}
 use Rattle.decoder.specs.Decode.{decode}
-use Rattle.decoder.specs.Conversion.{Area}
+use Rattle.decoder.specs.Conversion.{ConversionOutput}
 use Rattle.decoder.specs.Answers.{openingErrorCode, decodeErrorCode, conversionErrorCode}
 use Rattle.decoder.specs.Calls.{Opens, Decodes, Converts}
-use Rattle.demands.specs.Checks.{check, firstFailing, this-one, withHeader, withHeaderRead, openingChecks, decodeChecks, conversionChecks}
+use Rattle.demands.specs.Checks.{check, firstFailing, this-one, withHeader, withHeaderIfMissing, openingChecks, decodeChecks, conversionChecks}
 use Rattle.demands.specs.Stores.{SameFrom}
 use Rattle.demands.specs.Outputs.{OpeningLeaves, DecodeOutputs}
-use Rattle.demands.proofs.After.{opening-ready, hand-picture, hand-same, cleared-same}
+use Rattle.demands.proofs.After.{opening-ready, decode-outputs, decode-keeps-rest, cleared-same}
 use Rattle.demands.proofs.ErrorCodes.{opening-positive, positive, conversion-positive, conversion-written}
 use Rattle.demands.proofs.OneResult.{ready-one, output-one}
 use Rattle.demands.proofs.Demand1 as D1
@@ -95,11 +95,11 @@ module _ (d : Decoder) (s l : List ℕ) (r : DecodeResult) (m : List ℕ) (gave 
 
   pub decode-hands-out : (i : Shown) → r .outcome ≡ H.Picture i → DecodeOutputs d s l i (r .decoder) m
   decode-hands-out i e = subst (λ (x : CallResult Outcome). x .answer ≡ H.Picture i → DecodeOutputs d s l i (x .decoder) (x .store)) (sym gave)
-      (hand-picture d s l i) e
+      (decode-outputs d s l i) e
 
   -- D2.3: bytes beyond 1,152 × macroblocks of the header, accepted in this call or earlier, stay, whatever the answer
-  pub decode-same : SameFrom (storeBytes (withHeaderRead s d)) l m
-  decode-same = subst (λ (x : CallResult Outcome). SameFrom (storeBytes (withHeaderRead s d)) l (x .store)) (sym gave) (hand-same d s l)
+  pub decode-same : SameFrom (storeBytes (withHeaderIfMissing s d)) l m
+  decode-same = subst (λ (x : CallResult Outcome). SameFrom (storeBytes (withHeaderIfMissing s d)) l (x .store)) (sym gave) (decode-keeps-rest d s l)
 
   -- D2.4: for 8 and 9 see `decode-says`, `decode-8`, `decode-9` in Demand1.antt
   pub decode-too-long : longestStream < length s → r .outcome ≡ H.Refused 1
@@ -116,7 +116,7 @@ decode-picture-only d s l i x m p a = go (o .answer) refl
 
     go : (v : Outcome) → o .answer ≡ v → callResult (H.Picture i) x m ≡ decode d s l
     go (H.Picture j) e =
-        let k = output-one a (hand-picture d s l j e) in
+        let k = output-one a (decode-outputs d s l j e) in
         ap (λ (u : Shown). callResult (H.Picture u) x m) (k .0)
         ∙ ap₂ (λ (y : Decoder) (k : List ℕ). callResult (H.Picture j) y k) (k .1) (k .2)
         ∙ ap (λ (v : Outcome). callResult v (o .decoder) (o .store)) (sym e)
@@ -147,7 +147,8 @@ module _ (d : Decoder) (l : List ℕ) (k : ℕ) (a : List ℕ) (w h : ℕ) (r : 
 
   pub convert-area : r ≡ C.Written → b ≡ scaled (pictureIn (d .sequence) l k) w h a
   convert-area e =
-      subst (λ (x : Area). x .answer ≡ C.Written → x .area ≡ scaled (pictureIn (d .sequence) l k) w h a) (sym gave) (conversion-written d l k a w h) e
+      subst (λ (x : ConversionOutput). x .answer ≡ C.Written → x .area ≡ scaled (pictureIn (d .sequence) l k) w h a) (sym gave)
+      (conversion-written d l k a w h) e
 
   -- D2.3: numbers from w × h on stay, whatever the answer
   pub convert-same : SameFrom (w * h) a b

@@ -17,10 +17,10 @@ use Rattle.decoder.specs.declared.record.Decoder.{Decoder}
 use Rattle.playback.specs.declared.outcome.Outcome.{Outcome}
 use Rattle.playback.specs.declared.outcome.Outcome.the-variants as H
 use Rattle.playback.specs.State.{frames}
-use Rattle.playback.specs.Steps.{DecodingState, LoopEnd, finished, aborted, atPicture, pictures}
-use Rattle.playback.specs.Cases.{isPictureReady, StepCase, outputs, keeps-reference, aborts, is-seven}
+use Rattle.playback.specs.Steps.{DecodingState, LoopEnd, finished, aborted, afterPictureSearch, pictures}
+use Rattle.playback.specs.Cases.{isPictureReady, StepCase, outputs, keeps-reference, aborts, no-picture}
 use Rattle.playback.proofs.Cases.{picture-step-is}
-use Rattle.decoder.specs.Record.{CallResult, decodingStateOf, stopAs, storeBytes}
+use Rattle.decoder.specs.Record.{CallResult, decodingStateOf, withStop, storeBytes}
 use Rattle.decoder.specs.Possible.{possibleWith}
 use Rattle.decoder.specs.Headers.{CheckResult, refused, passed, checkHeader, checkStore}
 use Rattle.decoder.specs.Decode.{callResultOf, checkHeaderAndStore, startState, afterChecks}
@@ -97,7 +97,7 @@ module _ (s : List ℕ) (short : length s ≤ longestStream) where
   seven-reads (outputs h) e = absurd (true≢false (sym e))
   seven-reads (keeps-reference i r b h) e = absurd (true≢false (sym e))
   seven-reads (aborts i r) e = absurd (true≢false (sym e))
-  seven-reads (is-seven i u) e = i
+  seven-reads (no-picture i u) e = i
 
   stuck-reads : (d : Decoder) (l : List ℕ) → StuckAt s d l → readsFrom s d l ≡ []
   unfolding picturesRead
@@ -105,7 +105,7 @@ module _ (s : List ℕ) (short : length s ≤ longestStream) where
       let z = d .sequence .sizes in
       let m = d .sequence .matrices in
       let none = seven-reads (picture-step-is s z m (decodingStateOf d l)) (ap isSeven t) in
-      rw (reads-none s z m (atPicture s (decodingStateOf d l)) none, t) refl
+      rw (reads-none s z m (afterPictureSearch s (decodingStateOf d l)) none, t) refl
 
 -- ---- what a call shows
 
@@ -131,7 +131,7 @@ module _ (s : List ℕ) (short : length s ≤ longestStream) (bytes : (k : ℕ) 
 
   -- the turns from x, m on, in a call that was given d
   ended-shows : (d x : Decoder) (m : List ℕ) (n : ℕ) (h : List (List ℕ)) (c : List CodedPicture) (e : LoopEnd)
-      → ((i : ℕ) → (i ≡ 8) ⊎ (i ≡ 9) → possibleWith s (stopAs i d) ≡ true) → (k : Keeps s x m) → EndsFrom s short bytes x k n e
+      → ((i : ℕ) → (i ≡ 8) ⊎ (i ≡ 9) → possibleWith s (withStop i d) ≡ true) → (k : Keeps s x m) → EndsFrom s short bytes x k n e
       → EndShows (x .sequence .sizes) n h c e → CallShows s h c (callResultOf d x e)
   unfolding callResultOf
   ended-shows d x m n h c (finished (H.Picture i) y) p k (hands j q) (inl w) = inl (w .0, under-way (keeps-resumed k j) (w .1))
@@ -141,7 +141,7 @@ module _ (s : List ℕ) (short : length s ≤ longestStream) (bytes : (k : ℕ) 
   ended-shows d x m n h c (finished (H.Refused i) y) p k (seven j q u) w = inl (sym w, over (inl (keeps-resumed k j, u)))
   ended-shows d x m n h c (aborted i o) p k (stops q) w = inl (sym w, over (inr (p i q, q)))
 
-  steps-show : (d x : Decoder) (m : List ℕ) (h : List (List ℕ)) → ((i : ℕ) → (i ≡ 8) ⊎ (i ≡ 9) → possibleWith s (stopAs i d) ≡ true) → Keeps s x m
+  steps-show : (d x : Decoder) (m : List ℕ) (h : List (List ℕ)) → ((i : ℕ) → (i ≡ 8) ⊎ (i ≡ 9) → possibleWith s (withStop i d) ≡ true) → Keeps s x m
       → ShowingIn x m h → AllDecoded (readsFrom s x m)
       → CallShows s h (readsFrom s x m) (callResultOf d x (pictures s (x .sequence .sizes) (x .sequence .matrices) (decodingStateOf x m)))
   steps-show d x m h p k w q =

@@ -7,7 +7,7 @@ use Prim.Native.Nat.{ℕ}
 use lib.IntN.{negsuc}
 use Rattle.laws.specs.Loops.{Step}
 use Rattle.laws.proofs.Tests.{both}
-use Rattle.bits.specs.Programs.{Out, eqZ}
+use Rattle.bits.specs.Programs.{RunResult, eqZ}
 use Rattle.picture_state.specs.declared.types.{Matrices.Matrices, Sizes.Sizes, Stores.Stores}
 use Rattle.picture_state.specs.Result.{Result, ok, error}
 use Rattle.picture_state.specs.Stop.{Stop}
@@ -17,9 +17,9 @@ use Rattle.playback.specs.declared.outcome.Outcome.the-variants as H
 use Rattle.playback.specs.State.{position, startCode, hasReferenceFrame, frames, stateAfterPicture, hasReferenceFrameAs}
 use Rattle.playback.specs.Search.{hasEnded}
 use Rattle.playback.specs.Display.{isReference, isWaiting, counted}
-use Rattle.playback.specs.Steps.{DecodingState, LoopEnd, finished, aborted, pictureRun, atPicture}
+use Rattle.playback.specs.Steps.{DecodingState, LoopEnd, finished, aborted, pictureRun, afterPictureSearch}
 use Rattle.playback.specs.Cases.{isPictureReady, isFlush, ReadsPicture, stateLeftBy, countedAfter, isB, b-picture, reference-picture, flushed-picture}
-use Rattle.playback.specs.Cases.{StepCase, outputs, keeps-reference, aborts, is-seven}
+use Rattle.playback.specs.Cases.{StepCase, outputs, keeps-reference, aborts, no-picture}
 use Rattle.playback.proofs.Next.{next-stores}
 use Rattle.playback.proofs.TwoSteps.{Each, next-held}
 use Rattle.demands.specs.Display.{CodedPicture, displayed, waiting, AllDecoded, samplesOf, codedPictureBy, stepReads}
@@ -34,7 +34,7 @@ pub data Showing (z : Sizes) (h : Bool) (t : Stores) (l : List ℕ) : List (List
 abbrev pub ShowingAt : Sizes → DecodingState → List (List ℕ) → Type 0
 ShowingAt z x = Showing z (hasReferenceFrame (x .state)) (x .state .picture .stores) (x .store)
 
-pub next-showing : (s : List ℕ) (z : Sizes) (x : DecodingState) (h : List (List ℕ)) → ShowingAt z x h → ShowingAt z (atPicture s x) h
+pub next-showing : (s : List ℕ) (z : Sizes) (x : DecodingState) (h : List (List ℕ)) → ShowingAt z x h → ShowingAt z (afterPictureSearch s x) h
 next-showing s z x h k = rw (next-held s (x .state), next-stores s (x .state)) k
 
 -- ---- how a turn ends: the pictures c were read while h waited, and n were handed out before
@@ -64,11 +64,11 @@ StepShows z n h c = Each (On z n h c) (EndShows z n h c)
 module _ (s : List ℕ) (z : Sizes) (m : Matrices) (x : DecodingState) where
   reads-on : {f : P.PictureState} {a : ℕ} → isPictureReady s (x .state) ≡ true → ReadsPicture s z m x f a → stepReads s z m x ≡ codedPictureBy s z x (ok f)
   unfolding stepReads
-  reads-on t r = rw t (ap (λ (o : Out (Result Stop P.PictureState)). codedPictureBy s z x (o .value)) r)
+  reads-on t r = rw t (ap (λ (o : RunResult (Result Stop P.PictureState)). codedPictureBy s z x (o .value)) r)
 
   reads-out : {e : Stop} {a : ℕ} → isPictureReady s (x .state) ≡ true → pictureRun s z m x ≡ record { value = error e; at = a } → stepReads s z m x ≡ []
   unfolding stepReads
-  reads-out t r = rw t (ap (λ (o : Out (Result Stop P.PictureState)). codedPictureBy s z x (o .value)) r)
+  reads-out t r = rw t (ap (λ (o : RunResult (Result Stop P.PictureState)). codedPictureBy s z x (o .value)) r)
 
   pub reads-none : isPictureReady s (x .state) ≡ false → stepReads s z m x ≡ []
   unfolding stepReads
@@ -88,11 +88,11 @@ module _ (s : List ℕ) (z : Sizes) (m : Matrices) (x : DecodingState) {h : List
 
   -- the roles of the stores behind a picture that is decoded
   roles-b : {f : P.PictureState} {a : ℕ} → ReadsPicture s z m x f a → isB f ≡ true → AllDecoded (codedPictureBy s z x (ok f)) → f .picture .stores ≡ roles
-  roles-b {f} r b q = frame-left s z m x room r .stores (q .0) ∙ ap (λ (t : Bool). cond t roles (P.after roles)) b
+  roles-b {f} r b q = frame-left s z m x room r .stores (q .0) ∙ ap (λ (t : Bool). cond t roles (P.rolesAfterReading roles)) b
 
   roles-other : {f : P.PictureState} {a : ℕ} → ReadsPicture s z m x f a → isB f ≡ false → AllDecoded (codedPictureBy s z x (ok f)) → f .picture .stores
-      ≡ P.after roles
-  roles-other {f} r b q = frame-left s z m x room r .stores (q .0) ∙ ap (λ (t : Bool). cond t roles (P.after roles)) b
+      ≡ P.rolesAfterReading roles
+  roles-other {f} r b q = frame-left s z m x room r .stores (q .0) ∙ ap (λ (t : Bool). cond t roles (P.rolesAfterReading roles)) b
 
   -- RULES 8.5: a B picture, at once
   shows-b : {f : P.PictureState} {a : ℕ} → ReadsPicture s z m x f a → isB f ≡ true → AllDecoded (codedPictureBy s z x (ok f))
@@ -172,4 +172,4 @@ module _ (s : List ℕ) (z : Sizes) (m : Matrices) (x : DecodingState) {h : List
   step-shows {t} (outputs (flushed-picture i u)) = subst (Shows t) (sym (reads-none s z m x i)) (λ q. inr (shows-flushed u, refl))
   step-shows {t} (keeps-reference i r b e) = subst (Shows t) (sym (reads-on s z m x i r)) (λ q. goes-on r b e q)
   step-shows {t} (aborts i r) = subst (Shows t) (sym (reads-out s z m x i r)) (λ q. refl)
-  step-shows {t} (is-seven i u) = subst (Shows t) (sym (reads-none s z m x i)) (λ q. refl)
+  step-shows {t} (no-picture i u) = subst (Shows t) (sym (reads-none s z m x i)) (λ q. refl)

@@ -7,7 +7,7 @@ use Rattle.laws.specs.Loops.{Step, continue, finish}
 use Rattle.picture_state.specs.declared.types.{Matrices.Matrices, Sizes.Sizes}
 use Rattle.playback.specs.declared.outcome.Outcome.the-variants as H
 use Rattle.playback.specs.State.{frames}
-use Rattle.playback.specs.Steps.{DecodingState, LoopEnd, finished, aborted, atPicture, pictureStep, pictures}
+use Rattle.playback.specs.Steps.{DecodingState, LoopEnd, finished, aborted, afterPictureSearch, pictureStep, pictures}
 use Rattle.playback.specs.Cases.{StepCase}
 use Rattle.playback.proofs.Next.{next-frames}
 use Rattle.playback.proofs.Cases.{picture-step-is}
@@ -37,13 +37,14 @@ then-shows z n h a b e none = go e
 module _ (s : List ℕ) (z : Sizes) (m : Matrices) where
   -- what the turn from x on reads
   abbrev reads : DecodingState → List CodedPicture
-  reads x = stepReads s z m (atPicture s x)
+  reads x = stepReads s z m (afterPictureSearch s x)
 
   from-shows : (x : DecodingState) {h : List (List ℕ)} (n : ℕ) → frames (x .state) ≡ n → RoomFor z x → ShowingAt z x h → AllDecoded (reads x)
       → (t : Step DecodingState LoopEnd) → pictureStep s z m x ≡ t → StepShows z n h (reads x) t
   from-shows x {h} n f room k q t e =
       subst (λ (n : ℕ). StepShows z n h (reads x) t) (next-frames s (x .state) ∙ f)
-      (step-shows s z m (atPicture s x) (next-room s x room) (next-showing s z x h k) (subst (StepCase s z m (atPicture s x)) e (picture-step-is s z m x)) q)
+      (step-shows s z m (afterPictureSearch s x) (next-room s x room) (next-showing s z x h k)
+      (subst (StepCase s z m (afterPictureSearch s x)) e (picture-step-is s z m x)) q)
 
   pub pictures-show : (x : DecodingState) (h : List (List ℕ)) → RoomFor z x → ShowingAt z x h → AllDecoded (picturesRead s z m x)
       → EndShows z (frames (x .state)) h (picturesRead s z m x) (pictures s z m x)

@@ -20,12 +20,12 @@ use Rattle.decoder.specs.declared.answers.{Opened.Opened, DecodeResult.DecodeRe
 use Rattle.playback.specs.declared.outcome.Outcome.the-variants as H
 use Rattle.picture_state.specs.declared.types.{Matrices.Matrices, Sizes.Sizes}
 use Rattle.playback.specs.State.{freshState}
-use Rattle.playback.specs.Steps.{DecodingState, LoopEnd, atPicture, pictureStep}
+use Rattle.playback.specs.Steps.{DecodingState, LoopEnd, afterPictureSearch, pictureStep}
 use Rattle.playback.specs.Cases.{isPictureReady}
 use Rattle.decoder.specs.Record.{fresh, decodingStateOf, position, startCode, storeBytes}
 use Rattle.decoder.specs.Possible.{possible}
 use Rattle.decoder.specs.Calls.{Opens, Decodes}
-use Rattle.demands.specs.Codes.{SequenceAt}
+use Rattle.demands.specs.StartCodes.{SequenceAt}
 use Rattle.demands.specs.Checks as Q
 use Rattle.demands.specs.Checks.{Check, check, IsFirstFailing, this-one, a-later, withHeader, pictureEnd, stepChecks, picturesChecks, openingChecks}
 use Rattle.demands.proofs.Demand1.{open-says, open-means, decode-means}
@@ -47,25 +47,26 @@ either (q ∷ a) (a-later y k) = go (either a k)
 step-number : {n : ℕ} (s : List ℕ) (z : Sizes) (m : Matrices) (x : DecodingState) → IsFirstFailing n (stepChecks s z m x) → 6 < n
 unfolding stepChecks
 step-number {n} s z m x =
-    by-case (λ (qs : List Check). IsFirstFailing n (Q.hasPicture s (x .state) ∷ qs) → 6 < n) (isPictureReady s (x .state)) (λ t k. three k) (λ t k. one k)
+    by-case (λ (qs : List Check). IsFirstFailing n (Q.checkHasPicture s (x .state) ∷ qs) → 6 < n) (isPictureReady s (x .state)) (λ t k. three k) (λ t k. one k)
   where
-    three : IsFirstFailing n (Q.hasPicture s (x .state) ∷ Q.areDcsInside (pictureEnd s z m x) ∷ Q.arePredictionsInside (pictureEnd s z m x) ∷ []) → 6 < n
+    three : IsFirstFailing n (Q.checkHasPicture s (x .state) ∷ Q.areDcsInside (pictureEnd s z m x) ∷ Q.arePredictionsInside (pictureEnd s z m x) ∷ []) → 6 < n
     three (this-one e z) = omega arith
     three (a-later y (this-one e z)) = omega arith
     three (a-later y (a-later u (this-one e z))) = omega arith
 
-    one : IsFirstFailing n (Q.hasPicture s (x .state) ∷ []) → 6 < n
+    one : IsFirstFailing n (Q.checkHasPicture s (x .state) ∷ []) → 6 < n
     one (this-one e z) = omega arith
 
 pictures-number : {n : ℕ} (s : List ℕ) (z : Sizes) (m : Matrices) (x : DecodingState) → IsFirstFailing n (picturesChecks s z m x) → 6 < n
 unfolding picturesChecks
-pictures-number {n} s z m x k = go (pictureStep s z m x) (either (stepChecks s z m (atPicture s x)) k)
+pictures-number {n} s z m x k = go (pictureStep s z m x) (either (stepChecks s z m (afterPictureSearch s x)) k)
   where
     go : (t : Step DecodingState LoopEnd)
-        → IsFirstFailing n (stepChecks s z m (atPicture s x)) ⊎ IsFirstFailing n (elim t [ continue y ↦ stepChecks s z m (atPicture s y) | finish e ↦ [] ])
+        → IsFirstFailing n (stepChecks s z m (afterPictureSearch s x))
+        ⊎ IsFirstFailing n (elim t [ continue y ↦ stepChecks s z m (afterPictureSearch s y) | finish e ↦ [] ])
         → 6 < n
-    go t (inl i) = step-number s z m (atPicture s x) i
-    go (continue y) (inr i) = step-number s z m (atPicture s y) i
+    go t (inl i) = step-number s z m (afterPictureSearch s x) i
+    go (continue y) (inr i) = step-number s z m (afterPictureSearch s y) i
 
 -- a number that is neither 3 nor 4
 other : {j n : ℕ} → (n ≡ 3) ⊎ (n ≡ 4) → j ≡ n → (j ≡ 3 → ⊥) → (j ≡ 4 → ⊥) → ⊥
@@ -73,10 +74,10 @@ other {j} {n} w e p q = ⊎-elim (λ (g : n ≡ 3). p (e ∙ g)) (λ (g : n ≡ 
 
 -- 136 bytes behind the code are enough: the code is there, and so are the bits
 module _ (s : List ℕ) (d : Decoder) (b : ℕ) (unread : eqZ (startCode d) (pos 0xb3) ≡ false) (k : SequenceAt s (position d) b) (f : b + 4 + 136 ≤ length s) where
-  code-there : Q.hasCode s d .passes ≡ false → ⊥
+  code-there : Q.checkSequenceCode s d .passes ≡ false → ⊥
   code-there z = true≢false (sym (edge-code s d b unread k) ∙ z)
 
-  bits-there : Q.hasBits s d .passes ≡ false → ⊥
+  bits-there : Q.checkHeaderBits s d .passes ≡ false → ⊥
   bits-there z = true≢false (sym (edge-bits s d b unread k ∙ le-leb (b + 4 + 136) (length s) f) ∙ z)
 
 -- ---- open
@@ -116,8 +117,9 @@ module _ (d : Decoder) (s l : List ℕ) (r : DecodeResult) (m : List ℕ) (gave 
       (subst (IsFirstFailing n) (checks-unheaded d s l none) (decode-means d s l r m gave n e))
     where
       go : (x : DecodingState)
-          → IsFirstFailing n (Q.isShort s ∷ check 2 (possible d) ∷ check (d .stop) (eqb (d .stop) 0) ∷ Q.hasCode s d ∷ Q.hasBits s d ∷ Q.hasSize s d ∷
-          Q.hasStore (withHeader s d) l ∷ picturesChecks s (withHeader s d .sequence .sizes) (withHeader s d .sequence .matrices) x)
+          → IsFirstFailing n (Q.checkStreamLength s ∷ check 2 (possible d) ∷ check (d .stop)
+          (eqb (d .stop) 0) ∷ Q.checkSequenceCode s d ∷ Q.checkHeaderBits s d ∷ Q.checkNonZeroSize s d ∷
+          Q.checkStoreLength (withHeader s d) l ∷ picturesChecks s (withHeader s d .sequence .sizes) (withHeader s d .sequence .matrices) x)
           → ⊥
       go x (this-one e z) = other w e (λ g. omega arith) (λ g. omega arith)
       go x (a-later y (this-one e z)) = other w e (λ g. omega arith) (λ g. omega arith)

@@ -15,7 +15,7 @@ use Rattle.decoder.specs.declared.answers.Converted.the-variants as C
 use Rattle.decoder.specs.Record.{storeBytes}
 use Rattle.decoder.specs.Possible.{possible}
 use Rattle.argb.specs.Scaled.{scaled}
-use Rattle.decoder.specs.Conversion.{Area, converted}
+use Rattle.decoder.specs.Conversion.{ConversionOutput, converted}
 use Rattle.picture_state.specs.Stop.{Cause, dcOutside, predictionOutside, errorCode}
 use Rattle.demands.specs.After as A
 use Rattle.demands.specs.After.{LeftByOpening, LeftByDecode}
@@ -39,17 +39,17 @@ unfolding member
 mark-named n (inl e) = rw e refl
 mark-named n (inr e) = rw e refl
 
-pub hand-named : {d : Decoder} {s l : List ℕ} {n : ℕ} {x : Decoder} {m : List ℕ} → LeftByDecode d s l n x m → member n decodeErrorCodes ≡ true
+pub decode-error-listed : {d : Decoder} {s l : List ℕ} {n : ℕ} {x : Decoder} {m : List ℕ} → LeftByDecode d s l n x m → member n decodeErrorCodes ≡ true
 unfolding member
-hand-named (A.after-1 h) = refl
-hand-named (A.after-2 h) = refl
-hand-named {d} (A.after-mark h) = mark-named (d .stop) h
-hand-named (A.after-header e (A.after-3 n f)) = refl
-hand-named (A.after-header e (A.after-4 f h)) = refl
-hand-named (A.after-header e (A.after-5 f h z)) = refl
-hand-named (A.after-6 h) = refl
-hand-named (A.after-7 i t u) = refl
-hand-named (A.after-8-9 {c = c} z t i e q) = rw q (cause-named c)
+decode-error-listed (A.after-1 h) = refl
+decode-error-listed (A.after-2 h) = refl
+decode-error-listed {d} (A.after-stop h) = mark-named (d .stop) h
+decode-error-listed (A.after-header e (A.after-3 n f)) = refl
+decode-error-listed (A.after-header e (A.after-4 f h)) = refl
+decode-error-listed (A.after-header e (A.after-5 f h z)) = refl
+decode-error-listed (A.after-6 h) = refl
+decode-error-listed (A.after-7 i t u) = refl
+decode-error-listed (A.after-8-9 {c = c} z t i e q) = rw q (cause-named c)
 
 -- 0 is none of them
 pub positive : (n : ℕ) → member n decodeErrorCodes ≡ true → 1 ≤ n
@@ -65,7 +65,7 @@ area-row : (d : Decoder) (l : List ℕ) (k : ℕ) (a : List ℕ) (w h : ℕ)
     → Row a (scaled (pictureIn (d .sequence) l k) w h a) (converted d l k a w h .answer) (converted d l k a w h .area)
 unfolding converted member
 area-row d l k a w h =
-    let P : Area → Type 0 = λ r. Row a (scaled (pictureIn (d .sequence) l k) w h a) (r .answer) (r .area) in
+    let P : ConversionOutput → Type 0 = λ r. Row a (scaled (pictureIn (d .sequence) l k) w h a) (r .answer) (r .area) in
     by-case P (not (possible d)) (λ e. (refl, refl)) (λ e.
     by-case P (not (leb (storeBytes d) (length l))) (λ e. (refl, refl)) (λ e.
     by-case P (not (d .sequence .«has_sequence_header» && leb k 2)) (λ e. (refl, refl)) (λ e.

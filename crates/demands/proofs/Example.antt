@@ -5,7 +5,7 @@ use Prim.Native.Nat.{ℕ}
 use lib.Ieee.{binary64, div, ofInt}
 use lib.IntN.{pos}
 use lib.ListN.{replicate, take, drop}
-use Rattle.laws.specs.Signed.{clamp255, half0, odd}
+use Rattle.laws.specs.Signed.{clamp255, halfTowardZero, odd}
 use Rattle.laws.specs.Stores.{storeRow, storeRows}
 use Rattle.laws.specs.Loops.{iterate}
 use Rattle.bits.specs.Bits.{bitAt, bitsAt, readAt, afterRead, codePrefix, codeFrom, found}
@@ -25,14 +25,14 @@ use Rattle.coefficients.specs.Blocks as Block
 use Rattle.transform.specs.Butterfly.{butterfly}
 use Rattle.transform.specs.Idct.{columns, rows, idct, dcOnly}
 use Rattle.prediction.specs.Samples.{sample}
-use Rattle.prediction.specs.Predict.{fetch, predicted}
-use Rattle.prediction.specs.Planes.{follow, thenPlane as following, predictedPlanes}
+use Rattle.prediction.specs.Predict.{predictionSource, predicted}
+use Rattle.prediction.specs.Planes.{predictFromSource, andThenPlane as following, predictedPlanes}
 use Rattle.prediction.specs.Writers.{setConst, overwrite, blockAddress}
 use Rattle.picture_state.specs.Result.{andThen, ifOk, bindResult, lift}
 use Rattle.macroblock_head.specs.Increments.{incrementStep, increment}
 use Rattle.macroblock_head.specs.Predictions.{unlessRefused, predictFrom, predictBoth, predict, predictSkipped}
 use Rattle.macroblock_head.specs.Heads.{macroblockType, scale, vector, forward, backward, vectors, head, pattern}
-use Rattle.blocks.specs.Blocks.{results, written, blockEnd, oneBlock, blocks}
+use Rattle.blocks.specs.Blocks.{results, written, blockResult, oneBlock, blocks}
 use Rattle.macroblock.specs.Macroblocks.{skipReset, advance, predictUnlessIntra, body, firstMacroblock, laterMacroblock, macroblock}
 use Rattle.slice.specs.Slices.{extraStep, extra, afterMacroblock, sliceStep, slice}
 use Rattle.picture.specs.Pictures as P
@@ -45,7 +45,7 @@ use Rattle.decoder.specs.Possible.{possible}
 use Rattle.decoder.specs.Headers.{findSequence, accepted, checkSize, checkHeader, checkStore}
 use Rattle.decoder.specs.Opening.{opened, openingFrom, opening}
 use Rattle.playback.specs.State.{freshState, possibleDisplay}
-use Rattle.playback.specs.Search.{nextCode, isFollowed}
+use Rattle.playback.specs.Search.{ensureStartCode, isFollowed}
 use Rattle.playback.specs.Display.{timeOf, counted, outputPicture, shown, flushed}
 use Rattle.playback.specs.Steps.{afterPicture, decoded, searched, pictureStep, pictures}
 use Rattle.decoder.specs.Decode.{callResultOf, checkHeaderAndStore, startState, afterChecks, decode}
@@ -160,7 +160,7 @@ pub record Pictures : Type 0 where
   pub flushes-once : decodeAnswer (behindFlush .answer) ≡ number 7
 
 pub shown-pictures : Pictures
-unfolding clamp255 half0 odd storeRow storeRows iterate allBelow ofInt div
+unfolding clamp255 halfTowardZero odd storeRow storeRows iterate allBelow ofInt div
     bitAt bitsAt readAt afterRead codePrefix codeFrom found run bind forBelow loop findStep findStartCode
     Tables.macroblockAddressIncrementIndex Tables.macroblockAddressIncrementValue Tables.macroblockTypeIntraIndex Tables.macroblockTypeIntraValue
     Tables.macroblockTypePredictiveIndex Tables.macroblockTypePredictiveValue Tables.macroblockTypeBIndex Tables.macroblockTypeBValue
@@ -171,14 +171,15 @@ unfolding clamp255 half0 odd storeRow storeRows iterate allBelow ofInt div
     downFrom diagonals zigZag intraQuantMatrix nonIntraQuantMatrix premultiplierMatrix bounded pixelAspectRatio pictureRate
     displacement motionVector corrected Dcs.dcSize Dcs.added Dcs.dcDifference
     Coefficients.escapeLevel Coefficients.escape Coefficients.runLevel Coefficients.coefficient dequantised
-    Syntax.pairStep Syntax.pairs Syntax.intraCoded Syntax.codedBlock Block.allPlaced Block.reconstructed Block.block Block.blockDataAfter
-    butterfly columns rows idct dcOnly sample fetch predicted setConst overwrite
-    andThen ifOk bindResult lift incrementStep increment follow following predictedPlanes unlessRefused predictFrom predictBoth predictSkipped predict
-    macroblockType scale vector forward backward vectors head pattern blockAddress results written blockEnd oneBlock blocks skipReset
+    Syntax.pairStep Syntax.pairs Syntax.intraCoded Syntax.codedBlock Block.withPairs Block.reconstructed Block.block Block.blockDataAfter
+    butterfly columns rows idct dcOnly sample predictionSource predicted setConst overwrite
+    andThen ifOk bindResult lift incrementStep increment predictFromSource following predictedPlanes unlessRefused predictFrom predictBoth predictSkipped
+    predict
+    macroblockType scale vector forward backward vectors head pattern blockAddress results written blockResult oneBlock blocks skipReset
     advance predictUnlessIntra body firstMacroblock laterMacroblock macroblock extraStep extra afterMacroblock sliceStep slice P.direction
     P.pictureHeader P.afterSlice P.slicesStep P.slices P.slicesInRoles P.picture
     fresh freshState possibleDisplay cleared possible matrix size rest findSequence accepted checkSize checkHeader checkStore opened openingFrom opening
-    nextCode isFollowed timeOf counted outputPicture shown flushed afterPicture decoded searched pictureStep pictures callResultOf checkHeaderAndStore
+    ensureStartCode isFollowed timeOf counted outputPicture shown flushed afterPicture decoded searched pictureStep pictures callResultOf checkHeaderAndStore
     startState afterChecks decode
 shown-pictures = record {
   hands = refl;

@@ -10,17 +10,17 @@ use lib.IntN.{ℤ, pos}
 use lib.ListN.{length, getD}
 use borrow.Author.Tests.{le-leb, lt-leb}
 use Rattle.bits.specs.Bits.{Found, boundary, found, has}
-use Rattle.bits.specs.Programs.{Out, eqZ, findStartCode}
+use Rattle.bits.specs.Programs.{RunResult, eqZ, findStartCode}
 use Rattle.bits.specs.Runs.{RunsAt}
 use Rattle.bits.proofs.Start.{Searched, first, none, found-is-first}
 use Rattle.bits.proofs.Programs.{served-has, refused-has}
 use Rattle.bits.proofs.Rules.{at-find}
 use Rattle.decoder.specs.declared.record.Decoder.{Decoder}
-use Rattle.decoder.specs.Record.{position, startCode, searchedAs}
-use Rattle.playback.specs.Search.{nextCode}
+use Rattle.decoder.specs.Record.{position, startCode, withSearchResult}
+use Rattle.playback.specs.Search.{ensureStartCode}
 use Rattle.decoder.specs.Headers.{findSequence}
-use Rattle.demands.specs.Codes.{SequenceAt}
-use Rattle.demands.specs.Checks.{hasCode, hasBits}
+use Rattle.demands.specs.StartCodes.{SequenceAt}
+use Rattle.demands.specs.Checks.{checkSequenceCode, checkHeaderBits}
 
 abbrev at : List ℕ → ℕ → Found
 at s p = record { code = pos (getD s (p + 3) 0); at = (p + 4) * 8 }
@@ -48,15 +48,15 @@ seeks : (s : List ℕ) (a b : ℕ) → SequenceAt s a b → RunsAt (findStartCod
 seeks s a b k = at-find (pos 0xb3) (found-there s a b k) refl
 
 module _ (s : List ℕ) (d : Decoder) (b : ℕ) (no-code : eqZ (startCode d) (pos 0xb3) ≡ false) (k : SequenceAt s (position d) b) where
-  pub finds : findSequence s d ≡ searchedAs (pos 0xb3) ((b + 4) * 8) d
-  unfolding findSequence nextCode
-  finds = rw no-code (ap (λ (o : Out ℤ). searchedAs (o .value) (o .at) d) (seeks s (position d) b k .is))
+  pub finds : findSequence s d ≡ withSearchResult (pos 0xb3) ((b + 4) * 8) d
+  unfolding findSequence ensureStartCode
+  finds = rw no-code (ap (λ (o : RunResult ℤ). withSearchResult (o .value) (o .at) d) (seeks s (position d) b k .is))
 
   -- question 3 is answered "yes", and question 4 exactly if 136 bytes are behind the code
-  pub edge-code : hasCode s d .passes ≡ true
+  pub edge-code : checkSequenceCode s d .passes ≡ true
   edge-code = rw finds refl
 
-  pub edge-bits : hasBits s d .passes ≡ leb (b + 4 + 136) (length s)
+  pub edge-bits : checkHeaderBits s d .passes ≡ leb (b + 4 + 136) (length s)
   edge-bits = rw finds (go (decLt (length s) (b + 4 + 136)))
     where
       go : Dec (length s < b + 4 + 136) → has s ((b + 4) * 8) 1088 ≡ leb (b + 4 + 136) (length s)

@@ -12,14 +12,14 @@ use Rattle.laws.proofs.Tests.{both, each}
 use Rattle.bits.specs.Bounds.{longestStream}
 use Rattle.codes.specs.Matrices.{bounded}
 use Rattle.picture_state.specs.declared.types.{Sizes.Sizes, Picture.Picture}
-use Rattle.picture_state.specs.State.{startCodeAs}
+use Rattle.picture_state.specs.State.{withStartCode}
 use Rattle.picture_state.specs.Possible.{between, possiblePicture}
 use Rattle.picture_state.proofs.Possible.{picture-of, picture-by}
 use Rattle.header.specs.declared.state.Sequence.{Sequence}
 use Rattle.header.specs.Possible.{across, sizesOf, sameSizes, possibleSequence}
 use Rattle.prediction.specs.Planes.{storesBytes}
 use Rattle.playback.specs.declared.state.Display.{Display}
-use Rattle.playback.specs.State.{position, frames, possibleDisplay, searchedAs, hasReferenceFrameAs}
+use Rattle.playback.specs.State.{position, frames, possibleDisplay, withSearchResult, hasReferenceFrameAs}
 use Rattle.playback.specs.Display.{counted}
 use Rattle.playback.specs.Steps.{DecodingState, withState}
 use Rattle.playback.proofs.Displays.{held-possible, counted-possible}
@@ -56,10 +56,10 @@ keeps-resumed k h = record { header = k .header; sequence = k .sequence; mark = 
 
 -- another start code, within -1..255
 pub code-possible : (c : ℤ) (p : Picture) → between (negℤ (pos 1)) (pos 255) c ≡ true → possiblePicture p ≡ true
-    → possiblePicture (startCodeAs c p) ≡ true
+    → possiblePicture (withStartCode c p) ≡ true
 code-possible c p h k =
     let x = picture-of p k in
-    picture-by {p = startCodeAs c p} (record { type = x .type; code = h; stores = x .stores; slice = x .slice })
+    picture-by {p = withStartCode c p} (record { type = x .type; code = h; stores = x .stores; slice = x .slice })
 
 module _ {s : List ℕ} {z : Sizes} (x : DecodingState) (k : KeepsAt s z x) where
   pub keeps-counted : length s ≤ longestStream → 29 * frames (x .state) + 29 ≤ position (x .state) → KeepsAt s z (withState (counted (x .state)) x)
@@ -87,7 +87,7 @@ module _ {s : List ℕ} {z : Sizes} (x : DecodingState) (k : KeepsAt s z x) wher
 
   pub keeps-searched : (c : ℤ) (e : ℕ) → between (negℤ (pos 1)) (pos 255) c ≡ true → position (x .state) ≤ e → e ≤ length s * 8
       → (c ≡ pos 0 → e < length s * 8)
-      → KeepsAt s z (withState (searchedAs c e (x .state)) x)
+      → KeepsAt s z (withState (withSearchResult c e (x .state)) x)
   keeps-searched c e h f m a = record {
     picture = code-possible c (x .state .picture) h (k .picture);
     block = k .block;

@@ -20,7 +20,7 @@ use Rattle.playback.specs.declared.outcome.Outcome.the-variants as H
 use Rattle.decoder.specs.declared.answers.DecodeResult.{DecodeResult}
 use Rattle.decoder.specs.Record.{decodingStateOf, storeBytes}
 use Rattle.decoder.specs.Possible.{possible}
-use Rattle.playback.specs.Steps.{atPicture}
+use Rattle.playback.specs.Steps.{afterPictureSearch}
 use Rattle.playback.specs.Cases.{isPictureReady, isFlush}
 use Rattle.decoder.specs.Decode.{startState}
 use Rattle.decoder.specs.Calls.{Decodes}
@@ -34,7 +34,7 @@ module _ (d : Decoder) (s l : List ℕ) where
   -- with a header: 1, 2, the stop mark, 6, and the pictures' 7, 8, 9
   pub checks-headed : d .sequence .«has_sequence_header» ≡ true
       → decodeChecks d s l
-      ≡ Q.isShort s ∷ check 2 (possible d) ∷ check (d .stop) (eqb (d .stop) 0) ∷ Q.hasStore d l ∷
+      ≡ Q.checkStreamLength s ∷ check 2 (possible d) ∷ check (d .stop) (eqb (d .stop) 0) ∷ Q.checkStoreLength d l ∷
       picturesChecks s (d .sequence .sizes) (d .sequence .matrices) (decodingStateOf d l)
   unfolding decodeChecks startState
   checks-headed h = rw h refl
@@ -42,8 +42,9 @@ module _ (d : Decoder) (s l : List ℕ) where
   -- with none: 3, 4, 5 before 6, and the store is cleared before the pictures
   pub checks-unheaded : d .sequence .«has_sequence_header» ≡ false
       → decodeChecks d s l
-      ≡ Q.isShort s ∷ check 2 (possible d) ∷ check (d .stop) (eqb (d .stop) 0) ∷ Q.hasCode s d ∷ Q.hasBits s d ∷ Q.hasSize s d ∷
-      Q.hasStore (withHeader s d) l ∷ picturesChecks s (withHeader s d .sequence .sizes) (withHeader s d .sequence .matrices)
+      ≡ Q.checkStreamLength s ∷ check 2 (possible d) ∷ check (d .stop)
+      (eqb (d .stop) 0) ∷ Q.checkSequenceCode s d ∷ Q.checkHeaderBits s d ∷ Q.checkNonZeroSize s d ∷
+      Q.checkStoreLength (withHeader s d) l ∷ picturesChecks s (withHeader s d .sequence .sizes) (withHeader s d .sequence .matrices)
       (decodingStateOf (withHeader s d) (cleared (storeBytes (withHeader s d)) l))
   unfolding decodeChecks startState
   checks-unheaded h = rw h refl
@@ -73,25 +74,28 @@ module _ (d : Decoder) (s l : List ℕ) (r : DecodeResult) (m : List ℕ) (gave 
 
   -- the questions behind these
   from : (qs : List Check) → Begins d s
-      → decodeChecks d s l ≡ Q.isShort s ∷ check 2 (possible d) ∷ check (d .stop) (eqb (d .stop) 0) ∷ qs → firstFailing (decodeChecks d s l) ≡ firstFailing qs
+      → decodeChecks d s l ≡ Q.checkStreamLength s ∷ check 2 (possible d) ∷ check (d .stop) (eqb (d .stop) 0) ∷ qs
+      → firstFailing (decodeChecks d s l) ≡ firstFailing qs
   unfolding firstFailing
   from qs b e = ap firstFailing e ∙ rw (le-leb (length s) longestStream (b .short), b .possible, eq-eqb (d .stop) 0 (b .mark)) refl
 
   module _ (b : Begins d s) (none : d .sequence .«has_sequence_header» ≡ false) where
-    pub says-3 : Q.hasCode s d .passes ≡ false → r .outcome ≡ H.Refused 3
+    pub says-3 : Q.checkSequenceCode s d .passes ≡ false → r .outcome ≡ H.Refused 3
     unfolding firstFailing
     says-3 c = says 3 (omega arith) (from _ b (checks-unheaded d s l none) ∙ rw c refl)
 
-    pub says-4 : Q.hasCode s d .passes ≡ true → Q.hasBits s d .passes ≡ false → r .outcome ≡ H.Refused 4
+    pub says-4 : Q.checkSequenceCode s d .passes ≡ true → Q.checkHeaderBits s d .passes ≡ false → r .outcome ≡ H.Refused 4
     unfolding firstFailing
     says-4 c h = says 4 (omega arith) (from _ b (checks-unheaded d s l none) ∙ rw (c, h))
 
-    pub says-5 : Q.hasCode s d .passes ≡ true → Q.hasBits s d .passes ≡ true → Q.hasSize s d .passes ≡ false → r .outcome ≡ H.Refused 5
+    pub says-5 : Q.checkSequenceCode s d .passes ≡ true → Q.checkHeaderBits s d .passes ≡ true → Q.checkNonZeroSize s d .passes ≡ false
+        → r .outcome ≡ H.Refused 5
     unfolding firstFailing
     says-5 c h z = says 5 (omega arith) (from _ b (checks-unheaded d s l none) ∙ rw (c, h, z))
 
     -- the store is too short for the header that this call reads
-    pub says-6-new : Q.hasCode s d .passes ≡ true → Q.hasBits s d .passes ≡ true → Q.hasSize s d .passes ≡ true → length l < storeBytes (withHeader s d)
+    pub says-6-new : Q.checkSequenceCode s d .passes ≡ true → Q.checkHeaderBits s d .passes ≡ true → Q.checkNonZeroSize s d .passes ≡ true
+        → length l < storeBytes (withHeader s d)
         → r .outcome ≡ H.Refused 6
     unfolding firstFailing
     says-6-new c h z k = says 6 (omega arith) (from _ b (checks-unheaded d s l none) ∙ rw (c, h, z, lt-leb (storeBytes (withHeader s d)) (length l) k))
@@ -99,11 +103,11 @@ module _ (d : Decoder) (s l : List ℕ) (r : DecodeResult) (m : List ℕ) (gave 
   module _ (b : Begins d s) (header : d .sequence .«has_sequence_header» ≡ true) where
     -- how the first picture ends
     abbrev endAt : Result Stop PictureState
-    endAt = pictureEnd s (d .sequence .sizes) (d .sequence .matrices) (atPicture s (decodingStateOf d l))
+    endAt = pictureEnd s (d .sequence .sizes) (d .sequence .matrices) (afterPictureSearch s (decodingStateOf d l))
 
     -- the state before it
     abbrev before : State
-    before = atPicture s (decodingStateOf d l) .state
+    before = afterPictureSearch s (decodingStateOf d l) .state
 
     -- the store is too short for the header that an earlier call read
     pub says-6 : length l < storeBytes d → r .outcome ≡ H.Refused 6

@@ -14,15 +14,16 @@ use Rattle.laws.proofs.Tests.{by-case}
 use Rattle.bits.specs.Programs.{nextStartCode}
 use Rattle.bits.proofs.Gives.{g-any, g-as}
 use Rattle.coefficients.specs.declared.quantiser.Quantiser.{Quantiser}
-use Rattle.coefficients.specs.Blocks.{Filled, firstOnly}
-use Rattle.prediction.specs.declared.position.{BlockPosition.BlockPosition, Fetch.Fetch}
-use Rattle.prediction.specs.declared.position.Fetch.the-variants.{Alone, Past, Copied}
+use Rattle.coefficients.specs.Blocks.{BlockCoefficients, firstOnly}
+use Rattle.prediction.specs.declared.position.{BlockPosition.BlockPosition, PredictionSource.PredictionSource}
+use Rattle.prediction.specs.declared.position.PredictionSource.the-variants.{SourceOutside, HalfSampleOutside, SourceAt}
 use Rattle.prediction.specs.declared.planes.Plane.{Plane}
 use Rattle.prediction.specs.declared.planes.Plane.the-variants.{Y, Cr, Cb}
 use Rattle.prediction.specs.declared.predict.Predicted.{Predicted}
 use Rattle.prediction.specs.declared.predict.Predicted.the-variants.{Done, Refused}
-use Rattle.prediction.specs.Predict.{macroblockAt, blockOf, bytes, fetch, predicted, address, width, chroma}
-use Rattle.prediction.specs.Planes.{PlaneAfter, ofPlane, blockSize, planeOf, planeLength, planeStart, offset, follow, thenPlane, predictedPlanes, storesBytes}
+use Rattle.prediction.specs.Predict.{macroblockAt, blockPositionOf, bytes, predictionSource, predicted, address, width, chroma}
+use Rattle.prediction.specs.Planes.{PlaneAfter, ofPlane, blockSize, planeOf, planeLength, planeStart, offset, predictFromSource, andThenPlane, predictedPlanes}
+use Rattle.prediction.specs.Planes.{storesBytes}
 use Rattle.prediction.specs.Writers.{setConst, overwrite, addConst, addBlock, blockWidth, blockAddress}
 use Rattle.picture_state.specs.declared.types.{Context.Context, Matrices.Matrices}
 use Rattle.blocks.specs.Blocks.{results, written}
@@ -50,7 +51,7 @@ put-same-but n k a size l m ys from to fit e s = record {
       (λ (h : k * (384 * n) + 384 * n ≤ i). put-after a size m ys i 0 fit e (omega arith) ∙ s .same i w) w;
 }
 
-results-length : (q : Quantiser) (f : Filled) (di dw : ℕ) (d : List ℕ) → length (results q f di dw d) ≡ length d
+results-length : (q : Quantiser) (f : BlockCoefficients) (di dw : ℕ) (d : List ℕ) → length (results q f di dw d) ≡ length d
 unfolding results setConst addConst overwrite addBlock
 results-length q f di dw d =
     let P : List ℕ → Type 0 = λ l. length l ≡ length d in
@@ -76,8 +77,8 @@ plane-in Cb k n w h e = rw e (record { from = omega arith; to = omega arith })
 
 module _ (S : List ℕ → Type 0) (O : Stop → Type 0) (n : ℕ) where
   next-results : (o : PlaneAfter) (f : List ℕ → PlaneAfter) → OnResult S O (unlessRefused n o) → ((l : List ℕ) → S l → OnResult S O (unlessRefused n (f l)))
-      → OnResult S O (unlessRefused n (thenPlane o f))
-  unfolding thenPlane unlessRefused
+      → OnResult S O (unlessRefused n (andThenPlane o f))
+  unfolding andThenPlane unlessRefused
   next-results o f h k = go (o .answer) refl
     where
       go : (a : Predicted) → o .answer ≡ a → OnResult S O (unlessRefused n (elim a as (λ x. PlaneAfter) [ Done ↦ f (o .store) | Refused ↦ o ]))
@@ -98,7 +99,7 @@ module _ (s : List ℕ) (g : Context) (l : List ℕ) (area : g .sizes .«mb_size
 
   -- the macroblock's block in a plane, and the plane's part of the store number j
   abbrev blockIn : ℕ → Plane → BlockPosition
-  blockIn a q = blockOf (macroblockAt (g .sizes .«mb_width») (g .sizes .«mb_height») a) (blockSize q)
+  blockIn a q = blockPositionOf (macroblockAt (g .sizes .«mb_width») (g .sizes .«mb_height») a) (blockSize q)
 
   abbrev begins : ℕ → Plane → ℕ
   begins j q = planeStart j q (g .sizes .«mb_width» * g .sizes .«mb_height»)
@@ -112,20 +113,20 @@ module _ (s : List ℕ) (g : Context) (l : List ℕ) (area : g .sizes .«mb_size
 
   plane-results : (a from : ℕ) (interpolate : Bool) (q : Plane) (h v : ℤ) (m : List ℕ) → S m
       → OnResult S O (unlessRefused a
-      (ofPlane q h v (follow (fetch (blockIn a q) h v) (blockIn a q) (begins from q) (begins (g .stores .cur) q) h v interpolate m)))
-  unfolding follow unlessRefused
-  plane-results a from interpolate q h v m e = go (fetch (blockIn a q) h v) refl
+      (ofPlane q h v (predictFromSource (predictionSource (blockIn a q) h v) (blockIn a q) (begins from q) (begins (g .stores .cur) q) h v interpolate m)))
+  unfolding predictFromSource unlessRefused
+  plane-results a from interpolate q h v m e = go (predictionSource (blockIn a q) h v) refl
     where
-      go : (w : Fetch) → fetch (blockIn a q) h v ≡ w
-          → OnResult S O (unlessRefused a (ofPlane q h v (follow w (blockIn a q) (begins from q) (begins (g .stores .cur) q) h v interpolate m)))
-      go Alone w = e
-      go Past w = e
-      go (Copied i) w =
+      go : (w : PredictionSource) → predictionSource (blockIn a q) h v ≡ w
+          → OnResult S O (unlessRefused a (ofPlane q h v (predictFromSource w (blockIn a q) (begins from q) (begins (g .stores .cur) q) h v interpolate m)))
+      go SourceOutside w = e
+      go HalfSampleOutside w = e
+      go (SourceAt i) w =
           let source = midOf (begins from q) (bytes (blockIn a q)) m in
           let target = midOf (begins (g .stores .cur) q) (bytes (blockIn a q)) m in
           copied-same a q m (predicted (blockIn a q) source target h v interpolate i) (predicted-length (blockIn a q) source target h v interpolate i) e
 
-  written-same : (q : Quantiser) (number a : ℕ) (f : Filled) (m : List ℕ) → S m → S (written g q number a f m)
+  written-same : (q : Quantiser) (number a : ℕ) (f : BlockCoefficients) (m : List ℕ) → S m → S (written g q number a f m)
   unfolding written
   written-same q number a f m e =
       let p = planeOf number in

@@ -10,7 +10,7 @@ use Rattle.bits.proofs.Programs.{run-bind}
 use Rattle.bits.proofs.Gives.{Gives, g-done, g-as, g-if}
 use Rattle.laws.proofs.Tests.{by-case}
 use Rattle.picture_state.specs.declared.types.{Stores.Stores, Sizes.Sizes, Matrices.Matrices, Picture.Picture}
-use Rattle.picture_state.specs.State.{storesAs}
+use Rattle.picture_state.specs.State.{withStores}
 use Rattle.picture_state.specs.Result.{Result, ok, error}
 use Rattle.picture_state.specs.Stop.{Stop}
 use Rattle.picture.specs.Pictures as P
@@ -22,7 +22,7 @@ use Rattle.demands.proofs.OtherStores.{keeping}
 
 -- RULES 7.2: the roles of the stores behind a picture of this type that is decoded
 abbrev pub turned : ℕ → Stores → Stores
-turned type t = cond (eqb type 3) t (P.after t)
+turned type t = cond (eqb type 3) t (P.rolesAfterReading t)
 
 pub same-but : {n k : ℕ} {l : List ℕ} → SameBut n k l l
 same-but = record { long = refl; same = λ i w. refl }
@@ -43,7 +43,7 @@ module _ (s : List ℕ) (z : Sizes) (m : Matrices) (area : z .«mb_size» ≡ z 
   unfolding P.slicesInRoles
   coded-left f cur long =
       let p = f .picture in
-      let q = storesAs (P.before (p .stores)) p in
+      let q = withStores (P.rolesWhileReading (p .stores)) p in
       let c = keeping s (P.contextOf z p) (f .store) area cur long m in
       let d = keeping s (P.contextOf z q) (f .store) area cur long m in
       g-if (eqb (p .«picture_type») 3)
@@ -65,7 +65,7 @@ module _ (s : List ℕ) (z : Sizes) (m : Matrices) (area : z .«mb_size» ≡ z 
       three : (t : ℕ) → eqb t 3 ≡ true → turned t (f .picture .stores) ≡ f .picture .stores
       three t h = rw h refl
 
-      other : (t : ℕ) → eqb t 3 ≡ false → turned t (f .picture .stores) ≡ P.after (f .picture .stores)
+      other : (t : ℕ) → eqb t 3 ≡ false → turned t (f .picture .stores) ≡ P.rolesAfterReading (f .picture .stores)
       other t h = rw h refl
 
   -- the stores' roles of x are those of f

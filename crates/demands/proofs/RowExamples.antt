@@ -16,13 +16,13 @@ use Rattle.header.specs.Sequences.{matrix, size, rest}
 use Rattle.playback.specs.declared.outcome.Shown.{Shown}
 use Rattle.playback.specs.declared.outcome.Outcome.the-variants as H
 use Rattle.playback.specs.State.{freshState, possibleDisplay}
-use Rattle.playback.specs.Search.{nextCode, isFollowed}
+use Rattle.playback.specs.Search.{ensureStartCode, isFollowed}
 use Rattle.playback.specs.Display.{flushed}
 use Rattle.playback.specs.Steps.{LoopEnd, searched, pictureStep, pictures}
 use Rattle.decoder.specs.declared.record.Decoder.{Decoder}
 use Rattle.decoder.specs.declared.answers.Opened.{Opened}
 use Rattle.decoder.specs.declared.answers.Opening.the-variants as O
-use Rattle.decoder.specs.Record.{fresh, position, searchedAs, stopAs}
+use Rattle.decoder.specs.Record.{fresh, position, withSearchResult, withStop}
 use Rattle.decoder.specs.Answers.{openingErrorCode, decodeErrorCode}
 use Rattle.decoder.specs.Possible.{possible}
 use Rattle.decoder.specs.Headers.{findSequence, accepted, checkSize, checkHeader, checkStore}
@@ -30,7 +30,7 @@ use Rattle.decoder.specs.Opening.{opened, openingFrom, opening}
 use Rattle.decoder.specs.Decode.{callResultOf, checkHeaderAndStore, startState, afterChecks, decode}
 use Rattle.demands.specs.Checks.{IsFirstFailing, withHeader, openingChecks, decodeChecks}
 use Rattle.demands.specs.After.{AfterOpening, AfterDecode}
-use Rattle.demands.specs.Rows.{Row3, Row4, Row5, TriesAgain, Row6, Row7, Row89}
+use Rattle.demands.specs.AfterErrors.{AfterError3, AfterError4, AfterError5, TriesAgain, AfterError6, AfterError7, AfterError8Or9}
 use Rattle.demands.specs.Outputs.{OpeningLeaves, DecodeOutputs}
 use Rattle.demands.proofs.Checks.{first-is, opening-checks, decode-checks}
 use Rattle.demands.proofs.OneResult.{row-3, row-4, endOf, endOutcome, output-end}
@@ -86,7 +86,8 @@ pub record Searches : Type 0 where
 pub searches : Searches
 unfolding iterate allBelow bitAt bitsAt readAt afterRead codePrefix codeFrom found run bind loop findStep findStartCode
     intraQuantMatrix nonIntraQuantMatrix premultiplierMatrix bounded fresh freshState possibleDisplay cleared possible matrix size rest findSequence accepted
-    checkSize checkHeader checkStore opened openingFrom opening nextCode isFollowed flushed searched pictureStep pictures callResultOf checkHeaderAndStore
+    checkSize checkHeader checkStore opened openingFrom opening ensureStartCode isFollowed flushed searched pictureStep pictures callResultOf
+    checkHeaderAndStore
     startState afterChecks decode
 searches = record {
   inside-missed = refl;
@@ -115,19 +116,19 @@ abbrev given : List ℕ → Opened
 given s = record { decoder = by-opening s; answer = opening s [] .answer }
 
 -- RULES Q3: the search does not end at length - 3
-pub not-row-3 : Row3 no-codes fresh (searchedAs (negsuc 0) 24 fresh) → ⊥
+pub not-row-3 : AfterError3 no-codes fresh (withSearchResult (negsuc 0) 24 fresh) → ⊥
 not-row-3 r =
     let k = open-3 no-codes [] (given no-codes) (opening no-codes [] .store) refl (searches .none-missed) in
     let e : _≡_ {A = ℕ} 24 16 = ap position (row-3 r k) ∙ searches .none-end in omega arith
 
 -- RULES Q4: nor behind the second of two headers
-pub not-row-4 : Row4 two-codes fresh (searchedAs (pos 0xb3) 64 fresh) → ⊥
+pub not-row-4 : AfterError4 two-codes fresh (withSearchResult (pos 0xb3) 64 fresh) → ⊥
 not-row-4 r =
     let k = open-4 two-codes [] (given two-codes) (opening two-codes [] .store) refl (searches .two-found) in
     let e : _≡_ {A = ℕ} 64 32 = ap position (row-4 r k) ∙ searches .two-end in omega arith
 
 -- RULES Q5: fewer than 1,088 bits are left
-pub not-row-5 : (x : Decoder) → Row5 two-codes fresh x → ⊥
+pub not-row-5 : (x : Decoder) → AfterError5 two-codes fresh x → ⊥
 not-row-5 x r = let h : position (r .atCode) + 1088 ≤ 72 = r .bits in omega arith
 
 pub not-tries-again : TriesAgain two-codes fresh → ⊥
@@ -141,14 +142,14 @@ only-3 k = sym (first-is (decodeChecks fresh [] []) k) ∙ sym (decode-checks fr
 opening-only-3 : {n : ℕ} → IsFirstFailing n (openingChecks [] []) → n ≡ 3
 opening-only-3 k = sym (first-is (openingChecks [] []) k) ∙ sym (opening-checks [] []) ∙ ap openingErrorCode (searches .empty-opening)
 
-pub not-row-6 : (x : Decoder) (m : List ℕ) → Row6 fresh [] [] x m → ⊥
+pub not-row-6 : (x : Decoder) (m : List ℕ) → AfterError6 fresh [] [] x m → ⊥
 not-row-6 x m r = let e = only-3 (r .first) in omega arith
 
-pub not-row-7 : (x : Decoder) (m : List ℕ) → Row7 fresh [] [] x m → ⊥
+pub not-row-7 : (x : Decoder) (m : List ℕ) → AfterError7 fresh [] [] x m → ⊥
 not-row-7 x m r = let e = only-3 (r .first) in omega arith
 
 -- RULES QA: a record with a stop mark decodes nothing, so nothing is written
-pub not-row-8-9 : (s l : List ℕ) (n : ℕ) (x : Decoder) (m : List ℕ) → Row89 (stopAs 8 fresh) s l n x m → ⊥
+pub not-row-8-9 : (s l : List ℕ) (n : ℕ) (x : Decoder) (m : List ℕ) → AfterError8Or9 (withStop 8 fresh) s l n x m → ⊥
 not-row-8-9 s l n x m r = let e : _≡_ {A = ℕ} 8 0 = r .mark in omega arith
 
 pub not-after-opening : (x : Decoder) → AfterOpening [] [] 4 x → ⊥

@@ -19,7 +19,7 @@ use Rattle.decoder.specs.Possible.{possibleWith}
 use Rattle.decoder.specs.Headers.{CheckResult, refused, passed, checkHeader, checkStore}
 use Rattle.decoder.specs.Opening.{opened, openingFrom, opening}
 use Rattle.decoder.specs.Decode.{decode}
-use Rattle.decoder.specs.Run.{CallState, callState, call, stateAfter, stateAfterOpening, before, answer, picturesOutput}
+use Rattle.decoder.specs.Run.{CallState, callState, call, stateAfter, stateAfterOpening, stateBeforeCall, answer, picturesOutput}
 use Rattle.decoder.specs.Answers.{decodeErrorCode}
 use Rattle.demands.proofs.Waiting.{Waits, Accepted, fresh-waits, Accepts, header-accepts}
 use Rattle.demands.proofs.RunCall.{Between, waiting, live, Resting, accepted-keeps, waits-possible, stuck-call, call-on, few, admitted}
@@ -54,25 +54,25 @@ module _ (s : List ℕ) (short : length s ≤ longestStream) (P : CallState → 
 -- ---- a stream that is not too long
 
 module _ (s : List ℕ) (short : length s ≤ longestStream) (bytes : (k : ℕ) → getD s k 0 < 256) where
-  pub run-on : {x : CallState} → Between s x 0 → (n : ℕ) → Between s (before s x n) (picturesOutput s x n)
-  unfolding before picturesOutput answer
+  pub run-on : {x : CallState} → Between s x 0 → (n : ℕ) → Between s (stateBeforeCall s x n) (picturesOutput s x n)
+  unfolding stateBeforeCall picturesOutput answer
   run-on b zero = b
   run-on b (suc n) = call-on s short bytes (run-on b n) .0
 
-  rests-on : (x : CallState) (n k : ℕ) → Resting s (before s x n) → Resting s (before s x (n + k))
-  unfolding before
+  rests-on : (x : CallState) (n k : ℕ) → Resting s (stateBeforeCall s x n) → Resting s (stateBeforeCall s x (n + k))
+  unfolding stateBeforeCall
   rests-on x n zero r = rw (add-zero n) r
   rests-on x n (suc k) r =
-      let y = before s x (n + k) in
+      let y = stateBeforeCall s x (n + k) in
       let q = rests-on x n k r in
       rw (add-suc n k) (rw (stuck-call s short (y .decoder) (y .store) (q .0) (q .1)) q)
 
-  seven-again : (x : CallState) (n : ℕ) → Resting s (before s x n) → answer s x n ≡ H.Refused 7
+  seven-again : (x : CallState) (n : ℕ) → Resting s (stateBeforeCall s x n) → answer s x n ≡ H.Refused 7
   unfolding answer
-  seven-again x n r = let y = before s x n in ap (λ (r : CallResult Outcome). r .answer) (stuck-call s short (y .decoder) (y .store) (r .0) (r .1))
+  seven-again x n r = let y = stateBeforeCall s x n in ap (λ (r : CallResult Outcome). r .answer) (stuck-call s short (y .decoder) (y .store) (r .0) (r .1))
 
   pub seven-stays : (x : CallState) (n k : ℕ) → Between s x 0 → answer s x n ≡ H.Refused 7 → answer s x (n + k) ≡ H.Refused 7
-  unfolding before answer
+  unfolding stateBeforeCall answer
   seven-stays x n zero b h = rw (add-zero n) h
   seven-stays x n (suc k) b h =
       rw (add-suc n k) (seven-again x (suc (n + k)) (rw (suc-add n k) at (rests-on x (suc n) k (call-on s short bytes (run-on b n) .1 h))))
@@ -92,14 +92,14 @@ module _ (s l : List ℕ) (long : leb (length s) longestStream ≡ false) where
   unfolding opening
   long-begin = rw long refl
 
-  long-before : (x : CallState) (n : ℕ) → before s x n ≡ x
-  unfolding before
+  long-before : (x : CallState) (n : ℕ) → stateBeforeCall s x n ≡ x
+  unfolding stateBeforeCall
   long-before x zero = refl
   long-before x (suc n) = rw (long-before x n) (ap stateAfter (long-call x))
 
   long-answer : (x : CallState) (n : ℕ) → answer s x n ≡ H.Refused 1
   unfolding answer
-  long-answer x n = ap (λ (r : CallResult Outcome). r .answer) (long-call (before s x n))
+  long-answer x n = ap (λ (r : CallResult Outcome). r .answer) (long-call (stateBeforeCall s x n))
 
   long-output : (x : CallState) (n : ℕ) → picturesOutput s x n ≡ 0
   unfolding picturesOutput
@@ -122,7 +122,7 @@ module _ (s l : List ℕ) (bytes : (k : ℕ) → getD s k 0 < 256) where
       (λ h. let z : _≡_ {A = ℕ} 1 7 = ap decodeErrorCode (sym (long-answer s l h (stateAfterOpening s l) n) ∙ e) in let no : ⊥ = omega arith in absurd no)
 
   -- R.3
-  pub always-possible : (n : ℕ) → possibleWith s (before s (stateAfterOpening s l) n .decoder) ≡ true
+  pub always-possible : (n : ℕ) → possibleWith s (stateBeforeCall s (stateAfterOpening s l) n .decoder) ≡ true
   always-possible n =
       by-length s _ (λ h. admitted s h bytes (run-on s h bytes (opening-begins s h bytes l) n))
       (λ h. subst (λ (y : CallState). possibleWith s (y .decoder) ≡ true) (sym (long-before s l h (stateAfterOpening s l) n ∙ long-begin s l h))

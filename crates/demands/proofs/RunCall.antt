@@ -17,18 +17,18 @@ use Rattle.playback.specs.declared.outcome.{Shown.Shown, Outcome.Outcome}
 use Rattle.playback.specs.declared.outcome.Outcome.the-variants as H
 use Rattle.picture_state.specs.declared.types.Sizes.{Sizes}
 use Rattle.playback.specs.State.{position, frames}
-use Rattle.playback.specs.Steps.{DecodingState, LoopEnd, finished, aborted, atPicture, pictureStep, pictures}
+use Rattle.playback.specs.Steps.{DecodingState, LoopEnd, finished, aborted, afterPictureSearch, pictureStep, pictures}
 use Rattle.playback.specs.Cases.{isPictureReady}
-use Rattle.decoder.specs.Record.{CallResult, callResult, decodingStateOf, stopAs, storeBytes}
+use Rattle.decoder.specs.Record.{CallResult, callResult, decodingStateOf, withStop, storeBytes}
 use Rattle.decoder.specs.Possible.{possibleWith}
 use Rattle.decoder.specs.Headers.{CheckResult, refused, passed, checkHeader, checkStore}
 use Rattle.decoder.specs.Decode.{callResultOf, checkHeaderAndStore, startState, afterChecks, decode}
-use Rattle.decoder.specs.Run.{CallState, call, stateAfter, pictureIn}
+use Rattle.decoder.specs.Run.{CallState, call, stateAfter, picturesOfOutcome}
 use Rattle.decoder.proofs.Cleared.{begun-clears}
 use Rattle.decoder.proofs.Fits.{possible-all, marked-possible}
-use Rattle.demands.specs.Codes.{PictureAhead}
-use Rattle.demands.specs.Checks.{ComesToPictures, withHeaderRead}
-use Rattle.demands.specs.After.{AfterHeader, after-3, after-4, after-5, InCall, in-the-first, in-the-second}
+use Rattle.demands.specs.StartCodes.{PictureAhead}
+use Rattle.demands.specs.Checks.{ComesToPictures, withHeaderIfMissing}
+use Rattle.demands.specs.After.{AfterHeader, after-3, after-4, after-5, StepOfCall, first-step, second-step}
 use Rattle.decoder.specs.Answers.{decodeErrorCode}
 use Rattle.demands.proofs.AfterHeader.{CheckAfter, header-after}
 use Rattle.demands.proofs.Keeps.{Keeps, KeepsAt, keeps-resumed, Sized, keeps-sized}
@@ -55,7 +55,7 @@ module _ (s : List ℕ) (short : length s ≤ longestStream) where
         mark = rw (k .mark) refl;
       })
 
-  pub keeps-marked : {d : Decoder} {l : List ℕ} (n : ℕ) → Keeps s d l → (n ≡ 8) ⊎ (n ≡ 9) → possibleWith s (stopAs n d) ≡ true
+  pub keeps-marked : {d : Decoder} {l : List ℕ} (n : ℕ) → Keeps s d l → (n ≡ 8) ⊎ (n ≡ 9) → possibleWith s (withStop n d) ≡ true
   keeps-marked {d} {l} n k m = marked-possible d n (keeps-possible k) m
 
   -- the questions 3 to 6 are passed, and the turns follow
@@ -93,7 +93,7 @@ module _ (s : List ℕ) (short : length s ≤ longestStream) where
         mark = rw (k .mark) refl;
       })
 
-  pub waits-marked : {d : Decoder} (n : ℕ) → Waits s d → (n ≡ 8) ⊎ (n ≡ 9) → possibleWith s (stopAs n d) ≡ true
+  pub waits-marked : {d : Decoder} (n : ℕ) → Waits s d → (n ≡ 8) ⊎ (n ≡ 9) → possibleWith s (withStop n d) ≡ true
   waits-marked {d} n k m = marked-possible d n (waits-possible k) m
 
   pub waits-call : (d : Decoder) (l : List ℕ) → Waits s d → decode d s l ≡ afterChecks s d l (checkStore d l (checkHeader s d))
@@ -147,9 +147,9 @@ header-number (after-5 e f g) = omega arith
 module _ (s : List ℕ) (short : length s ≤ longestStream) (bytes : (k : ℕ) → getD s k 0 < 256) where
   -- the turns from x, m on, in a call that was given d
   ended-on : (d x : Decoder) (m : List ℕ) (n : ℕ) (e : LoopEnd) → (k : Keeps s x m) → n ≡ frames (x .state)
-      → ((i : ℕ) → (i ≡ 8) ⊎ (i ≡ 9) → possibleWith s (stopAs i d) ≡ true)
+      → ((i : ℕ) → (i ≡ 8) ⊎ (i ≡ 9) → possibleWith s (withStop i d) ≡ true)
       → EndsFrom s short bytes x k (frames (x .state)) e
-      → Between s (stateAfter (callResultOf d x e)) (n + pictureIn (callResultOf d x e .answer))
+      → Between s (stateAfter (callResultOf d x e)) (n + picturesOfOutcome (callResultOf d x e .answer))
   unfolding callResultOf
   ended-on d x m n (finished (H.Picture i) y) k q p (hands j e) = live (keeps-resumed k j) (omega arith)
   ended-on d x m n (finished (H.Picture i) y) k q p (flushes j e u) = stuck (keeps-resumed k j) u (omega arith)
@@ -165,10 +165,10 @@ module _ (s : List ℕ) (short : length s ≤ longestStream) (bytes : (k : ℕ) 
   ended-seven d x m n (aborted i o) k (stops e) h = not-seven e (ap decodeErrorCode h)
 
   abbrev Onward : ℕ → CallResult Outcome → Type 0
-  Onward n r = Between s (stateAfter r) (n + pictureIn (r .answer)) × (r .answer ≡ H.Refused 7 → Resting s (stateAfter r))
+  Onward n r = Between s (stateAfter r) (n + picturesOfOutcome (r .answer)) × (r .answer ≡ H.Refused 7 → Resting s (stateAfter r))
 
   steps-on : (d x : Decoder) (m : List ℕ) (n : ℕ) → Keeps s x m → n ≡ frames (x .state)
-      → ((i : ℕ) → (i ≡ 8) ⊎ (i ≡ 9) → possibleWith s (stopAs i d) ≡ true)
+      → ((i : ℕ) → (i ≡ 8) ⊎ (i ≡ 9) → possibleWith s (withStop i d) ≡ true)
       → Onward n (callResultOf d x (pictures s (x .sequence .sizes) (x .sequence .matrices) (decodingStateOf x m)))
   steps-on d x m n k q p =
       let e = pictures s (x .sequence .sizes) (x .sequence .matrices) (decodingStateOf x m) in
@@ -243,11 +243,11 @@ module _ (s : List ℕ) (short : length s ≤ longestStream) (bytes : (k : ℕ) 
     sized : Sized (y .sequence .sizes)
     keeps : KeepsAt s (y .sequence .sizes) (startState (x .decoder) y (x .store))
 
-  begun : {x : CallState} {n : ℕ} → Between s x n → ComesToPictures (x .decoder) s (x .store) → Begun x (withHeaderRead s (x .decoder))
+  begun : {x : CallState} {n : ℕ} → Between s x n → ComesToPictures (x .decoder) s (x .store) → Begun x (withHeaderIfMissing s (x .decoder))
   unfolding startState
   begun {x} (waiting k q) c =
       let d = x .decoder in
-      let y = withHeaderRead s d in
+      let y = withHeaderIfMissing s d in
       let j = passed-keeps d y (x .store) (checkHeader s d) (header-accepts k short) (sym (checks-header d (x .store) (k .header)) ∙ c .header) in
       record { sized = keeps-sized j; keeps = subst (KeepsAt s (y .sequence .sizes)) (sym (begun-clears d y (x .store) (k .header))) (j .step) }
   begun {x} (live k q) c = rw (k .header) (record { sized = keeps-sized k; keeps = k .step })
@@ -258,15 +258,16 @@ module _ (s : List ℕ) (short : length s ≤ longestStream) (bytes : (k : ℕ) 
 
   -- RULES 8.3: the exact end of the bits stands for no second picture
   pub turn-followed : {x : CallState} {n : ℕ} → Between s x n → ComesToPictures (x .decoder) s (x .store) → (g : DecodingState)
-      → InCall (x .decoder) s (x .store) g → isPictureReady s (atPicture s g .state) ≡ true → PictureAhead s (position (atPicture s g .state))
+      → StepOfCall (x .decoder) s (x .store) g → isPictureReady s (afterPictureSearch s g .state) ≡ true
+      → PictureAhead s (position (afterPictureSearch s g .state))
   turn-followed {x} b c g i r = second-code s {z = z} g short (go i) r
     where
-      k : Begun x (withHeaderRead s (x .decoder))
+      k : Begun x (withHeaderIfMissing s (x .decoder))
       k = begun b c
 
       z : Sizes
-      z = withHeaderRead s (x .decoder) .sequence .sizes
+      z = withHeaderIfMissing s (x .decoder) .sequence .sizes
 
-      go : {g : DecodingState} → InCall (x .decoder) s (x .store) g → KeepsAt s z g
-      go in-the-first = k .keeps
-      go (in-the-second e) = step-row s z _ short bytes (k .sized) _ (k .keeps) _ refl _ e .0
+      go : {g : DecodingState} → StepOfCall (x .decoder) s (x .store) g → KeepsAt s z g
+      go first-step = k .keeps
+      go (second-step e) = step-row s z _ short bytes (k .sized) _ (k .keeps) _ refl _ e .0

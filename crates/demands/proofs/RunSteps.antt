@@ -11,7 +11,7 @@ use borrow.Author.Tests.{leb-true}
 use Rattle.laws.specs.Loops.{Step, finish}
 use Rattle.laws.proofs.Tests.{both}
 use Rattle.bits.specs.Bounds.{longestStream}
-use Rattle.bits.specs.Programs.{Out, run, eqZ, findStartCode}
+use Rattle.bits.specs.Programs.{RunResult, run, eqZ, findStartCode}
 use Rattle.bits.proofs.Start.{isCode}
 use Rattle.bits.proofs.Programs.{run-most}
 use Rattle.codes.proofs.Bounds.{bounded-of, bounded-by}
@@ -27,15 +27,15 @@ use Rattle.playback.specs.declared.state.State.{State}
 use Rattle.playback.specs.State.{position, startCode, frames, stateAfterPicture, hasReferenceFrameAs}
 use Rattle.playback.specs.Search.{nextPicture, hasEnded, isFollowed}
 use Rattle.playback.specs.Display.{counted, isWaiting}
-use Rattle.playback.specs.Steps.{DecodingState, withState, LoopEnd, finished, aborted, pictureStateOf, atPicture, pictureRun, pictureStep, pictures}
+use Rattle.playback.specs.Steps.{DecodingState, withState, LoopEnd, finished, aborted, pictureStateOf, afterPictureSearch, pictureRun, pictureStep, pictures}
 use Rattle.playback.specs.Cases.{isPictureReady, isFlush, ReadsPicture, stateLeftBy, b-picture, reference-picture, flushed-picture, StepCase, outputs}
 use Rattle.playback.specs.Cases.{keeps-reference}
-use Rattle.playback.specs.Cases.{aborts, is-seven}
+use Rattle.playback.specs.Cases.{aborts, no-picture}
 use Rattle.playback.proofs.Searches.{Barren, Sought, hit, miss, sought}
 use Rattle.playback.proofs.Next.{Next, has, finds, fails, next-is, next-has, next-barren}
 use Rattle.playback.proofs.Cases.{picture-step-is, step-seven}
 use Rattle.playback.proofs.TwoSteps.{Each, by-steps}
-use Rattle.demands.specs.Codes.{PictureAhead, picture-at}
+use Rattle.demands.specs.StartCodes.{PictureAhead, picture-at}
 use Rattle.demands.proofs.Codes.{SearchEnd, with-code, with-none, search-end}
 use Rattle.demands.proofs.Keeps.{KeepsAt, keeps-counted, keeps-held, keeps-searched, Sized}
 use Rattle.demands.proofs.Rows.{cause-number}
@@ -59,7 +59,7 @@ data Behind (s : List ℕ) (x : State) : Type 0 where
   at-end : startCode x ≡ negsuc 0 → Barren s (position x) → Behind s x
 
 search-row : (s : List ℕ) {z : Sizes} (x : DecodingState) → length s ≤ longestStream → KeepsAt s z x
-    → KeepsAt s z (atPicture s x) × Behind s (nextPicture s (x .state)) × (frames (nextPicture s (x .state)) ≡ frames (x .state))
+    → KeepsAt s z (afterPictureSearch s x) × Behind s (nextPicture s (x .state)) × (frames (nextPicture s (x .state)) ≡ frames (x .state))
 search-row s {z} x short k = go (next-is s (x .state) short (k .inside))
   where
     go : {y : State} → Next s (x .state) y → KeepsAt s z (withState y x) × Behind s y × (frames y ≡ frames (x .state))
@@ -75,7 +75,7 @@ followed : (s : List ℕ) (a : ℕ) → length s ≤ longestStream → a < lengt
 unfolding isFollowed
 followed s a short h = go (run (findStartCode (pos 0)) s a) (sought (pos 0) s a short)
   where
-    go : (o : Out ℤ) → Sought (pos 0) s a o → (not (eqZ (o .value) (negsuc 0)) || hasEnded s a) ≡ true → a + 40 ≤ length s * 8
+    go : (o : RunResult ℤ) → Sought (pos 0) s a o → (not (eqZ (o .value) (negsuc 0)) || hasEnded s a) ≡ true → a + 40 ≤ length s * 8
     go o (hit x y z) f = omega arith
     go o (miss x y) f = let e = leb-true (length s * 8) a (rw x at f) in omega arith
 
@@ -87,26 +87,27 @@ there s x short k (at-code c) i =
 there s x short k (at-end c b) i = no-code s (x .state) c i
 
 -- RULES 8.3: before a picture start code that the search leaves bits are left, so a second one is found where the picture is ready
-pub second-code : (s : List ℕ) {z : Sizes} (x : DecodingState) → length s ≤ longestStream → KeepsAt s z x → isPictureReady s (atPicture s x .state) ≡ true
-    → PictureAhead s (position (atPicture s x .state))
+pub second-code : (s : List ℕ) {z : Sizes} (x : DecodingState) → length s ≤ longestStream → KeepsAt s z x
+    → isPictureReady s (afterPictureSearch s x .state) ≡ true
+    → PictureAhead s (position (afterPictureSearch s x .state))
 unfolding isFollowed
 second-code s {z} x short k i = go (row .1)
   where
-    row : KeepsAt s z (atPicture s x) × Behind s (nextPicture s (x .state)) × (frames (nextPicture s (x .state)) ≡ frames (x .state))
+    row : KeepsAt s z (afterPictureSearch s x) × Behind s (nextPicture s (x .state)) × (frames (nextPicture s (x .state)) ≡ frames (x .state))
     row = search-row s x short k
 
     a : ℕ
-    a = position (atPicture s x .state)
+    a = position (afterPictureSearch s x .state)
 
-    ahead : a < length s * 8 → (o : Out ℤ) → SearchEnd s 0 a o → (not (eqZ (o .value) (negsuc 0)) || hasEnded s a) ≡ true → PictureAhead s a
+    ahead : a < length s * 8 → (o : RunResult ℤ) → SearchEnd s 0 a o → (not (eqZ (o .value) (negsuc 0)) || hasEnded s a) ≡ true → PictureAhead s a
     ahead h o (with-code v c) f = picture-at c
     ahead h o (with-none v c) f = let e = leb-true (length s * 8) a (rw v at f) in let no : ⊥ = omega arith in absurd no
 
     go : Behind s (nextPicture s (x .state)) → PictureAhead s a
     go (at-code c) =
         ahead (row .0 .ahead c) (run (findStartCode (pos 0)) s a) (search-end s 0 a short)
-        (both (not (eqZ (startCode (atPicture s x .state)) (negsuc 0))) (isFollowed s a) i .1)
-    go (at-end c b) = no-code s (atPicture s x .state) c i
+        (both (not (eqZ (startCode (afterPictureSearch s x .state)) (negsuc 0))) (isFollowed s a) i .1)
+    go (at-end c b) = no-code s (afterPictureSearch s x .state) c i
 
 -- ---- a turn
 
@@ -124,7 +125,7 @@ module _ (s : List ℕ) (z : Sizes) (m : Matrices) (short : length s ≤ longest
 
   module _ (x : DecodingState) (k : KeepsAt s z x) (b : Behind s (x .state)) where
     -- what is known of a picture's run
-    record Ran (o : Out (Result Stop PictureState)) : Type 0 where
+    record Ran (o : RunResult (Result Stop PictureState)) : Type 0 where
       kept : Kept.Ends (length (x .store)) (Kept.StaysPossible (x .store)) (o .value)
       ahead : Ahead s (o .at) (o .value)
       past : position (x .state) + 29 ≤ o .at
@@ -185,14 +186,14 @@ module _ (s : List ℕ) (z : Sizes) (m : Matrices) (short : length s ≤ longest
     case-row (outputs (flushed-picture i u)) = flushes (keeps-held x k false) refl (flush-row i u)
     case-row (keeps-reference {f} {a} i r e h) = (keeps-held (stateLeftBy f (stateAfterPicture f a (x .state))) (read-row i r .0) true, refl)
     case-row (aborts {e = e} i r) = stops (cause-number (e .cause) refl)
-    case-row (is-seven i u) = seven k refl (seven-row i u)
+    case-row (no-picture i u) = seven k refl (seven-row i u)
 
   pub step-row : (x : DecodingState) → KeepsAt s z x → (n : ℕ) → frames (x .state) ≡ n → (t : Step DecodingState LoopEnd) → pictureStep s z m x ≡ t
       → Each (Goes n) (Ends n) t
   step-row x k n q t e =
       let h = search-row s x short k in
       subst (λ (n : ℕ). Each (Goes n) (Ends n) t) (h .2 ∙ q)
-      (case-row (atPicture s x) (h .0) (h .1) (subst (StepCase s z m (atPicture s x)) e (picture-step-is s z m x)))
+      (case-row (afterPictureSearch s x) (h .0) (h .1) (subst (StepCase s z m (afterPictureSearch s x)) e (picture-step-is s z m x)))
 
   pub pictures-row : (x : DecodingState) → KeepsAt s z x → Ends (frames (x .state)) (pictures s z m x)
   pictures-row x k =

@@ -15,7 +15,7 @@ use Rattle.bits.proofs.Bits.{bits-lt}
 use Rattle.bits.proofs.Programs.{run-most}
 use Rattle.laws.proofs.Tests.{by-case}
 use Rattle.picture_state.specs.declared.types.{Sizes.Sizes, Picture.Picture}
-use Rattle.picture_state.specs.State.{storesAs, firstStores}
+use Rattle.picture_state.specs.State.{withStores, firstStores}
 use Rattle.codes.specs.Matrices.{bounded}
 use Rattle.picture_state.specs.Possible.{possiblePicture}
 use Rattle.picture_state.proofs.Possible.{stores-of, picture-of, picture-by}
@@ -25,12 +25,12 @@ use Rattle.playback.specs.declared.state.State.{State}
 use Rattle.playback.specs.State as S
 use Rattle.playback.specs.State.{hasReferenceFrame, frames, freshState, possibleDisplay}
 use Rattle.playback.proofs.Displays.{timed-possible}
-use Rattle.playback.specs.Search.{nextCode}
+use Rattle.playback.specs.Search.{ensureStartCode}
 use Rattle.decoder.specs.declared.record.Decoder.{Decoder}
-use Rattle.decoder.specs.Record.{fresh, position, startCode, searchedAs, storeBytes}
+use Rattle.decoder.specs.Record.{fresh, position, startCode, withSearchResult, storeBytes}
 use Rattle.decoder.specs.Headers.{CheckResult, refused, passed, findSequence, accepted, checkSize, checkHeader}
 use Rattle.decoder.proofs.Starts.{fresh-starts}
-use Rattle.demands.specs.After.{had-it, found-it}
+use Rattle.demands.specs.After.{already-there, found-by-search}
 use Rattle.demands.proofs.AfterHeader.{Finds, a-code, no-code, find-sequence, at-code}
 use Rattle.demands.proofs.Keeps.{Keeps, code-possible}
 
@@ -73,7 +73,7 @@ waits-sequence {s} {d} k = rw (le-leb (d .sequence .width) 4095 (k .width), le-l
 -- ---- the search
 
 module _ {s : List ℕ} {d : Decoder} (k : Waits s d) where
-  searched-waits : (c : ℤ) (e : ℕ) → possiblePicture (searchedAs c e d .state .picture) ≡ true → e ≤ length s * 8 → Waits s (searchedAs c e d)
+  searched-waits : (c : ℤ) (e : ℕ) → possiblePicture (withSearchResult c e d .state .picture) ≡ true → e ≤ length s * 8 → Waits s (withSearchResult c e d)
   searched-waits c e h m = record {
     header = k .header;
     width = k .width;
@@ -89,14 +89,14 @@ module _ {s : List ℕ} {d : Decoder} (k : Waits s d) where
   }
 
   find-inside : position (findSequence s d) ≤ length s * 8
-  unfolding findSequence nextCode
+  unfolding findSequence ensureStartCode
   find-inside =
       by-case (λ (x : State). S.position x ≤ length s * 8) (eqZ (startCode d) (pos 0xb3)) (λ e. k .inside)
       (λ e. run-most (findStartCode (pos 0xb3)) s (position d) (length s) (k .inside) (omega arith))
 
   found-waits : {x : Decoder} → Finds s d x → position x ≤ length s * 8 → Waits s x
-  found-waits (a-code (had-it e)) i = k
-  found-waits (a-code (found-it n c)) i = searched-waits (pos 0xb3) _ (code-possible (pos 0xb3) (d .state .picture) refl (k .picture)) i
+  found-waits (a-code (already-there e)) i = k
+  found-waits (a-code (found-by-search n c)) i = searched-waits (pos 0xb3) _ (code-possible (pos 0xb3) (d .state .picture) refl (k .picture)) i
   found-waits (no-code n c) i = searched-waits (negsuc 0) _ (code-possible (negsuc 0) (d .state .picture) refl (k .picture)) i
 
 -- ---- width and height: numbers of 12 bits (RULES O.3)
@@ -133,10 +133,10 @@ abbrev pub Accepts : List ℕ → CheckResult → Type 0
 Accepts s (refused n x) = Waits s x
 Accepts s (passed x) = Accepted s x
 
-first-stores : (p : Picture) → possiblePicture p ≡ true → possiblePicture (storesAs firstStores p) ≡ true
+first-stores : (p : Picture) → possiblePicture p ≡ true → possiblePicture (withStores firstStores p) ≡ true
 first-stores p h =
     let x = picture-of p h in
-    picture-by {p = storesAs firstStores p} (record { type = x .type; code = x .code; stores = stores-of firstStores refl; slice = x .slice })
+    picture-by {p = withStores firstStores p} (record { type = x .type; code = x .code; stores = stores-of firstStores refl; slice = x .slice })
 
 size-accepts : {s : List ℕ} {d : Decoder} → Waits s d → startCode d ≡ pos 0xb3 → Accepts s (checkSize s d)
 unfolding checkSize accepted

@@ -14,7 +14,7 @@ use Rattle.picture_state.specs.Result.{Result, ok, error}
 use Rattle.picture_state.specs.Stop.{Stop}
 use Rattle.picture.specs.Pictures.{PictureState, pictureHeader, isDecoded}
 use Rattle.playback.specs.State.{position}
-use Rattle.playback.specs.Steps.{DecodingState, atPicture, pictureRun, pictureStep}
+use Rattle.playback.specs.Steps.{DecodingState, afterPictureSearch, pictureRun, pictureStep}
 use Rattle.playback.specs.Cases.{isPictureReady, isB}
 use Rattle.decoder.specs.declared.record.Decoder.{Decoder}
 use Rattle.playback.specs.declared.outcome.Outcome.{Outcome}
@@ -74,7 +74,7 @@ stepReads s z m x = if isPictureReady s (x .state) then codedPictureBy s z x (pi
 -- RULES 8.7: in one turn, or two
 unfoldable pub picturesRead : List ℕ → Sizes → Matrices → DecodingState → List CodedPicture
 picturesRead s z m x =
-    stepReads s z m (atPicture s x) ++ (elim (pictureStep s z m x) [ continue y ↦ stepReads s z m (atPicture s y) | finish e ↦ [] ])
+    stepReads s z m (afterPictureSearch s x) ++ (elim (pictureStep s z m x) [ continue y ↦ stepReads s z m (afterPictureSearch s y) | finish e ↦ [] ])
 
 abbrev pub checkedReads : List ℕ → Decoder → List ℕ → CheckResult → List CodedPicture
 checkedReads s d l (refused n x) = []

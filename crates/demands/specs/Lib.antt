@@ -1,10 +1,10 @@
 pub mod Calls
 pub mod Checks
-pub mod Codes
+pub mod StartCodes
 pub mod After
 pub mod Stores
-pub mod Rows
+pub mod AfterErrors
 pub mod Outputs
 pub mod ErrorCodes
-pub mod Lines
+pub mod ListingForm
 pub mod Display

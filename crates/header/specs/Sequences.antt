@@ -9,7 +9,7 @@ use Rattle.codes.specs.Matrices.{zigZag, intraQuantMatrix, nonIntraQuantMatrix}
 use Rattle.codes.specs.Rates.{pixelAspectRatio, pictureRate}
 use Rattle.picture_state.specs.declared.types.Matrices.{Matrices}
 use Rattle.header.specs.declared.sequences.RestRead.{RestRead}
-use Rattle.header.specs.State.{noTime}
+use Rattle.header.specs.State.{zeroFloat}
 
 -- 8 bits: the entry of a matrix with this number in zig-zag order
 abbrev pub entry : ℕ → List ℕ → Prog (List ℕ)
@@ -83,8 +83,8 @@ restOf r = record {
 
 -- RULES 2.8: code 0 gives what 1 gives, and 15 what 14 gives
 abbrev pub aspectOf : ℕ → Float
-aspectOf code = getD pixelAspectRatio (min (code - 1) 13) noTime
+aspectOf code = getD pixelAspectRatio (min (code - 1) 13) zeroFloat
 
 -- RULES 2.9
 abbrev pub rateOf : ℕ → Float
-rateOf code = getD pictureRate code noTime
+rateOf code = getD pictureRate code zeroFloat

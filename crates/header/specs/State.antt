@@ -15,5 +15,5 @@ freshSequence = record {
 }
 
 -- 0.0
-abbrev pub noTime : Float
-noTime = ofInt binary64 (pos 0)
+abbrev pub zeroFloat : Float
+zeroFloat = ofInt binary64 (pos 0)

@@ -8,7 +8,7 @@ use codes::rates::pixel_aspect_ratio;
 use picture_state::types::Matrices;
 ghost use mathlib.Core.Path.{_≡_};
 ghost use Prim.Native.Nat.{_≤_, _<_};
-ghost use Rattle.bits.specs.Runs.{Inside, Reading};
+ghost use Rattle.bits.specs.Runs.{ReaderInBounds, RunsInBounds};
 ghost use Rattle.header.specs.Sequences as Header;
 
 pub struct MatrixRead {
@@ -36,8 +36,8 @@ pub struct RestRead {
 
 // 64 bytes in zig-zag order.
 fn read_entries(s: &[u8], reader: Reader) -> MatrixRead
-    requires { ⌜ Inside (now s) reader ⌝ }
-    ensures { λ r. ⌜ Reading Header.entries (now (s .entry)) reader (r .matrix) (r .reader) ⌝ }
+    requires { ⌜ ReaderInBounds (now s) reader ⌝ }
+    ensures { λ r. ⌜ RunsInBounds Header.entries (now (s .entry)) reader (r .matrix) (r .reader) ⌝ }
 {
     let order = zig_zag();
     let mut matrix = [0u8; 64];
@@ -55,8 +55,8 @@ fn read_entries(s: &[u8], reader: Reader) -> MatrixRead
 
 // One bit: if 1, a matrix of 64 bytes, else the default one.
 fn read_matrix(s: &[u8], reader: Reader, default: [u8; 64]) -> MatrixRead
-    requires { ⌜ Inside (now s) reader ⌝ }
-    ensures { λ r. ⌜ Reading (Header.matrix default) (now (s .entry)) reader (r .matrix) (r .reader) ⌝ }
+    requires { ⌜ ReaderInBounds (now s) reader ⌝ }
+    ensures { λ r. ⌜ RunsInBounds (Header.matrix default) (now (s .entry)) reader (r .matrix) (r .reader) ⌝ }
 {
     let loaded = reader.read_bit(s);
     let after = loaded.reader;
@@ -70,8 +70,8 @@ fn read_matrix(s: &[u8], reader: Reader, default: [u8; 64]) -> MatrixRead
 }
 
 pub fn read_size(s: &[u8], reader: Reader) -> SizeRead
-    requires { ⌜ Inside (now s) reader ⌝ }
-    ensures { λ r. ⌜ Reading Header.size (now (s .entry)) reader (record { width = r .width; height = r .height }) (r .reader) ⌝ }
+    requires { ⌜ ReaderInBounds (now s) reader ⌝ }
+    ensures { λ r. ⌜ RunsInBounds Header.size (now (s .entry)) reader (record { width = r .width; height = r .height }) (r .reader) ⌝ }
     ensures { λ r. ⌜ (r .width ≤ 4095) × (r .height ≤ 4095) ⌝ }
 {
     let first = reader.read(s, 12);
@@ -87,8 +87,8 @@ pub fn read_size(s: &[u8], reader: Reader) -> SizeRead
 }
 
 pub fn read_rest(s: &[u8], reader: Reader) -> RestRead
-    requires { ⌜ Inside (now s) reader ⌝ }
-    ensures { λ r. ⌜ Reading Header.rest (now (s .entry)) reader (Header.restOf r) (r .reader) ⌝ }
+    requires { ⌜ ReaderInBounds (now s) reader ⌝ }
+    ensures { λ r. ⌜ RunsInBounds Header.rest (now (s .entry)) reader (Header.restOf r) (r .reader) ⌝ }
     ensures { λ r. ⌜ r .«picture_rate» < 16 ⌝ }
 {
     let first = reader.read(s, 4);

@@ -24,7 +24,7 @@ use Rattle.demands.specs.ErrorCodes.{member, conversionErrorCodes}
 use Rattle.demands.proofs.Demand1 as D1
 use Rattle.demands.proofs.Demand2 as D2
 use Rattle.memory.specs.Memory.{Memory, recordOf, isRecord}
-use Rattle.mpeg1.specs.Calls.{Converts, converts, convertsIn, HostConverts}
+use Rattle.mpeg1.specs.Calls.{Converts, converts, hostConvert, HostConverts}
 use Rattle.host_demands.specs.Checks.{hostConversionErrorCodes, hostConversionChecks}
 
 member-named : (o : Converted) → ((n : ℕ) → o ≡ C.Refused n → member n conversionErrorCodes ≡ true)
@@ -53,7 +53,7 @@ module _ (l : List ℕ) (x : Memory) (k : ℕ) (a : List ℕ) (w h : ℕ) (y : C
     asked : isRecord x ≡ true → y ≡ converts (conversionErrorCode answer) area → Case
 
   case : Case
-  unfolding convertsIn
+  unfolding hostConvert
   case = by-case (λ z. y ≡ z → Case) (not (isRecord x)) (λ e q. no-record (not-true (isRecord x) e) q) (λ e q. asked (not-false (isRecord x) e) q) gave
 
   code : {n : ℕ} → y ≡ converts (conversionErrorCode answer) area → y .answer ≡ n → conversionErrorCode answer ≡ n

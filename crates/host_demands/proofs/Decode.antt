@@ -19,10 +19,10 @@ use Rattle.decoder.specs.Record.{CallResult, storeBytes}
 use Rattle.decoder.specs.Answers.{decodeErrorCode}
 use Rattle.decoder.specs.Possible.{possible}
 use Rattle.decoder.specs.Decode.{decode}
-use Rattle.demands.specs.Checks.{firstFailing, withHeaderRead}
+use Rattle.demands.specs.Checks.{firstFailing, withHeaderIfMissing}
 use Rattle.demands.specs.ErrorCodes.{member, decodeErrorCodes}
 use Rattle.demands.specs.Outputs.{DecodeOutputs}
-use Rattle.demands.specs.Rows.{Row3, Row4, Row5, Row7, Row89}
+use Rattle.demands.specs.AfterErrors.{AfterError3, AfterError4, AfterError5, AfterError7, AfterError8Or9}
 use Rattle.demands.specs.Stores.{SameFrom}
 use Rattle.demands.proofs.Demand1 as D1
 use Rattle.demands.proofs.Demand2 as D2
@@ -30,7 +30,7 @@ use Rattle.demands.proofs.ErrorCodes.{positive}
 use Rattle.demands.proofs.Reached.{same-from}
 use Rattle.memory.specs.Memory.{Memory, over, written, recordOf, isRecord}
 use Rattle.memory.proofs.WriteBack.{written-back}
-use Rattle.mpeg1.specs.Calls.{HostOutput, hostOutput, hostResult, saved, pictureNumbers, pictureCount, decodeOutput, decodesIn, HostDecodes}
+use Rattle.mpeg1.specs.Calls.{HostOutput, hostOutput, hostResult, saved, pictureNumbers, pictureCount, decodeOutput, hostDecode, HostDecodes}
 use Rattle.host_demands.specs.Leaves.{Leaves, SameBehind, unchanged, Untold, Tells}
 use Rattle.host_demands.specs.Checks.{hostDecodeErrorCodes, hostDecodeChecks}
 use Rattle.host_demands.proofs.Behind.{same-behind, left-behind}
@@ -64,7 +64,7 @@ module _ (s l : List ℕ) (x : Memory) (k : List ℕ) (t : Float) (y : HostOutpu
     asked : Asked → Case
 
   case : Case
-  unfolding decodesIn
+  unfolding hostDecode
   case =
       by-case (λ z. y ≡ z → Case) (not (leb (length s) longestStream)) (λ e q. too-long (not-true (leb (length s) longestStream) e) q) (λ e.
       let short = not-false (leb (length s) longestStream) e in
@@ -191,43 +191,43 @@ module _ (s l : List ℕ) (x : Memory) (k : List ℕ) (t : Float) (y : HostOutpu
           let row = D1.decode-2 d s l decoded store refl (w .code) in (inr (row .0), same w (row .1) (row .2))
 
   -- the store stays, and nothing is told of a picture
-  pub host-decode-3 : y .kept .answer ≡ 3 → Leaves (Row3 s (recordOf x)) x (y .kept .memory) × (y .kept .store ≡ l) × Untold k t y
+  pub host-decode-3 : y .kept .answer ≡ 3 → Leaves (AfterError3 s (recordOf x)) x (y .kept .memory) × (y .kept .store ≡ l) × Untold k t y
   host-decode-3 e =
       let w = own 3 e (omega arith) in
-      let row = D1.decode-3 d s l decoded store refl (w .code) in (leaves (Row3 s d) w (row .1), stored w ∙ row .2, untold w)
+      let row = D1.decode-3 d s l decoded store refl (w .code) in (leaves (AfterError3 s d) w (row .1), stored w ∙ row .2, untold w)
 
-  pub host-decode-4 : y .kept .answer ≡ 4 → Leaves (Row4 s (recordOf x)) x (y .kept .memory) × (y .kept .store ≡ l) × Untold k t y
+  pub host-decode-4 : y .kept .answer ≡ 4 → Leaves (AfterError4 s (recordOf x)) x (y .kept .memory) × (y .kept .store ≡ l) × Untold k t y
   host-decode-4 e =
       let w = own 4 e (omega arith) in
-      let row = D1.decode-4 d s l decoded store refl (w .code) in (leaves (Row4 s d) w (row .1), stored w ∙ row .2, untold w)
+      let row = D1.decode-4 d s l decoded store refl (w .code) in (leaves (AfterError4 s d) w (row .1), stored w ∙ row .2, untold w)
 
-  pub host-decode-5 : y .kept .answer ≡ 5 → Leaves (Row5 s (recordOf x)) x (y .kept .memory) × (y .kept .store ≡ l) × Untold k t y
+  pub host-decode-5 : y .kept .answer ≡ 5 → Leaves (AfterError5 s (recordOf x)) x (y .kept .memory) × (y .kept .store ≡ l) × Untold k t y
   host-decode-5 e =
       let w = own 5 e (omega arith) in
-      let row = D1.decode-5 d s l decoded store refl (w .code) in (leaves (Row5 s d) w (row .1), stored w ∙ row .2, untold w)
+      let row = D1.decode-5 d s l decoded store refl (w .code) in (leaves (AfterError5 s d) w (row .1), stored w ∙ row .2, untold w)
 
   -- nothing is changed
-  pub host-decode-6 : y .kept .answer ≡ 6 → (length l < storeBytes (withHeaderRead s (recordOf x))) × (y ≡ unchanged 6 l x k t)
+  pub host-decode-6 : y .kept .answer ≡ 6 → (length l < storeBytes (withHeaderIfMissing s (recordOf x))) × (y ≡ unchanged 6 l x k t)
   host-decode-6 e =
       let w = own 6 e (omega arith) in
       let row = D1.decode-6 d s l decoded store refl (w .code) in (row .short, same w (row .decoder) (row .store))
 
-  pub host-decode-7 : y .kept .answer ≡ 7 → Leaves (λ r. Row7 (recordOf x) s l r (y .kept .store)) x (y .kept .memory) × Untold k t y
+  pub host-decode-7 : y .kept .answer ≡ 7 → Leaves (λ r. AfterError7 (recordOf x) s l r (y .kept .store)) x (y .kept .memory) × Untold k t y
   host-decode-7 e =
       let w = own 7 e (omega arith) in
       let row = D1.decode-7 d s l decoded store refl (w .code) in
-      (leaves (λ r. Row7 d s l r (y .kept .store)) w (subst (Row7 d s l (decode d s l .decoder)) (sym (stored w)) row), untold w)
+      (leaves (λ r. AfterError7 d s l r (y .kept .store)) w (subst (AfterError7 d s l (decode d s l .decoder)) (sym (stored w)) row), untold w)
 
   -- QA: for the stop mark nothing is changed
   abbrev Stopped : ℕ → Type 0
   Stopped n =
       ((recordOf x .stop ≡ n) × (y ≡ unchanged n l x k t))
-      ⊎ (Leaves (λ r. Row89 (recordOf x) s l n r (y .kept .store)) x (y .kept .memory) × Untold k t y)
+      ⊎ (Leaves (λ r. AfterError8Or9 (recordOf x) s l n r (y .kept .store)) x (y .kept .memory) × Untold k t y)
 
-  stopped : (n : ℕ) → Refused n → ((d .stop ≡ n) × (decode d s l .decoder ≡ d) × (store ≡ l)) ⊎ Row89 d s l n (decode d s l .decoder) store → Stopped n
+  stopped : (n : ℕ) → Refused n → ((d .stop ≡ n) × (decode d s l .decoder ≡ d) × (store ≡ l)) ⊎ AfterError8Or9 d s l n (decode d s l .decoder) store → Stopped n
   stopped n w (inl m) = inl (m .0, same w (m .1) (m .2))
   stopped n w (inr m) =
-      inr (leaves (λ r. Row89 d s l n r (y .kept .store)) w (subst (Row89 d s l n (decode d s l .decoder)) (sym (stored w)) m), untold w)
+      inr (leaves (λ r. AfterError8Or9 d s l n r (y .kept .store)) w (subst (AfterError8Or9 d s l n (decode d s l .decoder)) (sym (stored w)) m), untold w)
 
   pub host-decode-8 : y .kept .answer ≡ 8 → Stopped 8
   host-decode-8 e = let w = own 8 e (omega arith) in stopped 8 w (D1.decode-8 d s l decoded store refl (w .code))
@@ -236,14 +236,14 @@ module _ (s l : List ℕ) (x : Memory) (k : List ℕ) (t : Float) (y : HostOutpu
   host-decode-9 e = let w = own 9 e (omega arith) in stopped 9 w (D1.decode-9 d s l decoded store refl (w .code))
 
   -- D2.3: whatever the answer, what lies behind the record and behind 1,152 × macroblocks bytes of the store stays
-  pub host-decode-same : SameBehind x (y .kept .memory) × SameFrom (storeBytes (withHeaderRead s (recordOf x))) l (y .kept .store)
+  pub host-decode-same : SameBehind x (y .kept .memory) × SameFrom (storeBytes (withHeaderIfMissing s (recordOf x))) l (y .kept .store)
   host-decode-same = go case
     where
-      go : Case → SameBehind x (y .kept .memory) × SameFrom (storeBytes (withHeaderRead s (recordOf x))) l (y .kept .store)
+      go : Case → SameBehind x (y .kept .memory) × SameFrom (storeBytes (withHeaderIfMissing s (recordOf x))) l (y .kept .store)
       go (too-long u q) = rw q (same-behind, same-from)
       go (no-record u f q) = rw q (same-behind, same-from)
       go (asked a) =
           let same = D2.decode-same d s l decoded store refl in (
             left-behind (gave .held (a .held) (a .short) (a .room)) (ap (λ z. z .memory) (kept a)),
-            subst (SameFrom (storeBytes (withHeaderRead s d)) l) (sym (ap (λ z. z .store) (kept a))) same,
+            subst (SameFrom (storeBytes (withHeaderIfMissing s d)) l) (sym (ap (λ z. z .store) (kept a))) same,
           )

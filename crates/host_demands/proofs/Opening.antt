@@ -17,13 +17,13 @@ use Rattle.decoder.specs.Opening.{opening}
 use Rattle.demands.specs.Checks.{firstFailing, withHeader}
 use Rattle.demands.specs.ErrorCodes.{member, openingErrorCodes}
 use Rattle.demands.specs.Outputs.{OpeningLeaves}
-use Rattle.demands.specs.Rows.{Row3, Row4, Row5}
+use Rattle.demands.specs.AfterErrors.{AfterError3, AfterError4, AfterError5}
 use Rattle.demands.specs.Stores.{SameFrom}
 use Rattle.demands.proofs.Demand1 as D1
 use Rattle.demands.proofs.Demand2 as D2
 use Rattle.demands.proofs.Reached.{same-from}
 use Rattle.memory.specs.Memory.{Memory, written, hasRoom}
-use Rattle.mpeg1.specs.Calls.{HostResult, hostResult, saved, opensIn, HostOpens}
+use Rattle.mpeg1.specs.Calls.{HostResult, hostResult, saved, hostOpen, HostOpens}
 use Rattle.host_demands.specs.Leaves.{Leaves, SameBehind}
 use Rattle.host_demands.specs.Checks.{hostOpeningErrorCodes, hostOpeningChecks}
 use Rattle.host_demands.proofs.Behind.{same-behind, left-behind}
@@ -44,7 +44,7 @@ module _ (s l : List ℕ) (x : Memory) (y : HostResult) (gave : HostOpens s l x 
     asked : hasRoom x ≡ true → y ≡ saved (openingErrorCode (opening s l .answer)) (opening s l) x → Case
 
   case : Case
-  unfolding opensIn
+  unfolding hostOpen
   case =
       by-case (λ z. y ≡ z → Case) (not (hasRoom x)) (λ e q. no-room (not-true (hasRoom x) e) q) (λ e q. asked (not-false (hasRoom x) e) q) (gave .left)
 
@@ -123,20 +123,20 @@ module _ (s l : List ℕ) (x : Memory) (y : HostResult) (gave : HostOpens s l x 
           (false≢true
           (D1.open-named s l opened store refl 2 (refused 2 (opening s l .answer) (sym (ap (λ z. z .answer) q) ∙ e) (omega arith))))
 
-  pub host-open-3 : y .answer ≡ 3 → Leaves (Row3 s fresh) x (y .memory) × (y .store ≡ l)
+  pub host-open-3 : y .answer ≡ 3 → Leaves (AfterError3 s fresh) x (y .memory) × (y .store ≡ l)
   host-open-3 e =
       let w = own 3 e (λ f. omega arith) in
-      (leaves (Row3 s fresh) w (D1.open-3 s l opened store refl (own-refused w (omega arith))), stored w (omega arith))
+      (leaves (AfterError3 s fresh) w (D1.open-3 s l opened store refl (own-refused w (omega arith))), stored w (omega arith))
 
-  pub host-open-4 : y .answer ≡ 4 → Leaves (Row4 s fresh) x (y .memory) × (y .store ≡ l)
+  pub host-open-4 : y .answer ≡ 4 → Leaves (AfterError4 s fresh) x (y .memory) × (y .store ≡ l)
   host-open-4 e =
       let w = own 4 e (λ f. omega arith) in
-      (leaves (Row4 s fresh) w (D1.open-4 s l opened store refl (own-refused w (omega arith))), stored w (omega arith))
+      (leaves (AfterError4 s fresh) w (D1.open-4 s l opened store refl (own-refused w (omega arith))), stored w (omega arith))
 
-  pub host-open-5 : y .answer ≡ 5 → Leaves (Row5 s fresh) x (y .memory) × (y .store ≡ l)
+  pub host-open-5 : y .answer ≡ 5 → Leaves (AfterError5 s fresh) x (y .memory) × (y .store ≡ l)
   host-open-5 e =
       let w = own 5 e (λ f. omega arith) in
-      (leaves (Row5 s fresh) w (D1.open-5 s l opened store refl (own-refused w (omega arith))), stored w (omega arith))
+      (leaves (AfterError5 s fresh) w (D1.open-5 s l opened store refl (own-refused w (omega arith))), stored w (omega arith))
 
   pub host-open-6 : y .answer ≡ 6 → (length l < storeBytes (withHeader s fresh)) × Leaves (λ d. d ≡ fresh) x (y .memory) × (y .store ≡ l)
   host-open-6 e =

@@ -5,7 +5,7 @@ use Prim.Native.Nat.{ℕ}
 use lib.Dec.{leb}
 use lib.ListN.{length}
 use Rattle.demands.specs.ErrorCodes.{openingErrorCodes, decodeErrorCodes, conversionErrorCodes}
-use Rattle.demands.specs.Checks.{Check, check, isShort, openingChecks, decodeChecks, conversionChecks}
+use Rattle.demands.specs.Checks.{Check, check, checkStreamLength, openingChecks, decodeChecks, conversionChecks}
 use Rattle.memory.specs.Memory.{Memory, recordOf, hasRoom, isRecord}
 use Rattle.mpeg1.specs.Calls.{pictureCount}
 
@@ -27,7 +27,7 @@ hostOpeningChecks s l x = check 2 (hasRoom x) ∷ openingChecks s l
 
 -- question 1, then: does the memory hold a record, and is there room for a picture's numbers?
 abbrev pub hostDecodeChecks : List ℕ → List ℕ → Memory → List ℕ → List Check
-hostDecodeChecks s l x k = isShort s ∷ check 2 (isRecord x && leb pictureCount (length k)) ∷ decodeChecks (recordOf x) s l
+hostDecodeChecks s l x k = checkStreamLength s ∷ check 2 (isRecord x && leb pictureCount (length k)) ∷ decodeChecks (recordOf x) s l
 
 -- does the memory hold a record?
 abbrev pub hostConversionChecks : List ℕ → Memory → ℕ → List ℕ → ℕ → ℕ → List Check

@@ -12,7 +12,7 @@ use lib.Pow.{pow-pos, pow-add, shl-exact}
 use lib.Signed.{ltZ, nonNeg, quotZ}
 use mir.Syntax.{Width, w8}
 use mir.Val.{SFits, Fits, bits, hbits, toZ, ofZ}
-use Rattle.laws.specs.Signed.{clamp255, half0, odd}
+use Rattle.laws.specs.Signed.{clamp255, halfTowardZero, odd}
 use Rattle.laws.proofs.Ints.{Dif, up, dn, v, lit, neg, as-dif, at-dif, eq-by, lt-yes, lt-no, one-side, fits-by, fits-of, cast-by, parity}
 use Rattle.laws.proofs.Nums.{Num, num, read, write}
 
@@ -61,8 +61,8 @@ quot-fits {w} {z} m f =
     let b = fits-of (v z) f in
     fits-by (quot-dif z m) (omega (arith, one-side z, div-le-self (up z) m)) (omega (arith, one-side z, div-le-self (dn z) m))
 
-pub half-is : (z : ℤ) → quotZ z (pos 2) ≡ half0 z
-unfolding half0
+pub half-is : (z : ℤ) → quotZ z (pos 2) ≡ halfTowardZero z
+unfolding halfTowardZero
 half-is (pos n) = refl
 half-is (negsuc n) = refl
 

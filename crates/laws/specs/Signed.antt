@@ -10,9 +10,9 @@ clamp255 (pos n) = min n 255
 clamp255 (negsuc n) = 0
 
 -- half, rounded toward zero, as chroma vectors are halved (RULES 6.2): -3 gives -1
-unfoldable pub half0 : ℤ → ℤ
-half0 (pos n) = pos (n / 2)
-half0 (negsuc n) = negℤ (pos (suc n / 2))
+unfoldable pub halfTowardZero : ℤ → ℤ
+halfTowardZero (pos n) = pos (n / 2)
+halfTowardZero (negsuc n) = negℤ (pos (suc n / 2))
 
 -- is it odd? An odd vector component asks for a half-sample average (RULES 6.3)
 unfoldable pub odd : ℤ → Bool

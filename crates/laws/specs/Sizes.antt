@@ -9,5 +9,5 @@ pub record AtMost (n : ℕ) (size : ℕ → ℕ) (f : ℕ → ℤ) : Type 0 wher
   pub entry : (k : ℕ) → k < n → natAbs (f k) ≤ size k
 
 -- RULES 4.4, 6.13: 64 results, to each of which a byte can be added in 32 bits
-abbrev pub Narrow : List ℤ → Type 0
-Narrow s = AtMost 64 (λ k. 131072) (λ k. getD s k (pos 0))
+abbrev pub ResultsInBounds : List ℤ → Type 0
+ResultsInBounds s = AtMost 64 (λ k. 131072) (λ k. getD s k (pos 0))

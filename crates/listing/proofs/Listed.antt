@@ -6,7 +6,7 @@ use native.Mathlib.Omega.{arith}
 use borrow.Author.Tests.{le-leb, lt-leb}
 use lib.ListN.{length, getD, replicate}
 use Rattle.io.specs.Counts.{Counts}
-use Rattle.bits.specs.Programs.{many}
+use Rattle.bits.specs.Programs.{streamFuel}
 use Rattle.decoder.specs.declared.record.Decoder.{Decoder}
 use Rattle.playback.specs.declared.outcome.{Shown.Shown, Outcome.Outcome}
 use Rattle.decoder.specs.declared.answers.Opening.{Opening}
@@ -16,7 +16,7 @@ use Rattle.decoder.specs.Record.{CallResult, callResult}
 use Rattle.decoder.specs.Answers.{result, number, decodeAnswer}
 use Rattle.decoder.specs.Opening.{opening}
 use Rattle.decoder.specs.Decode.{decode}
-use Rattle.decoder.specs.Run.{callState, stateAfter, pictureIn}
+use Rattle.decoder.specs.Run.{callState, stateAfter, picturesOfOutcome}
 use Rattle.decoder.specs.Listing.{Line, line, linesFrom, linesOf, listing}
 use Rattle.demands.proofs.RunCall.{Between, call-on, few}
 use Rattle.demands.proofs.Run.{opening-begins}
@@ -81,19 +81,19 @@ pub record Listed (s page₀ : List ℕ) (at₀ : ℕ) (page : List ℕ) (at : �
   pub position : at ≤ 25 + 84 * n
   pub so-far : List ℕ
   pub wrote : Wrote page₀ at₀ so-far page at
-  pub whole : so-far ++ linesText (linesFrom (many - n) s n d l) ≡ linesText (listing s)
+  pub whole : so-far ++ linesText (linesFrom (streamFuel - n) s n d l) ≡ linesText (listing s)
 
 module _ {s page₀ : List ℕ} {at₀ : ℕ} {page : List ℕ} {at : ℕ} {l : List ℕ} {d : Decoder} {n : ℕ} (h : Listed s page₀ at₀ page at l d n) where
   -- RULES R.1
   pub listed-few : n ≤ 18079
   listed-few = let x = h .short in let y = few s (omega arith) (h .bytes) (h .run) in omega arith
 
-  more : many - n ≡ suc (many - (n + 1))
+  more : streamFuel - n ≡ suc (streamFuel - (n + 1))
   more = let f = listed-few in omega arith
 
-  following : (x : CallResult Outcome) → x ≡ decode d s l → h .so-far ++ linesText (lines (many - (n + 1)) n s x) ≡ linesText (listing s)
+  following : (x : CallResult Outcome) → x ≡ decode d s l → h .so-far ++ linesText (lines (streamFuel - (n + 1)) n s x) ≡ linesText (listing s)
   following x q =
-      ap (λ (k : List Line). h .so-far ++ linesText k) (sym (ap (λ (k : ℕ). linesFrom k s n d l) more ∙ lines-are (many - (n + 1)) n s l d x q))
+      ap (λ (k : List Line). h .so-far ++ linesText k) (sym (ap (λ (k : ℕ). linesFrom k s n d l) more ∙ lines-are (streamFuel - (n + 1)) n s l d x q))
       ∙ h .whole
 
   pub listed-end : {after : List ℕ} {next : ℕ} (a : ℕ) (e : Decoder) (m : List ℕ) → callResult (H.Refused a) e m ≡ decode d s l
@@ -114,7 +114,8 @@ module _ {s page₀ : List ℕ} {at₀ : ℕ} {page : List ℕ} {at : ℕ} {l : 
       record {
         short = h .short;
         bytes = h .bytes;
-        run = subst (λ (r : CallResult Outcome). Between s (stateAfter r) (n + pictureIn (r .answer))) (sym q) (call-on s (omega arith) (h .bytes) (h .run) .0);
+        run = subst (λ (r : CallResult Outcome). Between s (stateAfter r) (n + picturesOfOutcome (r .answer))) (sym q)
+            (call-on s (omega arith) (h .bytes) (h .run) .0);
         long = wrote-length w ∙ h .long;
         position = omega arith;
         so-far = h .so-far ++ lineText (line (n + 1) (i .store) (e .state .picture .«picture_type») 0);

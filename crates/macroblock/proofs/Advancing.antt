@@ -21,10 +21,10 @@ use Rattle.picture_state.specs.Result.{andThen}
 use Rattle.picture_state.proofs.Results.{numbered-ok, numbered-then}
 use Rattle.macroblock_head.specs.Predictions.{predictSkipped}
 use Rattle.macroblock.specs.Macroblocks.{skipReset, advance}
-use Rattle.picture_state.specs.State.{addressAs}
+use Rattle.picture_state.specs.State.{withAddress}
 use Rattle.picture_state.specs.Contracts.{StoreFits, AddressInPicture}
 use Rattle.macroblock_head.specs.Contracts.{PossibleMotions, RefinesPrediction}
-use Rattle.macroblock.specs.Contracts.{AddressReaches, RefinesAdvance}
+use Rattle.macroblock.specs.Contracts.{AddressAfterBound, RefinesAdvance}
 use Rattle.picture_state.proofs.Possible.{between-of, between-by}
 use Rattle.picture_state.proofs.Kept.{motions-kept, reset-kept}
 use Rattle.macroblock_head.proofs.Kept.{still-kept}
@@ -53,7 +53,7 @@ here-at k d low high =
     record { natural = cast-by {w = w64} d low (omega (arith, size-most k)) .0; below = omega (arith, cast-is d low, k .size) }
 
 moved-possible : {x : Slice} → PossibleSlice x → {a : ℤ} {p m : ℕ} → Dif a p m → m ≤ p + 1
-    → p ≤ m + 402700000 → PossibleSlice (addressAs a x)
+    → p ≤ m + 402700000 → PossibleSlice (withAddress a x)
 moved-possible k d low high =
     record {
       scale = k .scale;
@@ -71,7 +71,7 @@ module _ (g : Context) (n : ℕ) (x : Slice) {store : List ℕ} (k : StoreFits g
   bounds : (dn a ≤ up a + 1) × (up a + n < dn a + g .sizes .«mb_size») × (g .sizes .«mb_size» ≤ 65536)
   bounds = (omega (arith, between-of 1 402700000 (v a) (p .address)), omega (arith, le-no (lit (g .sizes .«mb_size»)) (v a ⊕ lit n) h), size-most k)
 
-  pub reaches : {m : ℕ} → m ≤ n + 1 → AddressReaches a m
+  pub reaches : {m : ℕ} → m ≤ n + 1 → AddressAfterBound a m
   reaches {m} l =
       record { from = yes-le (neg (lit 1)) (v a) (omega (arith, bounds)); to = yes-le (v a ⊕ lit m) (lit 402700000) (omega (arith, bounds)) }
 
@@ -79,7 +79,7 @@ module _ (g : Context) (n : ℕ) (x : Slice) {store : List ℕ} (k : StoreFits g
   next-low : dn a + 0 ≤ up a + 1
   next-low = omega (arith, bounds)
 
-  pub next-read : {y : Slice} → y ≡ addressAs (a +ℤ pos 1) x → toZ w32 (ofZ w32 (y .«macroblock_address»)) ≡ a +ℤ pos 1
+  pub next-read : {y : Slice} → y ≡ withAddress (a +ℤ pos 1) x → toZ w32 (ofZ w32 (y .«macroblock_address»)) ≡ a +ℤ pos 1
   next-read e = rw e (toZ-ofZ (fits-by {w = w32} (v a ⊕ lit 1) (omega (arith, bounds)) (omega (arith, bounds))))
 
   pub next-cast : T (nonNeg (a +ℤ pos 1)) × Fits w64 (natAbs (a +ℤ pos 1))
@@ -90,7 +90,7 @@ module _ (g : Context) (n : ℕ) (x : Slice) {store : List ℕ} (k : StoreFits g
 
   -- ---- on by 1
 
-  pub advance-one : n < 2 → {y : Slice} → y ≡ addressAs (a +ℤ pos 1) x → RefinesAdvance g n x store y 0 store
+  pub advance-one : n < 2 → {y : Slice} → y ≡ withAddress (a +ℤ pos 1) x → RefinesAdvance g n x store y 0 store
   unfolding advance
   advance-one l e =
       record {
@@ -113,11 +113,11 @@ module _ (g : Context) (n : ℕ) (x : Slice) {store : List ℕ} (k : StoreFits g
           here = λ z m. let w : _≡_ {A = ℕ} 9 0 = z in let o : ⊥ = omega arith in absurd o;
         }
 
-    pub advance-on : r ≡ Done → {y : Slice} → y ≡ addressAs (s .«macroblock_address» +ℤ pos n) s → RefinesAdvance g n x store y 0 store₁
+    pub advance-on : r ≡ Done → {y : Slice} → y ≡ withAddress (s .«macroblock_address» +ℤ pos n) s → RefinesAdvance g n x store y 0 store₁
     unfolding advance andThen
     advance-on e q =
         let t = numbered-ok (predictSkipped g (skipReset g x) (natAbs (a +ℤ pos 1)) (n - 1) store) (rw (is, at, e) at (told .is)) in
-        let y-is : _ ≡ addressAs (a +ℤ pos n) (skipReset g x) = rw (is, skip-address g x) at q in
+        let y-is : _ ≡ withAddress (a +ℤ pos n) (skipReset g x) = rw (is, skip-address g x) at q in
         record {
           is = λ left. rw (le-ltb n 2 l, t, q, is);
           possible = λ q. rw y-is (moved-possible (skip-possible g x q) (v a ⊕ lit n) (omega (arith, bounds)) (omega (arith, bounds)));

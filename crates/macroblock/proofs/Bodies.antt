@@ -7,7 +7,7 @@ use lib.IntN.{ℤ, natAbs}
 use lib.ListN.{length}
 use Rattle.bits.specs.declared.reader.Reader.{Reader}
 use Rattle.bits.specs.Programs.{bits}
-use Rattle.bits.specs.Runs.{Reading}
+use Rattle.bits.specs.Runs.{RunsInBounds}
 use Rattle.bits.proofs.Gives.{Gives, given-by, g-done, g-any, g-bind, g-if}
 use Rattle.prediction.specs.declared.predict.Predicted.{Predicted}
 use Rattle.prediction.specs.declared.predict.Predicted.the-variants.{Done, Refused}
@@ -50,8 +50,8 @@ head-address type t x =
 -- ---- the body, behind the type and the head
 
 module _ {g : Context} {x y : Slice} {left : List ℤ} {store s : List ℕ} {from typed headed : Reader} {t : ℕ}
-    (ready : MacroblockInvariant g s from x left store) (type : Reading (macroblockType (g .«picture_type»)) s from t typed)
-    (leads : Reading (head (g .«picture_type») t x) s typed y headed) where
+    (ready : MacroblockInvariant g s from x left store) (type : RunsInBounds (macroblockType (g .«picture_type»)) s from t typed)
+    (leads : RunsInBounds (head (g .«picture_type») t x) s typed y headed) where
   pub headed-possible : PossibleSlice y
   headed-possible = given-by (head-gives (g .«picture_type») t (ready .reads .slice)) (leads .runs)
 
@@ -73,7 +73,7 @@ module _ {g : Context} {x y : Slice} {left : List ℤ} {store s : List ℕ} {fro
         }
 
     -- with the pattern
-    module _ {c : ℕ} {patterned : Reader} (p : Reading (pattern t) s headed c patterned) where
+    module _ {c : ℕ} {patterned : Reader} (p : RunsInBounds (pattern t) s headed c patterned) where
       pub blocks-ready : MacroblockInvariant g s patterned y left store₁
       blocks-ready = ready-on ready (p .inside) headed-possible (ready .reads .block) headed-address long
 

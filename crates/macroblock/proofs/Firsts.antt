@@ -12,7 +12,7 @@ use Rattle.bits.specs.declared.reader.Reader.{Reader}
 use Rattle.picture_state.specs.declared.types.{Context.Context, Matrices.Matrices, Slice.Slice, Progress.Progress}
 use Rattle.picture_state.specs.Possible.{PossibleSlice}
 use Rattle.macroblock.specs.Macroblocks.{body, firstMacroblock}
-use Rattle.picture_state.specs.State.{sliceState, addressAs}
+use Rattle.picture_state.specs.State.{sliceState, withAddress}
 use Rattle.picture_state.specs.Contracts.{StoreFits, AddressInPicture, ReadInvariant, MacroblockInvariant, RefinesAtMacroblock, RefinesInSlice}
 use Rattle.macroblock.specs.Contracts.{AdvanceInvariant}
 use Rattle.picture_state.proofs.Possible.{between-by}
@@ -34,7 +34,7 @@ here-by {g} a k e = go (ltZ a (pos 0)) refl e
         }
 
 module _ {g : Context} {x y : Slice} {n : ℕ} {left : List ℤ} {store s : List ℕ} {reader : Reader}
-    (k : AdvanceInvariant g s reader x n left store) (is : y ≡ addressAs (x .«macroblock_address» +ℤ pos n) x) where
+    (k : AdvanceInvariant g s reader x n left store) (is : y ≡ withAddress (x .«macroblock_address» +ℤ pos n) x) where
   pub further-possible : PossibleSlice y
   further-possible =
       let p = k .reads .slice in

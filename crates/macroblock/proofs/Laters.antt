@@ -10,7 +10,7 @@ use lib.Signed.{leZ}
 use Rattle.laws.proofs.Ints.{v, lit, _⊕_, le-yes, le-no, yes-le}
 use Rattle.laws.proofs.Tests.{both}
 use Rattle.bits.specs.declared.reader.Reader.{Reader}
-use Rattle.bits.specs.Runs.{Reading}
+use Rattle.bits.specs.Runs.{RunsInBounds}
 use Rattle.bits.proofs.Gives.{given-by}
 use Rattle.picture_state.specs.declared.types.{Context.Context, Matrices.Matrices, Slice.Slice, Progress.Progress}
 use Rattle.macroblock_head.specs.Increments.{increment}
@@ -20,7 +20,7 @@ use Rattle.picture_state.specs.Contracts.{ReadInvariant, MacroblockInvariant, R
 use Rattle.macroblock.specs.Contracts.{AdvanceInvariant, LaterInvariant, IncrementInvariant, RefinesAdvance}
 use Rattle.macroblock_head.proofs.IncrementBound.{increment-most}
 use Rattle.picture_state.proofs.Ready.{held-on, size-most}
-use Rattle.picture_state.proofs.Results.{t-done, t-yes, t-no, r-lift, r-bind, r-if-ok, way-out}
+use Rattle.picture_state.proofs.Results.{t-done, t-yes, t-no, r-lift, r-bind, r-if-ok, nonzero-is-error}
 
 -- ---- a later macroblock
 
@@ -40,7 +40,7 @@ module _ {g : Context} {x : Slice} {n : ℕ} {left : List ℤ} {store s : List �
         → RefinesInSlice (laterMacroblock g m n (sliceState x left store)) g s reader (record { reader = reader; state = y; stop = stop }) left store₁
     unfolding laterMacroblock
     later-stop m h =
-        let o = way-out (sliceState y left store₁) store₁ h in
+        let o = nonzero-is-error (sliceState y left store₁) store₁ h in
         record { runs = t-no _ e (rw o (r-if-ok _ (t-done (a .is left ∙ o)))); reads = later-reads; storeFits = held-on (k .storeFits) long }
 
     pub later-ready : stop ≡ 0 → MacroblockInvariant g s reader y left store₁
@@ -56,7 +56,7 @@ module _ {g : Context} {x : Slice} {n : ℕ} {left : List ℤ} {store s : List �
 -- ---- the increment, and where it leads
 
 module _ {g : Context} {first : Bool} {x : Slice} {left : List ℤ} {store s : List ℕ} {reader after : Reader} {n : ℕ}
-    (k : IncrementInvariant g s reader first x left store) (r : Reading increment s reader n after) where
+    (k : IncrementInvariant g s reader first x left store) (r : RunsInBounds increment s reader n after) where
   small : n ≤ 402653217
   small = let m : n ≤ 24 * length s + 33 = given-by (increment-most s) (r .runs) in omega (arith, k .reads .inside .stream)
 

@@ -7,17 +7,17 @@ use mir.Syntax.{w32}
 use mir.Val.{SFits, toZ, ofZ}
 use mir.Facts.{toZ-ofZ}
 use Rattle.laws.proofs.Ints.{Dif, up, dn, v, lit, neg, _⊕_, low, back, eq-by, le-yes, yes-le, fits-by}
-use Rattle.macroblock.specs.Contracts.{AddressReaches, AddressAdds}
+use Rattle.macroblock.specs.Contracts.{AddressAfterBound, AddressSumBound}
 
 -- a natural number as a signed one
 pub low-is : (n : ℕ) → n < 2147483648 → toZ w32 n ≡ pos n
 low-is n h = eq-by (low w32 n n refl h) (lit n) refl
 
-pub adds-of : {a : ℤ} {n : ℕ} → AddressReaches a n → AddressAdds a n
+pub adds-of : {a : ℤ} {n : ℕ} → AddressAfterBound a n → AddressSumBound a n
 adds-of {a} {n} k =
     record { from = k .from; to = yes-le (v a ⊕ lit n) (lit 402800000) (omega (arith, le-yes (v a ⊕ lit n) (lit 402700000) (k .to))) }
 
-module _ {a : ℤ} {n : ℕ} (k : AddressAdds a n) where
+module _ {a : ℤ} {n : ℕ} (k : AddressSumBound a n) where
   bounds : (dn a ≤ up a + 1) × (up a + n ≤ dn a + 402800000)
   bounds = (omega (arith, le-yes (neg (lit 1)) (v a) (k .from)), omega (arith, le-yes (v a ⊕ lit n) (lit 402800000) (k .to)))
 

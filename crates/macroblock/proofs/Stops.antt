@@ -8,7 +8,7 @@ use lib.Dec.{ltb}
 use lib.IntN.{pos, natAbs, _+ℤ_}
 use lib.Signed.{leZ}
 use Rattle.laws.proofs.Tests.{by-case, if-yes, if-no}
-use Rattle.bits.specs.Programs.{Prog, Out, done, run}
+use Rattle.bits.specs.Programs.{Prog, RunResult, done, run}
 use Rattle.picture_state.specs.declared.types.{Context.Context, Matrices.Matrices, Slice.Slice}
 use Rattle.picture_state.specs.State.{SliceState, sliceState}
 use Rattle.picture_state.specs.Result.{Result, ok, error, andThen, ifOk, bindResult, lift, fromResult}
@@ -28,7 +28,7 @@ use Rattle.macroblock.specs.Macroblocks.{addressPlus, isOutside, skipRes
 use Rattle.macroblock.specs.Macroblocks.{macroblock}
 use Rattle.macroblock.specs.Stops.{typeAt, headAt, patternAt, BodyStop, in-prediction, in-blocks, MacroblockStop, first-body, in-skipped, later-body}
 
-abbrev valueOf : {A : Type 0} → Out A → A
+abbrev valueOf : {A : Type 0} → RunResult A → A
 valueOf o = o .value
 
 -- ---- the predictions
@@ -124,7 +124,7 @@ module _ (g : Context) (m : Matrices) (w : SliceState) (s : List ℕ) (a : ℕ) 
       go false q h = first-body q (body-stopped g m (addressPlus n w) s b h)
 
   -- behind those that are skipped
-  abbrev advanced : Result Stop SliceState → Out (Result Stop SliceState)
+  abbrev advanced : Result Stop SliceState → RunResult (Result Stop SliceState)
   advanced v = run (ifOk (body g m) v) s b
 
   later-stopped : {e : Stop} → run (laterMacroblock g m n w) s b .value ≡ error e → MacroblockStop g m w s a e false

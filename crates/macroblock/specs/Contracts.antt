@@ -13,12 +13,12 @@ use Rattle.picture_state.specs.Possible.{PossibleSlice}
 use Rattle.picture_state.specs.Contracts.{numbered, resultOf, StoreFits, AddressInPicture, ReadInvariant}
 
 -- the address can go on by n: RULES Q2
-pub record AddressReaches (address : ℤ) (n : ℕ) : Type 0 where
+pub record AddressAfterBound (address : ℤ) (n : ℕ) : Type 0 where
   pub from : leZ (negℤ (pos 1)) address ≡ true
   pub to : leZ (address +ℤ pos n) (pos 402700000) ≡ true
 
 -- the address and n can be added: no bound of RULES, the sum need not be kept
-pub record AddressAdds (address : ℤ) (n : ℕ) : Type 0 where
+pub record AddressSumBound (address : ℤ) (n : ℕ) : Type 0 where
   pub from : leZ (negℤ (pos 1)) address ≡ true
   pub to : leZ (address +ℤ pos n) (pos 402800000) ≡ true
 
@@ -26,13 +26,13 @@ pub record AddressAdds (address : ℤ) (n : ℕ) : Type 0 where
 pub record AdvanceInvariant (g : Context) (s : List ℕ) (reader : Reader) (x : Slice) (n : ℕ) (left : List ℤ) (store : List ℕ) : Type 0 where
   pub reads : ReadInvariant s reader x left
   pub storeFits : StoreFits g store
-  pub reaches : AddressReaches (x .«macroblock_address») n
+  pub reaches : AddressAfterBound (x .«macroblock_address») n
 
 -- before a later macroblock, n from here: the address is not that of the last one
 pub record LaterInvariant (g : Context) (s : List ℕ) (reader : Reader) (x : Slice) (n : ℕ) (left : List ℤ) (store : List ℕ) : Type 0 where
   pub reads : ReadInvariant s reader x left
   pub storeFits : StoreFits g store
-  pub adds : AddressAdds (x .«macroblock_address») n
+  pub adds : AddressSumBound (x .«macroblock_address») n
   pub more : leZ (pos (g .sizes .«mb_size»)) (x .«macroblock_address» +ℤ pos 1) ≡ false
 
 -- before the increment: the first of slices 1 to 175, or a later one

@@ -7,7 +7,7 @@ use lib.IntN.{pos, natAbs, _+ℤ_}
 use lib.Signed.{ltZ, leZ}
 use Rattle.bits.specs.Programs.{Prog, if_then_else_}
 use Rattle.picture_state.specs.declared.types.{Context.Context, Matrices.Matrices, Slice.Slice}
-use Rattle.picture_state.specs.State.{SliceState, sliceState, withSlice, zeroed, addressAs, motionsAs, dcReset}
+use Rattle.picture_state.specs.State.{SliceState, sliceState, withSlice, zeroed, withAddress, withMotions, dcReset}
 use Rattle.picture_state.specs.Result.{Result, ok, andThen, lift, fromResult, pure, _>>=_, _>>_}
 use Rattle.picture_state.specs.Stop.{Stop}
 use Rattle.macroblock_head.specs.Increments.{increment}
@@ -18,7 +18,7 @@ use Rattle.blocks.specs.Blocks.{blocks}
 
 -- the address after n macroblocks more
 abbrev pub addressPlus : ℕ → SliceState → SliceState
-addressPlus n w = withSlice (addressAs (w .slice .«macroblock_address» +ℤ pos n) (w .slice)) w
+addressPlus n w = withSlice (withAddress (w .slice .«macroblock_address» +ℤ pos n) (w .slice)) w
 
 -- RULES 7.8: the address is that of no macroblock
 abbrev pub isOutside : Context → SliceState → Bool
@@ -28,7 +28,7 @@ isOutside g w = ltZ (w .slice .«macroblock_address») (pos 0) || leZ (pos (g .s
 unfoldable pub skipReset : Context → Slice → Slice
 skipReset g s =
     let d = dcReset s in
-    if eqb (g .«picture_type») 2 then motionsAs (zeroed (d .«motion_forward»)) (d .«motion_backward») d else d
+    if eqb (g .«picture_type») 2 then withMotions (zeroed (d .«motion_forward»)) (d .«motion_backward») d else d
 
 -- RULES 7.9, 7.11: on by n, or by 1 where n is 0; the macroblocks between are skipped
 unfoldable pub advance : Context → ℕ → SliceState → Result Stop SliceState

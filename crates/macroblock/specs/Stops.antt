@@ -5,7 +5,7 @@ use mathlib.Core.List.{List}
 use Prim.Native.Nat.{ℕ}
 use lib.IntN.{pos, _+ℤ_}
 use lib.Signed.{leZ}
-use Rattle.bits.specs.Programs.{Out, run}
+use Rattle.bits.specs.Programs.{RunResult, run}
 use Rattle.picture_state.specs.declared.types.{Context.Context, Matrices.Matrices, Slice.Slice}
 use Rattle.picture_state.specs.State.{SliceState, sliceState}
 use Rattle.picture_state.specs.Result.{ok, error}
@@ -18,13 +18,13 @@ use Rattle.macroblock.specs.Macroblocks.{addressPlus, isOutside, advance
 
 -- what a macroblock's body reads from the place a on: its type, its head, its pattern
 module _ (g : Context) (w : SliceState) (s : List ℕ) (a : ℕ) where
-  abbrev pub typeAt : Out ℕ
+  abbrev pub typeAt : RunResult ℕ
   typeAt = run (macroblockType (g .«picture_type»)) s a
 
-  abbrev pub headAt : Out Slice
+  abbrev pub headAt : RunResult Slice
   headAt = run (head (g .«picture_type») (typeAt .value) (w .slice)) s (typeAt .at)
 
-  abbrev pub patternAt : Out ℕ
+  abbrev pub patternAt : RunResult ℕ
   patternAt = run (pattern (typeAt .value)) s (headAt .at)
 
 -- RULES 7.13 to 7.16: the prediction stops, or a block behind it, with the prediction in the store
@@ -36,7 +36,7 @@ pub data BodyStop (g : Context) (m : Matrices) (w : SliceState) (s : List ℕ) (
       → BodyStop g m w s a e
 
 -- RULES 7.7: the increment before it
-abbrev pub incrementAt : List ℕ → ℕ → Out ℕ
+abbrev pub incrementAt : List ℕ → ℕ → RunResult ℕ
 incrementAt s a = run increment s a
 
 -- RULES 7.7 to 7.11: the first macroblock of a slice stops in its body; a later one in those that are skipped before it, or in its body

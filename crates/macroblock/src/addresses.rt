@@ -6,13 +6,13 @@ ghost use mathlib.Core.Bool.{_||_};
 ghost use Prim.Native.Nat.{_≤_};
 ghost use lib.IntN.{pos, _+ℤ_};
 ghost use lib.Signed.{ltZ, leZ};
-ghost use Rattle.picture_state.specs.State.{addressAs};
-ghost use Rattle.macroblock.specs.Contracts.{AddressReaches, AddressAdds};
+ghost use Rattle.picture_state.specs.State.{withAddress};
+ghost use Rattle.macroblock.specs.Contracts.{AddressAfterBound, AddressSumBound};
 
 // On by n.
 pub fn address_plus(mut state: Slice, n: usize) -> Slice
-    requires { ⌜ AddressReaches (state .«macroblock_address») n ⌝ }
-    ensures { λ r. ⌜ r ≡ addressAs (state .«macroblock_address» +ℤ pos n) state ⌝ }
+    requires { ⌜ AddressAfterBound (state .«macroblock_address») n ⌝ }
+    ensures { λ r. ⌜ r ≡ withAddress (state .«macroblock_address» +ℤ pos n) state ⌝ }
 {
     let address = state.macroblock_address + n as i32;
     state.macroblock_address = address;
@@ -33,7 +33,7 @@ pub fn is_outside(g: Context, address: i32) -> bool
 // RULES 7.9, 7.6: n more leads past the last macroblock.
 pub fn past(g: Context, address: i32, n: usize) -> bool
     requires { ⌜ g .sizes .«mb_size» ≤ 65536 ⌝ }
-    requires { ⌜ AddressAdds address n ⌝ }
+    requires { ⌜ AddressSumBound address n ⌝ }
     ensures { λ r. ⌜ r ≡ leZ (pos (g .sizes .«mb_size»)) (address +ℤ pos n) ⌝ }
 {
     g.sizes.mb_size as i32 <= address + n as i32

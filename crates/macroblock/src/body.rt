@@ -12,7 +12,7 @@ use picture_state::types::Context;
 use picture_state::types::Progress;
 use picture_state::types::Slice;
 use prediction::predict::Predicted;
-ghost use Rattle.codes.specs.Lent.{Lent};
+ghost use Rattle.codes.specs.DecodingTables.{DecodingTables};
 ghost use Rattle.macroblock.specs.Macroblocks.{predictUnlessIntra, body};
 ghost use Rattle.picture_state.specs.Possible.{PossibleSlice};
 ghost use Rattle.picture_state.specs.State.{sliceState};
@@ -44,7 +44,7 @@ pub fn body(
     before: Slice,
 ) -> Progress
     requires { ⌜ MacroblockInvariant g (now s) reader before (now values) (now store) ⌝ }
-    requires { ⌜ Lent (now tables) ⌝ }
+    requires { ⌜ DecodingTables (now tables) ⌝ }
     ensures { λ r. ⌜
         RefinesAtMacroblock (body g (matricesIn (now (tables .entry))) (sliceState before (now (values .entry)) (now (store .entry))))
         g (now (s .entry)) reader r (now (values .exit)) (now (store .exit))

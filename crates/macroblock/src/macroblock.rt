@@ -10,7 +10,7 @@ use macroblock_head::increments::read_increment;
 use picture_state::types::Context;
 use picture_state::types::Progress;
 use picture_state::types::Slice;
-ghost use Rattle.codes.specs.Lent.{Lent};
+ghost use Rattle.codes.specs.DecodingTables.{DecodingTables};
 ghost use Rattle.macroblock.specs.Macroblocks.{firstMacroblock, laterMacroblock, macroblock};
 ghost use Rattle.picture_state.specs.State.{sliceState};
 ghost use Rattle.picture_state.specs.Contracts.{matricesIn, RefinesInSlice};
@@ -28,7 +28,7 @@ fn first_macroblock(
     state: Slice,
 ) -> Progress
     requires { ⌜ AdvanceInvariant g (now s) reader state n (now values) (now store) ⌝ }
-    requires { ⌜ Lent (now tables) ⌝ }
+    requires { ⌜ DecodingTables (now tables) ⌝ }
     ensures { λ r. ⌜
         RefinesInSlice (firstMacroblock g (matricesIn (now (tables .entry))) n (sliceState state (now (values .entry)) (now (store .entry))))
         g (now (s .entry)) reader r (now (values .exit)) (now (store .exit))
@@ -57,7 +57,7 @@ fn later_macroblock(
     state: Slice,
 ) -> Progress
     requires { ⌜ LaterInvariant g (now s) reader state n (now values) (now store) ⌝ }
-    requires { ⌜ Lent (now tables) ⌝ }
+    requires { ⌜ DecodingTables (now tables) ⌝ }
     ensures { λ r. ⌜
         RefinesInSlice (laterMacroblock g (matricesIn (now (tables .entry))) n (sliceState state (now (values .entry)) (now (store .entry))))
         g (now (s .entry)) reader r (now (values .exit)) (now (store .exit))
@@ -95,7 +95,7 @@ pub fn macroblock(
     state: Slice,
 ) -> Progress
     requires { ⌜ IncrementInvariant g (now s) reader first state (now values) (now store) ⌝ }
-    requires { ⌜ Lent (now tables) ⌝ }
+    requires { ⌜ DecodingTables (now tables) ⌝ }
     ensures { λ r. ⌜
         RefinesInSlice (macroblock g (matricesIn (now (tables .entry))) first (sliceState state (now (values .entry)) (now (store .entry))))
         g (now (s .entry)) reader r (now (values .exit)) (now (store .exit))

@@ -1,4 +1,4 @@
--- RULES 7.7: the fuel `many` of an address increment is enough: each code that goes on takes a bit of the stream. Assumes nothing.
+-- RULES 7.7: the fuel `streamFuel` of an address increment is enough: each code that goes on takes a bit of the stream. Assumes nothing.
 use mathlib.Core.Path.{_≡_, refl, ap, sym, _∙_}
 use mathlib.Core.Bool.{true, false, _&&_, false≢true}
 use mathlib.Core.List.{List}
@@ -8,7 +8,7 @@ use lib.Dec.{eqb}
 use lib.ListN.{length}
 use Rattle.laws.specs.Loops.{Step}
 use Rattle.bits.specs.Bounds.{longestStream, lastPosition}
-use Rattle.bits.specs.Programs.{Prog, loop, many, run}
+use Rattle.bits.specs.Programs.{Prog, loop, streamFuel, run}
 use Rattle.laws.proofs.Tests.{by-case, both}
 use Rattle.bits.proofs.Programs.{run-bind, bind-on}
 use Rattle.bits.proofs.Rules.{Takes, at-run}
@@ -37,7 +37,7 @@ increment-takes s sum a =
     (by-case Ends (eqb c 34 && eqb sum 0) (λ q. served 34 refl (both _ _ q .0)) (λ q. by-case Ends (eqb c 35) (λ q. served 35 refl q) (λ q. tt)))
 
 -- RULES 7.7
-pub increment-fuel : (s : List ℕ) → length s ≤ longestStream → (n : ℕ) → many ≤ n → (d a : ℕ)
+pub increment-fuel : (s : List ℕ) → length s ≤ longestStream → (n : ℕ) → streamFuel ≤ n → (d a : ℕ)
     → run (loop n incrementStep d 0) s a ≡ run increment s a
 unfolding increment
 increment-fuel s l n m d a = enough s incrementStep (increment-takes s) l n m d 0 0 a
@@ -45,4 +45,4 @@ increment-fuel s l n m d a = enough s incrementStep (increment-takes s) l n m d 
 pub first-takes : (s : List ℕ) (a : ℕ) → a < length s * 8 → a < run increment s a .at
 unfolding increment incrementStep
 first-takes s a h =
-    lt-of-lt-of-le (code-takes s a h) (le-trans (bind-on macroblockAddressIncrement _ s a) (loop-past incrementStep 0 0 s a many lastPosition refl))
+    lt-of-lt-of-le (code-takes s a h) (le-trans (bind-on macroblockAddressIncrement _ s a) (loop-past incrementStep 0 0 s a streamFuel lastPosition refl))

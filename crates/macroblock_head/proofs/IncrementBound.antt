@@ -14,7 +14,7 @@ use lib.ListN.{length, getD, List·getD-eq-default}
 use mir.Facts.{and-yes}
 use Rattle.laws.specs.Loops.{Step}
 use Rattle.laws.proofs.Tables.{every, at}
-use Rattle.bits.specs.Programs.{Out, Prog, done, run, many}
+use Rattle.bits.specs.Programs.{RunResult, Prog, done, run, streamFuel}
 use Rattle.bits.proofs.Rules.{at-run}
 use Rattle.bits.proofs.Programs.{run-bind}
 use Rattle.bits.proofs.Gives.{Gives, Leaves, loop-value}
@@ -63,7 +63,7 @@ unfolding macroblockAddressIncrementIndex
 escape-ends k e = rw e
 
 module _ (s : List ℕ) (a : ℕ) where
-  abbrev pub code : Out ℕ
+  abbrev pub code : RunResult ℕ
   code = run macroblockAddressIncrement s a
 
   code-small : code .value ≤ 35
@@ -72,7 +72,7 @@ module _ (s : List ℕ) (a : ℕ) where
   -- past the end the code is 0
   code-idle : length s * 8 ≤ a → code .value ≡ 0
   unfolding macroblockAddressIncrement
-  code-idle h = ap (λ (o : Out ℕ). o .value) (agrees-macroblock-address-increment .past-end s a h .is)
+  code-idle h = ap (λ (o : RunResult ℕ). o .value) (agrees-macroblock-address-increment .past-end s a h .is)
 
   -- so that any other is of bits in the stream
   pub code-served : (code .value ≡ 0 → ⊥) → a < length s * 8
@@ -90,10 +90,10 @@ module _ (s : List ℕ) (a : ℕ) where
   escape-takes e =
       let k = run (walk macroblockAddressIncrementIndex) s a .value in
       let r = run-bind (walk macroblockAddressIncrementIndex) (λ k. done (getD macroblockAddressIncrementValue k 0)) s a in
-      let v : getD macroblockAddressIncrementValue k 0 ≡ 35 = sym (ap (λ (o : Out ℕ). o .value) r) ∙ e in
+      let v : getD macroblockAddressIncrementValue k 0 ≡ 35 = sym (ap (λ (o : RunResult ℕ). o .value) r) ∙ e in
       let o = agrees-macroblock-address-increment .only s a k (run (walk macroblockAddressIncrementIndex) s a .at) at-run
       (escape-ends k (escape-position k v)) in
-      ap (λ (o : Out ℕ). o .at) r ∙ sym (o .4) ∙ ap (taken s a) (escape-bits (o .0) (o .1) (o .3 ∙ v))
+      ap (λ (o : RunResult ℕ). o .at) r ∙ sym (o .4) ∙ ap (taken s a) (escape-bits (o .0) (o .1) (o .3 ∙ v))
 
 -- the sum so far, at the place a
 pub record Sum (s : List ℕ) (sum a : ℕ) : Type 0 where
@@ -128,6 +128,6 @@ pub increment-most : (s : List ℕ) → Gives s (λ n. n ≤ 24 * length s + 33)
 unfolding increment
 increment-most s =
     record {
-      value = λ a. loop-value s (Sum s) (λ n. n ≤ 24 * length s + 33) incrementStep 0 (step-sum s) (omega arith) many 0 a
+      value = λ a. loop-value s (Sum s) (λ n. n ≤ 24 * length s + 33) incrementStep 0 (step-sum s) (omega arith) streamFuel 0 a
           (record { before = λ h. omega arith; most = omega arith });
     }

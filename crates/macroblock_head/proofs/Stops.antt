@@ -11,14 +11,15 @@ use lib.IntN.{ℤ, pos, natAbs}
 use lib.Signed.{ltZ, leZ}
 use Rattle.laws.proofs.Ints.{v, lit, lt-no, le-yes, yes-le, no-lt}
 use Rattle.laws.proofs.Tests.{by-case}
-use Rattle.prediction.specs.declared.position.{Fetch.Fetch, Macroblock.Macroblock, BlockPosition.BlockPosition}
-use Rattle.prediction.specs.declared.position.Fetch.the-variants.{Alone, Past, Copied}
+use Rattle.prediction.specs.declared.position.{PredictionSource.PredictionSource, Macroblock.Macroblock, BlockPosition.BlockPosition}
+use Rattle.prediction.specs.declared.position.PredictionSource.the-variants.{SourceOutside, HalfSampleOutside, SourceAt}
 use Rattle.prediction.specs.declared.predict.Predicted.{Predicted}
 use Rattle.prediction.specs.declared.predict.Predicted.the-variants.{Done, Refused}
 use Rattle.prediction.specs.declared.planes.Plane.{Plane}
 use Rattle.prediction.specs.declared.planes.Plane.the-variants.{Y, Cr, Cb}
-use Rattle.prediction.specs.Predict.{blockOf, start, maxAddress, reach, fetch, chroma}
-use Rattle.prediction.specs.Planes.{After, PlaneAfter, macroblocks, blockSize, planeStart, follow, thenPlane, ofStores, predictedPlanes}
+use Rattle.prediction.specs.Predict.{blockPositionOf, start, maxAddress, reach, predictionSource, chroma}
+use Rattle.prediction.specs.Planes.{PredictionOutcome, PlaneAfter, macroblocks, blockSize, planeStart, predictFromSource, andThenPlane, predictPlaneFromStore}
+use Rattle.prediction.specs.Planes.{predictedPlanes}
 use Rattle.prediction.proofs.Macroblocks.{first-refused, second-refused}
 use Rattle.picture_state.specs.declared.types.{Context.Context, Motion.Motion, Slice.Slice}
 use Rattle.picture_state.specs.Result.{Result, ok, error, andThen}
@@ -29,19 +30,19 @@ use Rattle.macroblock_head.specs.Stops.{ReachesOut, PlaneStop, in-y, in-
 
 -- ---- a block
 
-abbrev isPast : Fetch → Bool
-isPast f = elim f [ Alone ↦ false | Past ↦ true | Copied a ↦ false ]
+abbrev isPast : PredictionSource → Bool
+isPast f = elim f [ SourceOutside ↦ false | HalfSampleOutside ↦ true | SourceAt a ↦ false ]
 
 module _ (p : BlockPosition) (h v′ : ℤ) where
   abbrev from : ℤ
   from = start p h v′
 
-  fetch-past : isPast (fetch p h v′) ≡ true → ReachesOut p h v′
-  unfolding fetch
+  fetch-past : isPast (predictionSource p h v′) ≡ true → ReachesOut p h v′
+  unfolding predictionSource
   fetch-past = go (ltZ from (pos 0)) (ltZ (pos (maxAddress p)) from) (ltb (maxAddress p) (natAbs from + reach p h v′)) refl refl refl
     where
       go : (b c t : Bool) → ltZ from (pos 0) ≡ b → ltZ (pos (maxAddress p)) from ≡ c → ltb (maxAddress p) (natAbs from + reach p h v′) ≡ t
-          → isPast (cond (b || c) Alone (cond t Past (Copied (natAbs from)))) ≡ true → ReachesOut p h v′
+          → isPast (cond (b || c) SourceOutside (cond t HalfSampleOutside (SourceAt (natAbs from)))) ≡ true → ReachesOut p h v′
       go true c t k l m e = absurd (false≢true e)
       go false true t k l m e = absurd (false≢true e)
       go false false false k l m e = absurd (false≢true e)
@@ -51,8 +52,8 @@ module _ (p : BlockPosition) (h v′ : ℤ) where
         past = ltb-true _ _ m;
       }
 
-  past-fetch : ReachesOut p h v′ → isPast (fetch p h v′) ≡ true
-  unfolding fetch
+  past-fetch : ReachesOut p h v′ → isPast (predictionSource p h v′) ≡ true
+  unfolding predictionSource
   past-fetch r =
       let low : ltZ from (pos 0) ≡ false = no-lt (v from) (lit 0) (omega (arith, le-yes (lit 0) (v from) (r .from))) in
       let high : ltZ (pos (maxAddress p)) from ≡ false = no-lt (lit (maxAddress p)) (v from) (omega (arith, le-yes (v from) (lit (maxAddress p)) (r .to))) in
@@ -65,31 +66,31 @@ isRefused a = elim a [ Done ↦ false | Refused ↦ true ]
 
 module _ (m : Macroblock) (address k to : ℕ) (h v′ : ℤ) (interpolate : Bool) (l : List ℕ) where
   abbrev plane : Plane → ℤ → ℤ → List ℕ → PlaneAfter
-  plane = ofStores m k to interpolate
+  plane = predictPlaneFromStore m k to interpolate
 
   -- what is done with the block of a plane
-  abbrev followed : Plane → ℤ → ℤ → List ℕ → Fetch → After
+  abbrev followed : Plane → ℤ → ℤ → List ℕ → PredictionSource → PredictionOutcome
   followed q x y l w =
-      follow w (blockOf m (blockSize q)) (planeStart k q (macroblocks m)) (planeStart to q (macroblocks m)) x y interpolate l
+      predictFromSource w (blockPositionOf m (blockSize q)) (planeStart k q (macroblocks m)) (planeStart to q (macroblocks m)) x y interpolate l
 
-  plane-answer : (q : Plane) (x y : ℤ) (l : List ℕ) → isRefused (plane q x y l .answer) ≡ isPast (fetch (blockOf m (blockSize q)) x y)
-  unfolding follow
-  plane-answer q x y l = go (fetch (blockOf m (blockSize q)) x y)
+  plane-answer : (q : Plane) (x y : ℤ) (l : List ℕ) → isRefused (plane q x y l .answer) ≡ isPast (predictionSource (blockPositionOf m (blockSize q)) x y)
+  unfolding predictFromSource
+  plane-answer q x y l = go (predictionSource (blockPositionOf m (blockSize q)) x y)
     where
-      go : (w : Fetch) → isRefused (followed q x y l w .answer) ≡ isPast w
-      go Alone = refl
-      go Past = refl
-      go (Copied a) = refl
+      go : (w : PredictionSource) → isRefused (followed q x y l w .answer) ≡ isPast w
+      go SourceOutside = refl
+      go HalfSampleOutside = refl
+      go (SourceAt a) = refl
 
   -- a plane that is refused is as it was
-  plane-store : (q : Plane) (x y : ℤ) (l : List ℕ) → isPast (fetch (blockOf m (blockSize q)) x y) ≡ true → plane q x y l .store ≡ l
-  unfolding follow
-  plane-store q x y l = go (fetch (blockOf m (blockSize q)) x y)
+  plane-store : (q : Plane) (x y : ℤ) (l : List ℕ) → isPast (predictionSource (blockPositionOf m (blockSize q)) x y) ≡ true → plane q x y l .store ≡ l
+  unfolding predictFromSource
+  plane-store q x y l = go (predictionSource (blockPositionOf m (blockSize q)) x y)
     where
-      go : (w : Fetch) → isPast w ≡ true → followed q x y l w .store ≡ l
-      go Alone e = absurd (false≢true e)
-      go Past e = refl
-      go (Copied a) e = absurd (false≢true e)
+      go : (w : PredictionSource) → isPast w ≡ true → followed q x y l w .store ≡ l
+      go SourceOutside e = absurd (false≢true e)
+      go HalfSampleOutside e = refl
+      go (SourceAt a) e = absurd (false≢true e)
 
   refused-of : (a : Predicted) → isRefused a ≡ true → a ≡ Refused
   refused-of Done e = absurd (false≢true e)
@@ -116,10 +117,10 @@ module _ (m : Macroblock) (address k to : ℕ) (h v′ : ℤ) (interpolate : Boo
   unfolding unlessRefused
   stops-at o h = rw h
 
-  then-stopped : (o : PlaneAfter) (f : List ℕ → PlaneAfter) {e : Stop} → unlessRefused address (thenPlane o f) ≡ error e
+  then-stopped : (o : PlaneAfter) (f : List ℕ → PlaneAfter) {e : Stop} → unlessRefused address (andThenPlane o f) ≡ error e
       → ((isRefused (o .answer) ≡ true) × (unlessRefused address o ≡ error e))
       ⊎ ((isRefused (o .answer) ≡ false) × (unlessRefused address (f (o .store)) ≡ error e))
-  unfolding thenPlane
+  unfolding andThenPlane
   then-stopped o f {e} = go (o .answer)
     where
       go : (a : Predicted) → unlessRefused address (elim a as (λ x. PlaneAfter) [ Done ↦ f (o .store) | Refused ↦ o ]) ≡ error e
@@ -143,7 +144,7 @@ module _ (m : Macroblock) (address k to : ℕ) (h v′ : ℤ) (interpolate : Boo
           let p = sym (plane-answer Y h v′ l) ∙ r .0 in
           subst (PlaneStop m address k to h v′ interpolate l)
           (sym (stopped-at first (r .1) .1 ∙ ap (stop (predictionOutside address Y h v′)) (plane-store Y h v′ l p)))
-          (in-y (fetch-past (blockOf m (blockSize Y)) h v′ p))
+          (in-y (fetch-past (blockPositionOf m (blockSize Y)) h v′ p))
 
       in-next : (isRefused (first .answer) ≡ false) → (isRefused (next .answer) ≡ true) × (unlessRefused address next ≡ error e)
           → PlaneStop m address k to h v′ interpolate l e
@@ -152,8 +153,8 @@ module _ (m : Macroblock) (address k to : ℕ) (h v′ : ℤ) (interpolate : Boo
           subst (PlaneStop m address k to h v′ interpolate l)
           (sym (stopped-at next (r .1) .1
           ∙ ap (stop (predictionOutside address Cr (chroma h) (chroma v′))) (plane-store Cr (chroma h) (chroma v′) (first .store) p)))
-          (in-cr (λ o. false≢true (sym d ∙ plane-answer Y h v′ l ∙ past-fetch (blockOf m (blockSize Y)) h v′ o))
-          (fetch-past (blockOf m (blockSize Cr)) (chroma h) (chroma v′) p))
+          (in-cr (λ o. false≢true (sym d ∙ plane-answer Y h v′ l ∙ past-fetch (blockPositionOf m (blockSize Y)) h v′ o))
+          (fetch-past (blockPositionOf m (blockSize Cr)) (chroma h) (chroma v′) p))
 
       -- Cb has the block and the vector of Cr
       in-last : (isRefused (next .answer) ≡ false) × (unlessRefused address (plane Cb (chroma h) (chroma v′) (next .store)) ≡ error e)
@@ -163,24 +164,24 @@ module _ (m : Macroblock) (address k to : ℕ) (h v′ : ℤ) (interpolate : Boo
           ∙ sym (plane-answer Cb (chroma h) (chroma v′) (next .store)) ∙ stopped-at (plane Cb (chroma h) (chroma v′) (next .store)) (r .1) .0))
 
       behind-first : (isRefused (first .answer) ≡ false)
-          × (unlessRefused address (thenPlane next (plane Cb (chroma h) (chroma v′))) ≡ error e) → PlaneStop m address k to h v′ interpolate l e
+          × (unlessRefused address (andThenPlane next (plane Cb (chroma h) (chroma v′))) ≡ error e) → PlaneStop m address k to h v′ interpolate l e
       behind-first r = ⊎-elim (in-next (r .0)) in-last (then-stopped next (plane Cb (chroma h) (chroma v′)) (r .1))
 
   planes-stop : {e : Stop} → PlaneStop m address k to h v′ interpolate l e → unlessRefused address (predictedPlanes m k to h v′ interpolate l) ≡ error e
   planes-stop (in-y r) =
-      let p = past-fetch (blockOf m (blockSize Y)) h v′ r in
+      let p = past-fetch (blockPositionOf m (blockSize Y)) h v′ r in
       let q = refused-of (first .answer) (plane-answer Y h v′ l ∙ p) in
       ap (unlessRefused address) (first-refused m k to h v′ interpolate l q) ∙ stops-at first q
       ∙ ap (λ (l : List ℕ). error (stop (predictionOutside address Y h v′) l)) (plane-store Y h v′ l p)
   planes-stop (in-cr n r) =
-      let p = past-fetch (blockOf m (blockSize Cr)) (chroma h) (chroma v′) r in
+      let p = past-fetch (blockPositionOf m (blockSize Cr)) (chroma h) (chroma v′) r in
       let q = refused-of (next .answer) (plane-answer Cr (chroma h) (chroma v′) (first .store) ∙ p) in
       ap (unlessRefused address) (second-refused m k to h v′ interpolate l (done-of (first .answer) (inside n (isRefused (first .answer)) refl)) q)
       ∙ stops-at next q
       ∙ ap (λ (l : List ℕ). error (stop (predictionOutside address Cr (chroma h) (chroma v′)) l)) (plane-store Cr (chroma h) (chroma v′) (first .store) p)
     where
-      inside : (ReachesOut (blockOf m (blockSize Y)) h v′ → ⊥) → (t : Bool) → isRefused (first .answer) ≡ t → isRefused (first .answer) ≡ false
-      inside n true e = absurd (n (fetch-past (blockOf m (blockSize Y)) h v′ (sym (plane-answer Y h v′ l) ∙ e)))
+      inside : (ReachesOut (blockPositionOf m (blockSize Y)) h v′ → ⊥) → (t : Bool) → isRefused (first .answer) ≡ t → isRefused (first .answer) ≡ false
+      inside n true e = absurd (n (fetch-past (blockPositionOf m (blockSize Y)) h v′ (sym (plane-answer Y h v′ l) ∙ e)))
       inside n false e = e
 
 -- ---- a macroblock

@@ -9,8 +9,8 @@ use borrow.Author.Tests.{eq-eqb, ne-eqb}
 use lib.Dec.{eqb}
 use Rattle.laws.specs.Loops.{Step, continue, finish}
 use Rattle.bits.specs.declared.reader.Reader.{Reader}
-use Rattle.bits.specs.Programs.{many}
-use Rattle.bits.specs.Runs.{Inside, Reading, positionOf, bitsLeft}
+use Rattle.bits.specs.Programs.{streamFuel}
+use Rattle.bits.specs.Runs.{ReaderInBounds, RunsInBounds, positionOf, bitsLeft}
 use Rattle.bits.proofs.Rules.{Loops, loop-start, loop-on, loop-end, takes-less, r-call, r-yes, r-no, r-done, and-yes, and-no}
 use Rattle.codes.specs.Codes.{macroblockAddressIncrement}
 use Rattle.macroblock_head.specs.Increments.{incrementStep, increment}
@@ -20,9 +20,9 @@ use Rattle.macroblock_head.proofs.Fuel.{increment-takes}
 
 -- ---- a turn with the code n
 
-module _ {s : List ℕ} {from to : Reader} {n : ℕ} (sum : ℕ) (r : Reading macroblockAddressIncrement s from n to) where
+module _ {s : List ℕ} {from to : Reader} {n : ℕ} (sum : ℕ) (r : RunsInBounds macroblockAddressIncrement s from n to) where
   abbrev Turns : Step ℕ ℕ → Type 0
-  Turns t = Reading (incrementStep sum) s from t to
+  Turns t = RunsInBounds (incrementStep sum) s from t to
 
   pub escape : n ≡ 35 → Turns (continue (sum + 33))
   unfolding incrementStep
@@ -60,12 +60,12 @@ module _ {s : List ℕ} {from to : Reader} {n : ℕ} (sum : ℕ) (r : Reading ma
 -- ---- the loop
 
 -- before a code, at `from`, with the sum so far
-pub record AtCode (s : List ℕ) (from₀ from : Reader) (sum : ℕ) : Type 0 where
-  pub inside : Inside s from
+pub record AtSequenceCode (s : List ℕ) (from₀ from : Reader) (sum : ℕ) : Type 0 where
+  pub inside : ReaderInBounds s from
   pub small : Sum s sum (positionOf from)
-  pub rest : Loops many incrementStep 0 0 s from₀ sum from (bitsLeft s from)
+  pub rest : Loops streamFuel incrementStep 0 0 s from₀ sum from (bitsLeft s from)
 
-pub at-code : {s : List ℕ} {from : Reader} → Inside s from → AtCode s from from 0
+pub at-code : {s : List ℕ} {from : Reader} → ReaderInBounds s from → AtSequenceCode s from from 0
 at-code i =
     record {
       inside = i;
@@ -73,15 +73,15 @@ at-code i =
       rest = loop-start (omega (arith, i .stream));
     }
 
-module _ {s : List ℕ} {from₀ from : Reader} {sum : ℕ} (i : AtCode s from₀ from sum) where
+module _ {s : List ℕ} {from₀ from : Reader} {sum : ℕ} (i : AtSequenceCode s from₀ from sum) where
   pub sum-most : sum ≤ 402653249
   sum-most = omega (arith, i .small .most, i .inside .stream)
 
-  module _ {next : Reader} (more : ℕ) (t : Bool) (r : Reading (incrementStep sum) s from (stepOf t more) next) where
+  module _ {next : Reader} (more : ℕ) (t : Bool) (r : RunsInBounds (incrementStep sum) s from (stepOf t more) next) where
     pub goes-on : t ≡ true → bitsLeft s next < bitsLeft s from
     goes-on e = takes-less incrementStep (increment-takes s) (rw e at (r .runs))
 
-    pub at-code-on : t ≡ true → AtCode s from₀ next more
+    pub at-code-on : t ≡ true → AtSequenceCode s from₀ next more
     at-code-on e = let q = rw e at (r .runs) in
         record {
           inside = r .inside;
@@ -89,6 +89,6 @@ module _ {s : List ℕ} {from₀ from : Reader} {sum : ℕ} (i : AtCode s from�
           rest = loop-on (i .rest) q (goes-on e);
         }
 
-    pub code-end : t ≡ false → Reading increment s from₀ more next
+    pub code-end : t ≡ false → RunsInBounds increment s from₀ more next
     unfolding increment
     code-end e = record { runs = loop-end (i .rest) (rw e at (r .runs)); inside = r .inside }

@@ -3,7 +3,7 @@ use mathlib.Core.Bool.{_&&_}
 use Prim.Native.Nat.{ℕ, _+_}
 use lib.Dec.{eqb}
 use Rattle.laws.specs.Loops.{Step, continue, finish}
-use Rattle.bits.specs.Programs.{Prog, done, bind, loop, many, _>>=_, _>>_, if_then_else_}
+use Rattle.bits.specs.Programs.{Prog, done, bind, loop, streamFuel, _>>=_, _>>_, if_then_else_}
 use Rattle.codes.specs.Codes.{macroblockAddressIncrement}
 
 -- RULES 7.7: a code of 34 (stuffing) is dropped where no 35 (escape) came before it; a 35 adds 33 and goes on; any other is added and is the last
@@ -14,4 +14,4 @@ incrementStep sum = do
 
 -- RULES 7.7: the sum of the codes
 unfoldable pub increment : Prog ℕ
-increment = loop many incrementStep 0 0
+increment = loop streamFuel incrementStep 0 0

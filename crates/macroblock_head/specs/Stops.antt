@@ -7,8 +7,8 @@ use lib.IntN.{ℤ, pos, natAbs}
 use lib.Signed.{leZ}
 use Rattle.prediction.specs.declared.position.{Macroblock.Macroblock, BlockPosition.BlockPosition}
 use Rattle.prediction.specs.declared.planes.Plane.the-variants.{Y, Cr}
-use Rattle.prediction.specs.Predict.{macroblockAt, blockOf, start, maxAddress, reach, inHalves, chroma}
-use Rattle.prediction.specs.Planes.{blockSize, ofStores}
+use Rattle.prediction.specs.Predict.{macroblockAt, blockPositionOf, start, maxAddress, reach, inHalves, chroma}
+use Rattle.prediction.specs.Planes.{blockSize, predictPlaneFromStore}
 use Rattle.picture_state.specs.declared.types.{Context.Context, Motion.Motion, Slice.Slice}
 use Rattle.picture_state.specs.Result.{ok, error}
 use Rattle.picture_state.specs.Stop.{predictionOutside, Stop, stop}
@@ -23,10 +23,10 @@ pub record ReachesOut (p : BlockPosition) (h v : ℤ) : Type 0 where
 -- RULES 6.10, Q9: the first plane that reaches out ends the prediction of the macroblock with this address: Y, with nothing written, or Cr, with Y
 -- written. Cb has the block and the vector of Cr
 pub data PlaneStop (m : Macroblock) (address from to : ℕ) (h v : ℤ) (interpolate : Bool) (l : List ℕ) : Stop → Type 0 where
-  in-y : ReachesOut (blockOf m (blockSize Y)) h v → PlaneStop m address from to h v interpolate l (stop (predictionOutside address Y h v) l)
-  in-cr : (ReachesOut (blockOf m (blockSize Y)) h v → ⊥) → ReachesOut (blockOf m (blockSize Cr)) (chroma h) (chroma v)
+  in-y : ReachesOut (blockPositionOf m (blockSize Y)) h v → PlaneStop m address from to h v interpolate l (stop (predictionOutside address Y h v) l)
+  in-cr : (ReachesOut (blockPositionOf m (blockSize Y)) h v → ⊥) → ReachesOut (blockPositionOf m (blockSize Cr)) (chroma h) (chroma v)
       → PlaneStop m address from to h v interpolate l
-      (stop (predictionOutside address Cr (chroma h) (chroma v)) (ofStores m from to interpolate Y h v l .store))
+      (stop (predictionOutside address Cr (chroma h) (chroma v)) (predictPlaneFromStore m from to interpolate Y h v l .store))
 
 -- the same of a prediction from the store number k by the vector x
 abbrev pub DirectionStop : Context → ℕ → ℕ → Motion → Bool → List ℕ → Stop → Type 0

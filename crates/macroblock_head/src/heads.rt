@@ -11,14 +11,14 @@ use picture_state::flags::flag;
 use picture_state::types::Motion;
 use picture_state::types::Slice;
 ghost use mathlib.Core.Path.{_≡_};
-ghost use Rattle.bits.specs.Runs.{Inside, Reading};
-ghost use Rattle.codes.specs.Lent.{Lent};
+ghost use Rattle.bits.specs.Runs.{ReaderInBounds, RunsInBounds};
+ghost use Rattle.codes.specs.DecodingTables.{DecodingTables};
 ghost use Rattle.picture_state.specs.Possible.{PossibleMotion, PossibleSlice};
-ghost use Rattle.picture_state.specs.State.{zeroed, isSetAs, dcReset};
+ghost use Rattle.picture_state.specs.State.{zeroed, withIsSet, dcReset};
 ghost use Rattle.macroblock_head.specs.Heads.{macroblockType, scale, vector, forward, backward, vectors, flagged, vectorsReset, head, pattern};
 ghost use Rattle.macroblock_head.specs.Contracts.{PossibleMotions};
 
-pub struct Headed {
+pub struct HeadRead {
     pub reader: Reader,
     pub state: Slice,
 }
@@ -30,9 +30,9 @@ struct MotionRead {
 
 // RULES 7.13: the macroblock type, by the table of the picture's type.
 pub fn read_macroblock_type(s: &[u8], reader: Reader, tables: &Tables, picture_type: u32) -> VlcUint
-    requires { ⌜ Inside (now s) reader ⌝ }
-    requires { ⌜ Lent (now tables) ⌝ }
-    ensures { λ r. ⌜ Reading (macroblockType «picture_type») (now (s .entry)) reader (r .value) (r .reader) ⌝ }
+    requires { ⌜ ReaderInBounds (now s) reader ⌝ }
+    requires { ⌜ DecodingTables (now tables) ⌝ }
+    ensures { λ r. ⌜ RunsInBounds (macroblockType «picture_type») (now (s .entry)) reader (r .value) (r .reader) ⌝ }
 {
     if picture_type == 1 {
         return read_macroblock_type_intra(s, reader, tables);
@@ -57,7 +57,7 @@ pub fn zeroed(m: Motion) -> Motion
 }
 
 pub fn is_set_as(m: Motion, is: bool) -> Motion
-    ensures { λ r. ⌜ r ≡ isSetAs is m ⌝ }
+    ensures { λ r. ⌜ r ≡ withIsSet is m ⌝ }
 {
     let mut n = m;
     n.is_set = is;
@@ -66,10 +66,10 @@ pub fn is_set_as(m: Motion, is: bool) -> Motion
 
 // RULES 5.7: a vector, the horizontal component first.
 fn read_vector(s: &[u8], reader: Reader, tables: &Tables, m: Motion) -> MotionRead
-    requires { ⌜ Inside (now s) reader ⌝ }
-    requires { ⌜ Lent (now tables) ⌝ }
+    requires { ⌜ ReaderInBounds (now s) reader ⌝ }
+    requires { ⌜ DecodingTables (now tables) ⌝ }
     requires { ⌜ PossibleMotion m ⌝ }
-    ensures { λ r. ⌜ Reading (vector m) (now (s .entry)) reader (r .motion) (r .reader) ⌝ }
+    ensures { λ r. ⌜ RunsInBounds (vector m) (now (s .entry)) reader (r .motion) (r .reader) ⌝ }
 {
     let h = decode_motion_vector(s, reader, tables, m.r_size, m.h);
     let v = decode_motion_vector(s, h.reader, tables, m.r_size, m.v);
@@ -97,10 +97,10 @@ fn read_forward(
     picture_type: u32,
     m: Motion,
 ) -> MotionRead
-    requires { ⌜ Inside (now s) reader ⌝ }
-    requires { ⌜ Lent (now tables) ⌝ }
+    requires { ⌜ ReaderInBounds (now s) reader ⌝ }
+    requires { ⌜ DecodingTables (now tables) ⌝ }
     requires { ⌜ PossibleMotion m ⌝ }
-    ensures { λ r. ⌜ Reading (forward «picture_type» m) (now (s .entry)) reader (r .motion) (r .reader) ⌝ }
+    ensures { λ r. ⌜ RunsInBounds (forward «picture_type» m) (now (s .entry)) reader (r .motion) (r .reader) ⌝ }
 {
     if m.is_set {
         return read_vector(s, reader, tables, m);
@@ -116,10 +116,10 @@ fn read_forward(
 }
 
 fn read_backward(s: &[u8], reader: Reader, tables: &Tables, m: Motion) -> MotionRead
-    requires { ⌜ Inside (now s) reader ⌝ }
-    requires { ⌜ Lent (now tables) ⌝ }
+    requires { ⌜ ReaderInBounds (now s) reader ⌝ }
+    requires { ⌜ DecodingTables (now tables) ⌝ }
     requires { ⌜ PossibleMotion m ⌝ }
-    ensures { λ r. ⌜ Reading (backward m) (now (s .entry)) reader (r .motion) (r .reader) ⌝ }
+    ensures { λ r. ⌜ RunsInBounds (backward m) (now (s .entry)) reader (r .motion) (r .reader) ⌝ }
 {
     if m.is_set {
         return read_vector(s, reader, tables, m);
@@ -134,11 +134,11 @@ fn read_vectors(
     tables: &Tables,
     picture_type: u32,
     before: Slice,
-) -> Headed
-    requires { ⌜ Inside (now s) reader ⌝ }
-    requires { ⌜ Lent (now tables) ⌝ }
+) -> HeadRead
+    requires { ⌜ ReaderInBounds (now s) reader ⌝ }
+    requires { ⌜ DecodingTables (now tables) ⌝ }
     requires { ⌜ PossibleMotions before ⌝ }
-    ensures { λ r. ⌜ Reading (vectors «picture_type» before) (now (s .entry)) reader (r .state) (r .reader) ⌝ }
+    ensures { λ r. ⌜ RunsInBounds (vectors «picture_type» before) (now (s .entry)) reader (r .state) (r .reader) ⌝ }
 {
     let f = read_forward(s, reader, tables, picture_type, before.motion_forward);
     let b = read_backward(s, f.reader, tables, before.motion_backward);
@@ -148,28 +148,28 @@ fn read_vectors(
     let mut state = before;
     state.motion_forward = forward;
     state.motion_backward = backward;
-    Headed {
+    HeadRead {
         reader: after,
         state,
     }
 }
 
 // RULES 7.13: 5 bits of scale with flag 16.
-fn read_scale(s: &[u8], reader: Reader, t: u32, before: Slice) -> Headed
-    requires { ⌜ Inside (now s) reader ⌝ }
-    ensures { λ r. ⌜ Reading (scale t before) (now (s .entry)) reader (r .state) (r .reader) ⌝ }
+fn read_scale(s: &[u8], reader: Reader, t: u32, before: Slice) -> HeadRead
+    requires { ⌜ ReaderInBounds (now s) reader ⌝ }
+    ensures { λ r. ⌜ RunsInBounds (scale t before) (now (s .entry)) reader (r .state) (r .reader) ⌝ }
 {
     if flag(t, 16) {
         let q = reader.read(s, 5);
         let after = q.reader;
         let mut state = before;
         state.quantizer_scale = q.value;
-        return Headed {
+        return HeadRead {
             reader: after,
             state,
         };
     }
-    Headed {
+    HeadRead {
         reader,
         state: before,
     }
@@ -216,18 +216,18 @@ pub fn read_head(
     picture_type: u32,
     t: u32,
     before: Slice,
-) -> Headed
-    requires { ⌜ Inside (now s) reader ⌝ }
-    requires { ⌜ Lent (now tables) ⌝ }
+) -> HeadRead
+    requires { ⌜ ReaderInBounds (now s) reader ⌝ }
+    requires { ⌜ DecodingTables (now tables) ⌝ }
     requires { ⌜ PossibleSlice before ⌝ }
-    ensures { λ r. ⌜ Reading (head «picture_type» t before) (now (s .entry)) reader (r .state) (r .reader) ⌝ }
+    ensures { λ r. ⌜ RunsInBounds (head «picture_type» t before) (now (s .entry)) reader (r .state) (r .reader) ⌝ }
 {
     let q = read_scale(s, reader, t, flagged(t, before));
     let after = q.reader;
     let scaled = q.state;
     if flag(t, 1) {
         let state = vectors_reset(scaled);
-        return Headed {
+        return HeadRead {
             reader: after,
             state,
         };
@@ -238,9 +238,9 @@ pub fn read_head(
 
 // RULES 7.16: read with flag 2; else 63 for an intra macroblock, and 0 for any other.
 pub fn read_pattern(s: &[u8], reader: Reader, tables: &Tables, t: u32) -> VlcUint
-    requires { ⌜ Inside (now s) reader ⌝ }
-    requires { ⌜ Lent (now tables) ⌝ }
-    ensures { λ r. ⌜ Reading (pattern t) (now (s .entry)) reader (r .value) (r .reader) ⌝ }
+    requires { ⌜ ReaderInBounds (now s) reader ⌝ }
+    requires { ⌜ DecodingTables (now tables) ⌝ }
+    ensures { λ r. ⌜ RunsInBounds (pattern t) (now (s .entry)) reader (r .value) (r .reader) ⌝ }
 {
     if flag(t, 2) {
         return read_code_block_pattern(s, reader, tables);

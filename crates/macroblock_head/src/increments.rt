@@ -3,8 +3,8 @@ use bits::reader::Reader;
 use codes::codes::read_macroblock_address_increment;
 use codes::lent::Tables;
 ghost use Prim.Native.Nat.{_≤_};
-ghost use Rattle.bits.specs.Runs.{Inside, Reading};
-ghost use Rattle.codes.specs.Lent.{Lent};
+ghost use Rattle.bits.specs.Runs.{ReaderInBounds, RunsInBounds};
+ghost use Rattle.codes.specs.DecodingTables.{DecodingTables};
 ghost use Rattle.macroblock_head.specs.Increments.{incrementStep, increment};
 ghost use Rattle.macroblock_head.specs.Contracts.{stepOf};
 
@@ -22,10 +22,10 @@ struct IncrementStep {
 
 // A code of 34 (stuffing) is dropped where no 35 (escape) came before it; a 35 adds 33 and goes on; any other is added and is the last.
 fn increment_step(s: &[u8], reader: Reader, tables: &Tables, sum: usize) -> IncrementStep
-    requires { ⌜ Inside (now s) reader ⌝ }
-    requires { ⌜ Lent (now tables) ⌝ }
+    requires { ⌜ ReaderInBounds (now s) reader ⌝ }
+    requires { ⌜ DecodingTables (now tables) ⌝ }
     requires { ⌜ sum ≤ 402653249 ⌝ }
-    ensures { λ r. ⌜ Reading (incrementStep sum) (now (s .entry)) reader (stepOf (r .continues) (r .sum)) (r .reader) ⌝ }
+    ensures { λ r. ⌜ RunsInBounds (incrementStep sum) (now (s .entry)) reader (stepOf (r .continues) (r .sum)) (r .reader) ⌝ }
 {
     let code = read_macroblock_address_increment(s, reader, tables);
     let after = code.reader;
@@ -62,9 +62,9 @@ fn increment_step(s: &[u8], reader: Reader, tables: &Tables, sum: usize) -> Incr
 
 // The sum of the codes.
 pub fn read_increment(s: &[u8], reader: Reader, tables: &Tables) -> Increment
-    requires { ⌜ Inside (now s) reader ⌝ }
-    requires { ⌜ Lent (now tables) ⌝ }
-    ensures { λ r. ⌜ Reading increment (now (s .entry)) reader (r .sum) (r .reader) ⌝ }
+    requires { ⌜ ReaderInBounds (now s) reader ⌝ }
+    requires { ⌜ DecodingTables (now tables) ⌝ }
+    ensures { λ r. ⌜ RunsInBounds increment (now (s .entry)) reader (r .sum) (r .reader) ⌝ }
 {
     let mut from = reader;
     let mut sum: usize = 0;

@@ -11,7 +11,7 @@ use lib.Seq.{drop-at, take-at}
 use Rattle.decoder.specs.declared.record.Decoder.{Decoder}
 use Rattle.decoder.specs.Record.{position}
 use Rattle.laws.proofs.Tests.{both}
-use Rattle.memory.specs.Fields.{Number, flag, short, size, Entry, fields, flagNumber, value, most, fits, elements, count}
+use Rattle.memory.specs.Fields.{Number, flag, word32, size, Entry, fields, flagNumber, value, most, fits, elements, count}
 use Rattle.memory.specs.Fields.{TypedNumbers, Sized, TypedEntries, number, flagOf}
 use Rattle.memory.specs.Memory.{over, within, inRange}
 
@@ -41,18 +41,18 @@ pub within-own : (d : Decoder) (t : List ℕ) (fs : List Number) → TypedNumber
 unfolding within
 within-own d t [] f = refl
 within-own d t (flag g ∷ fs) f = rw (flag-is (g d)) (within-own d t fs f)
-within-own d t (short g ∷ fs) f = rw (le-leb (g d) 4294967295 (f .0)) (within-own d t fs (f .1))
+within-own d t (word32 g ∷ fs) f = rw (le-leb (g d) 4294967295 (f .0)) (within-own d t fs (f .1))
 within-own d t (size g ∷ fs) f = within-own d t fs f
 
 -- a number of 64 bits is in the range of its field, or it is not
 fits-is : (f : Number) (x : ℕ) → x ≤ most f → fits f x ≡ true
 fits-is (flag f) x h = le-leb x 1 h
-fits-is (short f) x h = le-leb x 4294967295 h
+fits-is (word32 f) x h = le-leb x 4294967295 h
 fits-is (size f) x h = refl
 
 fits-not : (f : Number) (x : ℕ) → x ≤ 18446744073709551615 → most f < x → fits f x ≡ false
 fits-not (flag f) x w h = lt-leb x 1 h
-fits-not (short f) x w h = lt-leb x 4294967295 h
+fits-not (word32 f) x w h = lt-leb x 4294967295 h
 fits-not (size f) x w h = absurd (omega arith)
 
 -- the number at the place k; behind the last one each is a value
@@ -69,7 +69,7 @@ pub flag-at : (n : List ℕ) → inRange n ≡ true → (k : ℕ) {f : Decoder �
 flag-at n e k p = flag-forth (number n k) (rw p at (within-at (fields .numbers) n e k))
 
 -- a number of 32 bits
-pub short-at : (n : List ℕ) → inRange n ≡ true → (k : ℕ) {f : Decoder → ℕ} → getD (fields .numbers) k (size position) ≡ short f → number n k ≤ 4294967295
+pub short-at : (n : List ℕ) → inRange n ≡ true → (k : ℕ) {f : Decoder → ℕ} → getD (fields .numbers) k (size position) ≡ word32 f → number n k ≤ 4294967295
 short-at n e k p = leb-true (number n k) 4294967295 (rw p at (within-at (fields .numbers) n e k))
 
 pub within-all : (fs : List Number) (n : List ℕ) → length fs ≤ length n → ((k : ℕ) → k < length fs → getD n k 0 ≤ getD (bounds fs) k 0)

@@ -18,7 +18,7 @@ use Rattle.decoder.specs.Record.{position}
 -- a number is a flag, one of 32 bits or one of 64
 pub data Number : Type 0 where
   flag : (Decoder → Bool) → Number
-  short : (Decoder → ℕ) → Number
+  word32 : (Decoder → ℕ) → Number
   size : (Decoder → ℕ) → Number
 
 -- so many elements of another part; one
@@ -49,20 +49,20 @@ fields = record {
       ∷ size (λ d. d .sequence .sizes .«mb_width»)
       ∷ size (λ d. d .sequence .sizes .«mb_height»)
       ∷ size (λ d. d .sequence .sizes .«mb_size»)
-      ∷ short (λ d. d .state .picture .«picture_type»)
+      ∷ word32 (λ d. d .state .picture .«picture_type»)
       ∷ size (λ d. d .state .picture .stores .cur)
       ∷ size (λ d. d .state .picture .stores .fwd)
       ∷ size (λ d. d .state .picture .stores .bwd)
-      ∷ short (λ d. d .state .picture .slice .«quantizer_scale»)
+      ∷ word32 (λ d. d .state .picture .slice .«quantizer_scale»)
       ∷ flag (λ d. d .state .picture .slice .«motion_forward» .«full_px»)
       ∷ flag (λ d. d .state .picture .slice .«motion_forward» .«is_set»)
-      ∷ short (λ d. d .state .picture .slice .«motion_forward» .«r_size»)
+      ∷ word32 (λ d. d .state .picture .slice .«motion_forward» .«r_size»)
       ∷ flag (λ d. d .state .picture .slice .«motion_backward» .«full_px»)
       ∷ flag (λ d. d .state .picture .slice .«motion_backward» .«is_set»)
-      ∷ short (λ d. d .state .picture .slice .«motion_backward» .«r_size»)
+      ∷ word32 (λ d. d .state .picture .slice .«motion_backward» .«r_size»)
       ∷ flag (λ d. hasReferenceFrame (d .state))
-      ∷ short (λ d. frames (d .state))
-      ∷ short (λ d. d .stop)
+      ∷ word32 (λ d. frames (d .state))
+      ∷ word32 (λ d. d .stop)
       ∷ [];
   integers =
       one (λ d. d .state .picture .«start_code»)
@@ -159,18 +159,18 @@ flagNumber x = cond x 1 0
 -- a number of a record, and the most that its type holds
 abbrev pub value : Decoder → Number → ℕ
 value d (flag f) = flagNumber (f d)
-value d (short f) = f d
+value d (word32 f) = f d
 value d (size f) = f d
 
 abbrev pub most : Number → ℕ
 most (flag f) = 1
-most (short f) = 4294967295
+most (word32 f) = 4294967295
 most (size f) = 18446744073709551615
 
 -- is a number of 64 bits a value of that type?
 abbrev pub fits : Number → ℕ → Bool
 fits (flag f) x = leb x 1
-fits (short f) x = leb x 4294967295
+fits (word32 f) x = leb x 4294967295
 fits (size f) x = true
 
 -- the elements of a record, and how many there are
@@ -213,7 +213,7 @@ clockCount = count (fields .clock)
 abbrev pub TypedNumbers : List Number → Decoder → Type 0
 TypedNumbers [] d = Unit {0}
 TypedNumbers (flag f ∷ fs) d = TypedNumbers fs d
-TypedNumbers (short f ∷ fs) d = (f d ≤ 4294967295) × TypedNumbers fs d
+TypedNumbers (word32 f ∷ fs) d = (f d ≤ 4294967295) × TypedNumbers fs d
 TypedNumbers (size f ∷ fs) d = TypedNumbers fs d
 
 pub record Sized {A : Type 0} (x : List A) (n : ℕ) : Type 0 where

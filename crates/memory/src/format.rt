@@ -14,7 +14,7 @@ pub const CLOCK: usize = 4;
 
 const FLAG: usize = 1;
 
-const SHORT: usize = 4294967295;
+const WORD32: usize = 4294967295;
 
 const SIZE: usize = 18446744073709551615;
 
@@ -26,20 +26,20 @@ pub const BOUNDS: [usize; NUMBERS] = [
     SIZE,
     SIZE,
     SIZE,
-    SHORT,
+    WORD32,
     SIZE,
     SIZE,
     SIZE,
-    SHORT,
+    WORD32,
     FLAG,
     FLAG,
-    SHORT,
+    WORD32,
     FLAG,
     FLAG,
-    SHORT,
+    WORD32,
     FLAG,
-    SHORT,
-    SHORT,
+    WORD32,
+    WORD32,
 ];
 
 fn flag(x: bool) -> usize
@@ -101,7 +101,7 @@ pub fn predictors_of(d: Decoder) -> [i32; 3]
     s.dc_predictor
 }
 
-pub fn left_of(d: Decoder) -> [i32; 64]
+pub fn block_data_of(d: Decoder) -> [i32; 64]
     ensures { λ r. ⌜ r ≡ d .«block_data» ⌝ }
 {
     d.block_data

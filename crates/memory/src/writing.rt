@@ -2,9 +2,9 @@
 use crate::copies::copy_bytes;
 use crate::copies::copy_integers;
 use crate::copies::copy_numbers;
+use crate::format::block_data_of;
 use crate::format::clock_of;
 use crate::format::intra_of;
-use crate::format::left_of;
 use crate::format::non_intra_of;
 use crate::format::numbers_of;
 use crate::format::predictors_of;
@@ -32,7 +32,7 @@ fn put_integers(integers: &mut [i32], d: Decoder)
 {
     let single = single_integers(d);
     let predictors = predictors_of(d);
-    let left = left_of(d);
+    let left = block_data_of(d);
     copy_integers(integers, 0, &single);
     copy_integers(integers, 6, &predictors);
     copy_integers(integers, 9, &left);

@@ -7,7 +7,7 @@ use native.Mathlib.Omega.{arith}
 use lib.Dec.{eqb}
 use lib.IntN.{ℤ, pos, natAbs, _+ℤ_}
 use lib.Pow.{pow-pos, pow-mono}
-use Rattle.bits.specs.Programs.{Out, done, run, eqZ}
+use Rattle.bits.specs.Programs.{RunResult, done, run, eqZ}
 use Rattle.bits.proofs.Gives.{Gives, g-done, g-bind, g-if, g-bits}
 use Rattle.bits.proofs.Programs.{run-bind}
 use Rattle.codes.proofs.Values.{motion-most}
@@ -20,7 +20,7 @@ use Rattle.motion.proofs.Displacement.{displace-small}
 pub step-is : (r : ℕ) (component : ℤ) (s : List ℕ) (a : ℕ)
     → run (motionVector r component) s a .value ≡ corrected (2 ^ r) (component +ℤ run (displacement r) s a .value)
 unfolding motionVector run
-step-is r component s a = ap (λ (o : Out ℤ). o .value) (run-bind (displacement r) (λ d. done (corrected (2 ^ r) (component +ℤ d))) s a)
+step-is r component s a = ap (λ (o : RunResult ℤ). o .value) (run-bind (displacement r) (λ d. done (corrected (2 ^ r) (component +ℤ d))) s a)
 
 module _ {s : List ℕ} where
   -- a displacement is from -16 f to 16 f

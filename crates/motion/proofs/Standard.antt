@@ -12,12 +12,12 @@ use lib.Signed.{leZ}
 use borrow.Author.Tests.{eqb-true, ne-eqb}
 use Rattle.laws.proofs.Ints.{Dif, up, dn, v, lit, neg, as-dif, _⊕_, _⊖_, _⊗_, eq-by, eq-of, le-of, lt-of, yes-lt, no-lt, yes-le, no-le}
 use Rattle.bits.specs.Bits.{readAt}
-use Rattle.bits.specs.Programs.{Prog, Out, done, run, bind, bits, eqZ}
+use Rattle.bits.specs.Programs.{Prog, RunResult, done, run, bind, bits, eqZ}
 use Rattle.bits.proofs.Codes.{eqZ-no}
 use Rattle.bits.proofs.Gives.{g-bits}
 use Rattle.bits.proofs.Programs.{run-bind}
 use Rattle.codes.specs.Codes.{motion}
-use Rattle.motion.specs.Displacement.{InRange, displace, corrected}
+use Rattle.motion.specs.Displacement.{InRange, displacementFrom, corrected}
 use Rattle.motion.specs.Standard.{Right, complement, right, recon, reconstructed, residual, standardVector}
 use Rattle.motion.specs.Vector.{displacement, motionVector}
 use Rattle.motion.proofs.Correction.{corrected-by}
@@ -42,8 +42,8 @@ not-0 : {x : ℤ} {p n : ℕ} → Dif x p n → (p ≡ n → ⊥) → eqZ x (pos
 not-0 {x} w g = eqZ-no x (pos 0) (λ e. g (omega (arith, eq-of w (lit 0) e)))
 
 -- for a code of either sign, right_little is the displacement
-right-is : (f : ℕ) (m : ℤ) (R : ℕ) → R < f → (m ≡ pos 0 → ⊥) → right f (m *ℤ pos f) (complement f m R) ≡ sides f m (displace f m R)
-unfolding right displace
+right-is : (f : ℕ) (m : ℤ) (R : ℕ) → R < f → (m ≡ pos 0 → ⊥) → right f (m *ℤ pos f) (complement f m R) ≡ sides f m (displacementFrom f m R)
+unfolding right displacementFrom
 right-is f (pos zero) R b g = absurd (g refl)
 right-is f (pos (suc k)) R b g =
     let w = v (pos (suc k)) ⊗ lit f in
@@ -70,8 +70,8 @@ recon-is f prev d x e over less =
     (λ h. rw (yes-le (v z) max (omega arith), yes-le min (v z) (omega arith))))
 
 -- for every code m, those from -16 to 16 among them, and every residual
-pub standard : (f : ℕ) (prev m : ℤ) (R : ℕ) → InRange f prev → R < f → reconstructed f prev m R ≡ corrected f (prev +ℤ displace f m R)
-unfolding reconstructed displace right
+pub standard : (f : ℕ) (prev m : ℤ) (R : ℕ) → InRange f prev → R < f → reconstructed f prev m R ≡ corrected f (prev +ℤ displacementFrom f m R)
+unfolding reconstructed displacementFrom right
 standard f prev (pos zero) R i b =
     let lo = le-of (neg (lit (16 * f))) (v prev) (i .low) in
     let hi = lt-of (v prev) (lit (16 * f)) (i .high) in
@@ -82,14 +82,14 @@ standard f prev (pos zero) R i b =
     (λ h. let z : ⊥ = omega arith in absurd z))
 standard f prev (pos (suc k)) R i b =
     let m = pos (suc k) in
-    let d = displace f m R in
+    let d = displacementFrom f m R in
     let lo = le-of (neg (lit (16 * f))) (v prev) (i .low) in
     let e = (v prev ⊕ displace-up f m R (omega arith)) .dif in
     ap (recon f prev) (right-is f m R b (λ e. omega (arith, ap up e)))
     ∙ recon-is f prev d (sides f m d) refl (λ h. refl) (λ h. let z : ⊥ = omega arith in absurd z)
 standard f prev (negsuc k) R i b =
     let m = negsuc k in
-    let d = displace f m R in
+    let d = displacementFrom f m R in
     let hi = lt-of (v prev) (lit (16 * f)) (i .high) in
     let e = (v prev ⊕ displace-down f m R (omega arith)) .dif in
     ap (recon f prev) (right-is f m R b (λ e. omega (arith, ap dn e)))
@@ -111,13 +111,13 @@ abbrev theirs : ℕ → ℤ → Bool → Bool → ℤ → Prog ℤ
 theirs r prev t u m = bind (cond (not t && not u) (bits r) (done 0)) (λ R. done (reconstructed (2 ^ r) prev m R))
 
 abbrev ours : ℕ → Bool → Bool → ℤ → Prog ℤ
-ours r t u m = cond (u || t) (done m) (bind (bits r) (λ R. done (displace (2 ^ r) m R)))
+ours r t u m = cond (u || t) (done m) (bind (bits r) (λ R. done (displacementFrom (2 ^ r) m R)))
 
 abbrev corrects : ℕ → ℤ → ℤ → Prog ℤ
 corrects r prev d = done (corrected (2 ^ r) (prev +ℤ d))
 
 module _ (r : ℕ) (prev : ℤ) (i : InRange (2 ^ r) prev) (s : List ℕ) where
-  plain : (m : ℤ) (a : ℕ) → displace (2 ^ r) m 0 ≡ m → run (done (reconstructed (2 ^ r) prev m 0)) s a ≡ run (corrects r prev m) s a
+  plain : (m : ℤ) (a : ℕ) → displacementFrom (2 ^ r) m 0 ≡ m → run (done (reconstructed (2 ^ r) prev m 0)) s a ≡ run (corrects r prev m) s a
   plain m a e = rw (standard (2 ^ r) prev m 0 i (pow-pos r), e)
 
   same : (m : ℤ) (a : ℕ) (t u : Bool) → eqb r 0 ≡ t → eqZ m (pos 0) ≡ u
@@ -138,4 +138,4 @@ module _ (r : ℕ) (prev : ℤ) (i : InRange (2 ^ r) prev) (s : List ℕ) where
       (run-bind motion (λ n. theirs r prev (eqb r 0) (eqZ n (pos 0)) n) s a
       ∙ same m e (eqb r 0) (eqZ m (pos 0)) refl refl
       ∙ run-bind (k m) (corrects r prev) s e
-      ∙ sym (run-bind (bind motion k) (corrects r prev) s a ∙ ap (λ (o : Out ℤ). run (corrects r prev (o .value)) s (o .at)) (run-bind motion k s a)))
+      ∙ sym (run-bind (bind motion k) (corrects r prev) s a ∙ ap (λ (o : RunResult ℤ). run (corrects r prev (o .value)) s (o .at)) (run-bind motion k s a)))

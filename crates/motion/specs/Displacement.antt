@@ -10,10 +10,10 @@ pub record InRange (f : ℕ) (x : ℤ) : Type 0 where
   pub high : x <ℤ pos (16 * f)
 
 -- RULES 5.4: (|m| - 1) × f + R + 1 with the sign of m; 0 for m = 0
-unfoldable pub displace : ℕ → ℤ → ℕ → ℤ
-displace f (pos zero) R = pos 0
-displace f (pos (suc k)) R = pos (k * f + R + 1)
-displace f (negsuc k) R = negℤ (pos (k * f + R + 1))
+unfoldable pub displacementFrom : ℕ → ℤ → ℕ → ℤ
+displacementFrom f (pos zero) R = pos 0
+displacementFrom f (pos (suc k)) R = pos (k * f + R + 1)
+displacementFrom f (negsuc k) R = negℤ (pos (k * f + R + 1))
 
 -- RULES 5.5: a sum above 16 f - 1 loses 32 f, one below -16 f gains 32 f
 unfoldable pub corrected : ℕ → ℤ → ℤ

@@ -5,7 +5,7 @@ use lib.Dec.{eqb}
 use lib.IntN.{ℤ, pos, _+ℤ_}
 use Rattle.bits.specs.Programs.{Prog, done, bind, bits, eqZ, _>>=_, _>>_, if_then_else_}
 use Rattle.codes.specs.Codes.{motion}
-use Rattle.motion.specs.Displacement.{displace, corrected}
+use Rattle.motion.specs.Displacement.{displacementFrom, corrected}
 
 -- the displacement, f being 2 ^ r: the code alone where it is 0 or f is 1, else with r bits of residual
 unfoldable pub displacement : ℕ → Prog ℤ
@@ -13,7 +13,7 @@ displacement r = do
   m ← motion
   if eqZ m (pos 0) || eqb r 0 then done m else do
     R ← bits r
-    done (displace (2 ^ r) m R)
+    done (displacementFrom (2 ^ r) m R)
 
 -- a vector step
 unfoldable pub motionVector : ℕ → ℤ → Prog ℤ

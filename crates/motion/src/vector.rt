@@ -5,9 +5,9 @@ use codes::lent::Tables;
 ghost use mathlib.Core.Path.{_≡_};
 ghost use Prim.Native.Nat.{_^_, _≤_, _<_};
 ghost use lib.IntN.{natAbs};
-ghost use Rattle.bits.specs.Runs.{Inside, Reading};
-ghost use Rattle.codes.specs.Lent.{Lent};
-ghost use Rattle.motion.specs.Displacement.{InRange, displace, corrected};
+ghost use Rattle.bits.specs.Runs.{ReaderInBounds, RunsInBounds};
+ghost use Rattle.codes.specs.DecodingTables.{DecodingTables};
+ghost use Rattle.motion.specs.Displacement.{InRange, displacementFrom, corrected};
 ghost use Rattle.motion.specs.Vector.{displacement, motionVector};
 
 pub struct ReadDisplacement {
@@ -36,7 +36,7 @@ fn displacement(r: u32, m_code: i32, residual: u32) -> i32
     requires { ⌜ r ≤ 6 ⌝ }
     requires { ⌜ (0 < natAbs «m_code») × (natAbs «m_code» ≤ 16) ⌝ }
     requires { ⌜ residual < 2 ^ r ⌝ }
-    ensures { λ d. ⌜ d ≡ displace (2 ^ r) «m_code» residual ⌝ }
+    ensures { λ d. ⌜ d ≡ displacementFrom (2 ^ r) «m_code» residual ⌝ }
 {
     let size = ((abs(m_code) - 1) << r) + residual + 1;
     let d = size as i32;
@@ -64,10 +64,10 @@ fn corrected(r: u32, motion: i32) -> i32
 
 // The displacement at the reader's place: a code alone where it is 0 or r is 0, else with a residual of r bits (RULES 5.3, 5.4).
 fn read_displacement(s: &[u8], reader: Reader, tables: &Tables, r: u32) -> ReadDisplacement
-    requires { ⌜ Inside (now s) reader ⌝ }
-    requires { ⌜ Lent (now tables) ⌝ }
+    requires { ⌜ ReaderInBounds (now s) reader ⌝ }
+    requires { ⌜ DecodingTables (now tables) ⌝ }
     requires { ⌜ r ≤ 6 ⌝ }
-    ensures { λ d. ⌜ Reading (displacement r) (now (s .entry)) reader (d .value) (d .reader) ⌝ }
+    ensures { λ d. ⌜ RunsInBounds (displacement r) (now (s .entry)) reader (d .value) (d .reader) ⌝ }
 {
     let code = read_motion(s, reader, tables);
     let after = code.reader;
@@ -96,11 +96,11 @@ pub fn decode_motion_vector(
     r: u32,
     motion: i32,
 ) -> MotionVector
-    requires { ⌜ Inside (now s) reader ⌝ }
-    requires { ⌜ Lent (now tables) ⌝ }
+    requires { ⌜ ReaderInBounds (now s) reader ⌝ }
+    requires { ⌜ DecodingTables (now tables) ⌝ }
     requires { ⌜ r ≤ 6 ⌝ }
     requires { ⌜ InRange 64 motion ⌝ }
-    ensures { λ v. ⌜ Reading (motionVector r motion) (now (s .entry)) reader (v .motion) (v .reader) ⌝ }
+    ensures { λ v. ⌜ RunsInBounds (motionVector r motion) (now (s .entry)) reader (v .motion) (v .reader) ⌝ }
 {
     let d = read_displacement(s, reader, tables, r);
     let after = d.reader;

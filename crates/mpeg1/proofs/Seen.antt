@@ -12,15 +12,15 @@ use Rattle.prediction.specs.declared.planes.Plane.{Plane}
 use Rattle.prediction.specs.declared.planes.Plane.the-variants.{Y, Cr, Cb}
 use Rattle.prediction.specs.Planes.{blockSize}
 use Rattle.header.specs.declared.state.Sequence.{Sequence}
-use Rattle.header.specs.State.{noTime, freshSequence}
+use Rattle.header.specs.State.{zeroFloat, freshSequence}
 use Rattle.header.specs.Possible.{possibleSequence}
 use Rattle.header.proofs.Sizing.{possible-sized}
 use Rattle.memory.specs.Fields.{number, numberCount, clockCount}
 use Rattle.mpeg1.specs.Calls.{zeroClock}
-use Rattle.mpeg1.specs.Views.{FewMacroblocks, sequenceSeen, seen, numberSeen}
+use Rattle.mpeg1.specs.Views.{MacroblockBounds, sequenceUnchecked, seen, numberView}
 
 -- the constant 0.0
-pub zero-is : ofBits binary64 0 ≡ noTime
+pub zero-is : ofBits binary64 0 ≡ zeroFloat
 unfolding ofBits ofInt
 zero-is = refl
 
@@ -29,13 +29,13 @@ still-is = ap (replicate clockCount) zero-is
 
 -- ---- the sequence
 
-pub few : {q : Sequence} → possibleSequence q ≡ true → FewMacroblocks q
+pub few : {q : Sequence} → possibleSequence q ≡ true → MacroblockBounds q
 few {q} e =
     let z = possible-sized q e .2 in record { across = z .across; size = omega (arith, z .size, mul-le-mul (z .across) (z .down)) }
 
 module _ (n : List ℕ) where
   -- a fresh sequence, and why it is the one seen
-  pub none-seen : {q : Sequence} → q ≡ freshSequence → freshSequence ≡ seen n → (q ≡ seen n) × FewMacroblocks q
+  pub none-seen : {q : Sequence} → q ≡ freshSequence → freshSequence ≡ seen n → (q ≡ seen n) × MacroblockBounds q
   none-seen e f = (e ∙ f, rw e (record { across = omega arith; size = omega arith }))
 
   pub seen-short : length n < numberCount → freshSequence ≡ seen n
@@ -48,24 +48,24 @@ module _ (n : List ℕ) where
     seen-flag f = rw (le-leb numberCount (length n) h, lt-leb (number n 1) 1 f)
 
     module _ (f : number n 1 ≤ 1) where
-      pub seen-impossible : possibleSequence (sequenceSeen n) ≡ false → freshSequence ≡ seen n
+      pub seen-impossible : possibleSequence (sequenceUnchecked n) ≡ false → freshSequence ≡ seen n
       unfolding seen
       seen-impossible e = rw (le-leb numberCount (length n) h, le-leb (number n 1) 1 f, e)
 
-      pub seen-is : possibleSequence (sequenceSeen n) ≡ true → sequenceSeen n ≡ seen n
+      pub seen-is : possibleSequence (sequenceUnchecked n) ≡ true → sequenceUnchecked n ≡ seen n
       unfolding seen
       seen-is e = rw (le-leb numberCount (length n) h, le-leb (number n 1) 1 f, e)
 
   -- ---- a number
 
   module _ (k m : ℕ) where
-    pub number-short : length n < numberCount → 0 ≡ numberSeen n k m
+    pub number-short : length n < numberCount → 0 ≡ numberView n k m
     number-short h = rw (lt-leb numberCount (length n) h)
 
-    pub number-more : numberCount ≤ length n → m < number n k → 0 ≡ numberSeen n k m
+    pub number-more : numberCount ≤ length n → m < number n k → 0 ≡ numberView n k m
     number-more h q = rw (le-leb numberCount (length n) h, lt-leb (number n k) m q)
 
-    pub number-is : numberCount ≤ length n → number n k ≤ m → number n k ≡ numberSeen n k m
+    pub number-is : numberCount ≤ length n → number n k ≤ m → number n k ≡ numberView n k m
     number-is h q = rw (le-leb numberCount (length n) h, le-leb (number n k) m q)
 
 pub block-most : (p : Plane) → blockSize p ≤ 16

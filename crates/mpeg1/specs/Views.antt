@@ -11,7 +11,7 @@ use Rattle.prediction.specs.declared.planes.Plane.{Plane}
 use Rattle.prediction.specs.declared.planes.Plane.the-variants.{Y, Cr, Cb}
 use Rattle.prediction.specs.Planes.{blockSize, planeLength, planeStart, storesBytes}
 use Rattle.header.specs.declared.state.Sequence.{Sequence}
-use Rattle.header.specs.State.{noTime, freshSequence}
+use Rattle.header.specs.State.{zeroFloat, freshSequence}
 use Rattle.header.specs.Possible.{sizesOf, possibleSequence}
 use Rattle.memory.specs.Fields.{number, sequenceIn, numberCount, matrixCount, clockCount}
 
@@ -20,30 +20,30 @@ abbrev pub version : ℕ
 version = 1
 
 -- what numbers 1 to 6 say of the sequence; no view reads a matrix
-abbrev pub sequenceSeen : List ℕ → Sequence
-sequenceSeen n = sequenceIn n (replicate matrixCount 0)
+abbrev pub sequenceUnchecked : List ℕ → Sequence
+sequenceUnchecked n = sequenceIn n (replicate matrixCount 0)
 
 -- RULES Q2: that, if it is possible; else the fresh one, whose sizes are 0
 unfoldable pub seen : List ℕ → Sequence
 seen n =
-    let q = sequenceSeen n in
+    let q = sequenceUnchecked n in
     if leb numberCount (length n) && leb (number n 1) 1 then (if possibleSequence q then q else freshSequence) else freshSequence
 
 -- the macroblocks of a picture are few
-pub record FewMacroblocks (q : Sequence) : Type 0 where
+pub record MacroblockBounds (q : Sequence) : Type 0 where
   pub across : q .sizes .«mb_width» ≤ 256
   pub size : q .sizes .«mb_size» ≤ 65536
 
 -- number k if it is at most m, else 0
-abbrev pub numberSeen : List ℕ → ℕ → ℕ → ℕ
-numberSeen n k m = if leb numberCount (length n) && leb (number n k) m then number n k else 0
+abbrev pub numberView : List ℕ → ℕ → ℕ → ℕ
+numberView n k m = if leb numberCount (length n) && leb (number n k) m then number n k else 0
 
 -- RULES Q2: the type read last, and the whole bytes read so far
 abbrev pub typeSeen : List ℕ → ℕ
-typeSeen n = numberSeen n 7 7
+typeSeen n = numberView n 7 7
 
 abbrev pub bytesRead : List ℕ → ℕ
-bytesRead n = numberSeen n 0 lastPosition / 8
+bytesRead n = numberView n 0 lastPosition / 8
 
 -- the plane of a number: Y, Cr, Cb
 abbrev pub planeNumber : ℕ → Plane
@@ -61,7 +61,7 @@ planeBegin n k p = if leb k 2 && leb p 2 then planeStart k (planeNumber p) (seen
 
 -- number k of a clock; 0.0 where the memory is too short
 abbrev pub clockNumber : List Float → ℕ → Float
-clockNumber c k = if leb clockCount (length c) then getD c k nan else noTime
+clockNumber c k = if leb clockCount (length c) then getD c k nan else zeroFloat
 
 -- RULES 6.11, O.4: bytes of the three stores of a picture; 0 for a size that no header may have
 abbrev pub storeBytesOf : ℕ → ℕ → ℕ

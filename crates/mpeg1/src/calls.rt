@@ -16,7 +16,7 @@ ghost use mathlib.Core.Path.{_≡_};
 ghost use mathlib.Core.Bool.{true};
 ghost use Rattle.decoder.specs.Decode as Out;
 ghost use Rattle.memory.specs.Memory.{memory, recordOf, isRecord};
-ghost use Rattle.mpeg1.specs.Calls.{hostResult, hostOutput, pictureNumbers, RefinesDecode, unclocked, converts};
+ghost use Rattle.mpeg1.specs.Calls.{hostResult, hostOutput, pictureNumbers, RefinesDecode, withoutClock, converts};
 ghost use Rattle.mpeg1.specs.Calls.{HostOpens, HostDecodes, HostConverts};
 
 // How many numbers are told of a picture.
@@ -121,7 +121,7 @@ pub extern "C" fn mpeg1_write_rgb_scaled(
     width: usize,
     height: usize,
 ) -> u32
-    ensures { λ r. ⌜ HostConverts (now (store .entry)) (unclocked (now (numbers .entry)) (now (integers .entry)) (now (matrices .entry)))
+    ensures { λ r. ⌜ HostConverts (now (store .entry)) (withoutClock (now (numbers .entry)) (now (integers .entry)) (now (matrices .entry)))
         index (now (area .entry)) width height (converts r (now (area .exit))) ⌝ }
 {
     let still = [0.0f64; CLOCK];

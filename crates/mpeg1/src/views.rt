@@ -24,7 +24,7 @@ ghost use Rattle.mpeg1.specs.Calls.{pictureCount};
 ghost use Rattle.mpeg1.specs.Views as View;
 
 fn seen(numbers: &[usize]) -> Sequence
-    ensures { λ r. ⌜ (r ≡ View.seen (now (numbers .entry))) × View.FewMacroblocks r ⌝ }
+    ensures { λ r. ⌜ (r ≡ View.seen (now (numbers .entry))) × View.MacroblockBounds r ⌝ }
 {
     if numbers.len() < NUMBERS {
         return fresh_sequence();
@@ -43,7 +43,7 @@ fn seen(numbers: &[usize]) -> Sequence
 // Number k, if it is at most m.
 fn number_seen(numbers: &[usize], k: usize, m: usize) -> usize
     requires { ⌜ k < numberCount ⌝ }
-    ensures { λ r. ⌜ r ≡ View.numberSeen (now (numbers .entry)) k m ⌝ }
+    ensures { λ r. ⌜ r ≡ View.numberView (now (numbers .entry)) k m ⌝ }
     ensures { λ r. ⌜ r ≤ m ⌝ }
 {
     if numbers.len() < NUMBERS {

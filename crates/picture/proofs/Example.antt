@@ -5,10 +5,10 @@ use mathlib.Core.List.{List, [], _∷_, _++_}
 use Prim.Native.Nat.{ℕ}
 use lib.IntN.{ℤ, pos}
 use lib.ListN.{replicate, take}
-use Rattle.laws.specs.Signed.{clamp255, odd, half0}
+use Rattle.laws.specs.Signed.{clamp255, odd, halfTowardZero}
 use Rattle.laws.specs.Stores.{storeRow, storeRows}
 use Rattle.bits.specs.Bits.{bitAt, bitsAt, readAt, afterRead, codePrefix, codeFrom, found}
-use Rattle.bits.specs.Programs.{run, bind, forBelow, loop, Out}
+use Rattle.bits.specs.Programs.{run, bind, forBelow, loop, RunResult}
 use Rattle.codes.specs.Tables.{macroblockAddressIncrementIndex, macroblockAddressIncrementValue, macroblockTypeIntraIndex, macroblockTypeIntraValue}
 use Rattle.codes.specs.Tables.{macroblockTypePredictiveIndex, macroblockTypePredictiveValue, motionIndex, motionValue, dctSizeLuminanceIndex}
 use Rattle.codes.specs.Tables.{dctSizeLuminanceValue, dctSizeChrominanceIndex, dctSizeChrominanceValue, dctCoeffIndex, dctCoeffValue}
@@ -24,9 +24,9 @@ use Rattle.coefficients.specs.Syntax as Syntax
 use Rattle.coefficients.specs.Blocks as Block
 use Rattle.transform.specs.Butterfly.{butterfly}
 use Rattle.transform.specs.Idct.{columns, rows, idct, dcOnly}
-use Rattle.prediction.specs.Predict.{fetch, predicted}
+use Rattle.prediction.specs.Predict.{predictionSource, predicted}
 use Rattle.prediction.specs.Samples.{sample}
-use Rattle.prediction.specs.Planes.{follow, thenPlane as following, predictedPlanes}
+use Rattle.prediction.specs.Planes.{predictFromSource, andThenPlane as following, predictedPlanes}
 use Rattle.prediction.specs.Writers.{setConst, overwrite, blockAddress}
 use Rattle.picture_state.specs.Result.{ifOk, bindResult, lift, Result, ok, error}
 use Rattle.picture_state.specs.Stop.{Cause, Stop, stop, dcOutside, predictionOutside}
@@ -34,7 +34,7 @@ use Rattle.prediction.specs.declared.planes.Plane.the-variants.{Y}
 use Rattle.macroblock_head.specs.Increments.{incrementStep, increment}
 use Rattle.macroblock_head.specs.Predictions.{unlessRefused, predictFrom, predict}
 use Rattle.macroblock_head.specs.Heads.{macroblockType, scale, vector, forward, backward, vectors, head, pattern}
-use Rattle.blocks.specs.Blocks.{results, written, blockEnd, oneBlock, blocks}
+use Rattle.blocks.specs.Blocks.{results, written, blockResult, oneBlock, blocks}
 use Rattle.macroblock.specs.Macroblocks.{advance, predictUnlessIntra, body, firstMacroblock, laterMacroblock, macroblock}
 use Rattle.slice.specs.Slices.{extraStep, extra, afterMacroblock, sliceStep, slice}
 use Rattle.picture.specs.Pictures as P
@@ -73,7 +73,7 @@ abbrev stream : List ℕ
 stream = 0x00 ∷ 0x08 ∷ 0xff ∷ 0xf8 ∷ 0x00 ∷ 0x00 ∷ 0x01 ∷ 0x01 ∷ 0x0b ∷ 0xb6 ∷ 0x94 ∷ 0xa4 ∷ 0x45 ∷ 0xd5 ∷ 0x4d ∷ 0x4a ∷
     0x44 ∷ 0x40 ∷ 0x00 ∷ 0x00 ∷ 0x01 ∷ 0x00 ∷ 0x00 ∷ []
 
-abbrev decoded : Out (Result Stop P.PictureState)
+abbrev decoded : RunResult (Result Stop P.PictureState)
 decoded = run (P.picture sizes matrices (P.pictureState fresh none (replicate 2304 0))) stream 0
 
 abbrev storeOf : Result Stop P.PictureState → List ℕ
@@ -86,9 +86,9 @@ unfolding clamp255 odd storeRow storeRows bitAt bitsAt readAt afterRead codePref
     macroblockAddressIncrementValue macroblockTypeIntraIndex macroblockTypeIntraValue dctSizeLuminanceIndex dctSizeLuminanceValue dctSizeChrominanceIndex
     dctSizeChrominanceValue dctCoeffIndex dctCoeffValue walkStep walk vlc Codes.macroblockAddressIncrement Codes.macroblockTypeIntra Codes.dctSizeLuminance
     Codes.dctSizeChrominance Codes.dctCoeff downFrom diagonals zigZag intraQuantMatrix premultiplierMatrix Dcs.dcSize Dcs.added Dcs.dcDifference
-    Coefficients.runLevel Coefficients.coefficient dequantised Syntax.pairStep Syntax.pairs Syntax.intraCoded Syntax.codedBlock Block.allPlaced
+    Coefficients.runLevel Coefficients.coefficient dequantised Syntax.pairStep Syntax.pairs Syntax.intraCoded Syntax.codedBlock Block.withPairs
     Block.reconstructed Block.block Block.blockDataAfter butterfly columns rows idct dcOnly setConst overwrite ifOk bindResult lift incrementStep increment
-    macroblockType scale head pattern blockAddress results written blockEnd oneBlock blocks advance predictUnlessIntra body firstMacroblock laterMacroblock
+    macroblockType scale head pattern blockAddress results written blockResult oneBlock blocks advance predictUnlessIntra body firstMacroblock laterMacroblock
     macroblock extraStep extra afterMacroblock sliceStep slice P.direction P.pictureHeader P.afterSlice P.slicesStep P.slices P.slicesInRoles P.picture
 row = refl
 
@@ -110,7 +110,7 @@ pub eight : run (P.picture one matrices given) outside 0 ≡ record { value = er
 unfolding bitAt bitsAt readAt afterRead codePrefix codeFrom found run bind forBelow loop macroblockAddressIncrementIndex macroblockAddressIncrementValue
     macroblockTypeIntraIndex macroblockTypeIntraValue dctSizeLuminanceIndex dctSizeLuminanceValue walkStep walk vlc Codes.macroblockAddressIncrement
     Codes.macroblockTypeIntra Codes.dctSizeLuminance Dcs.dcSize Dcs.added Dcs.dcDifference Syntax.intraCoded Syntax.codedBlock Block.reconstructed
-    Block.block ifOk bindResult lift incrementStep increment macroblockType scale head pattern blockEnd oneBlock blocks predictUnlessIntra body
+    Block.block ifOk bindResult lift incrementStep increment macroblockType scale head pattern blockResult oneBlock blocks predictUnlessIntra body
     firstMacroblock macroblock extraStep extra afterMacroblock sliceStep slice P.direction P.pictureHeader P.afterSlice P.slicesStep P.slices P.slicesInRoles
     P.picture
 eight = refl
@@ -134,8 +134,8 @@ pub eight-in-block-1 : run (P.picture one matrices given) outsideLater 0 ≡ rec
 unfolding clamp255 storeRow storeRows bitAt bitsAt readAt afterRead codePrefix codeFrom found run bind forBelow loop macroblockAddressIncrementIndex
     macroblockAddressIncrementValue macroblockTypeIntraIndex macroblockTypeIntraValue dctSizeLuminanceIndex dctSizeLuminanceValue dctCoeffIndex dctCoeffValue
     walkStep walk vlc Codes.macroblockAddressIncrement Codes.macroblockTypeIntra Codes.dctSizeLuminance Codes.dctCoeff Dcs.dcSize Dcs.added Dcs.dcDifference
-    Coefficients.coefficient Syntax.pairStep Syntax.pairs Syntax.intraCoded Syntax.codedBlock Block.allPlaced Block.reconstructed Block.blockDataAfter dcOnly
-    setConst ifOk bindResult lift incrementStep increment macroblockType scale head pattern blockAddress results written blockEnd oneBlock blocks
+    Coefficients.coefficient Syntax.pairStep Syntax.pairs Syntax.intraCoded Syntax.codedBlock Block.withPairs Block.reconstructed Block.blockDataAfter dcOnly
+    setConst ifOk bindResult lift incrementStep increment macroblockType scale head pattern blockAddress results written blockResult oneBlock blocks
     predictUnlessIntra body firstMacroblock macroblock extraStep extra afterMacroblock sliceStep slice P.direction P.pictureHeader P.afterSlice P.slicesStep
     P.slices P.slicesInRoles P.picture
 eight-in-block-1 = refl
@@ -151,7 +151,8 @@ inY = predictionOutside 0 Y (pos 1) (pos 0)
 pub nine : run (P.picture one matrices given) past 0 ≡ record { value = error (stop inY (replicate 1152 7)); at = 86 }
 unfolding odd bitAt bitsAt readAt afterRead codePrefix codeFrom found run bind loop macroblockAddressIncrementIndex macroblockAddressIncrementValue
     macroblockTypePredictiveIndex macroblockTypePredictiveValue motionIndex motionValue walkStep walk vlc Codes.macroblockAddressIncrement
-    Codes.macroblockTypePredictive Codes.motion displacement motionVector corrected fetch follow following predictedPlanes ifOk bindResult lift incrementStep
+    Codes.macroblockTypePredictive Codes.motion displacement motionVector corrected predictionSource predictFromSource following predictedPlanes ifOk
+    bindResult lift incrementStep
     increment unlessRefused predictFrom predict macroblockType scale vector forward backward vectors head predictUnlessIntra body firstMacroblock macroblock
     extraStep extra afterMacroblock sliceStep slice P.direction P.pictureHeader P.afterSlice P.slicesStep P.slices P.slicesInRoles P.picture
 nine = refl
@@ -166,7 +167,7 @@ isOk (error e) = false
 abbrev pub insideDc : List ℕ
 insideDc = 0x00 ∷ 0x0f ∷ 0xff ∷ 0xf8 ∷ 0x00 ∷ 0x00 ∷ 0x01 ∷ 0x01 ∷ 0x0b ∷ 0xfb ∷ 0xfd ∷ 0x29 ∷ 0x48 ∷ 0x88 ∷ []
 
-abbrev pub dcDecoded : Out (Result Stop P.PictureState)
+abbrev pub dcDecoded : RunResult (Result Stop P.PictureState)
 dcDecoded = run (P.picture one matrices given) insideDc 0
 
 -- RULES Q8: a DC value of 255 is inside
@@ -175,8 +176,8 @@ unfolding clamp255 storeRow storeRows bitAt bitsAt readAt afterRead codePrefix c
     macroblockAddressIncrementValue macroblockTypeIntraIndex macroblockTypeIntraValue dctSizeLuminanceIndex dctSizeLuminanceValue dctSizeChrominanceIndex
     dctSizeChrominanceValue dctCoeffIndex dctCoeffValue walkStep walk vlc Codes.macroblockAddressIncrement Codes.macroblockTypeIntra Codes.dctSizeLuminance
     Codes.dctSizeChrominance Codes.dctCoeff Dcs.dcSize Dcs.added Dcs.dcDifference Coefficients.coefficient Syntax.pairStep Syntax.pairs Syntax.intraCoded
-    Syntax.codedBlock Block.allPlaced Block.reconstructed Block.blockDataAfter dcOnly setConst ifOk bindResult lift incrementStep increment macroblockType
-    scale head pattern blockAddress results written blockEnd oneBlock blocks predictUnlessIntra body firstMacroblock macroblock extraStep extra
+    Syntax.codedBlock Block.withPairs Block.reconstructed Block.blockDataAfter dcOnly setConst ifOk bindResult lift incrementStep increment macroblockType
+    scale head pattern blockAddress results written blockResult oneBlock blocks predictUnlessIntra body firstMacroblock macroblock extraStep extra
     afterMacroblock sliceStep slice P.direction P.pictureHeader P.afterSlice P.slicesStep P.slices P.slicesInRoles P.picture
 dc-of-255 = refl
 
@@ -184,14 +185,15 @@ dc-of-255 = refl
 abbrev pub stillVector : List ℕ
 stillVector = 0x00 ∷ 0x17 ∷ 0xff ∷ 0xf8 ∷ 0x80 ∷ 0x00 ∷ 0x00 ∷ 0x01 ∷ 0x01 ∷ 0x0a ∷ 0x70 ∷ []
 
-abbrev pub stillDecoded : Out (Result Stop P.PictureState)
+abbrev pub stillDecoded : RunResult (Result Stop P.PictureState)
 stillDecoded = run (P.picture one matrices given) stillVector 0
 
 -- RULES Q9: the start 0 is max_address, and reaches no further
 pub no-half-sample : isOk (stillDecoded .value) ≡ true
-unfolding odd half0 storeRow storeRows sample predicted bitAt bitsAt readAt afterRead codePrefix codeFrom found run bind forBelow loop
+unfolding odd halfTowardZero storeRow storeRows sample predicted bitAt bitsAt readAt afterRead codePrefix codeFrom found run bind forBelow loop
     macroblockAddressIncrementIndex macroblockAddressIncrementValue macroblockTypePredictiveIndex macroblockTypePredictiveValue motionIndex motionValue
-    walkStep walk vlc Codes.macroblockAddressIncrement Codes.macroblockTypePredictive Codes.motion displacement motionVector corrected fetch follow following
+    walkStep walk vlc Codes.macroblockAddressIncrement Codes.macroblockTypePredictive Codes.motion displacement motionVector corrected predictionSource
+    predictFromSource following
     predictedPlanes ifOk bindResult lift incrementStep increment unlessRefused predictFrom predict macroblockType scale vector forward backward vectors head
     pattern blocks predictUnlessIntra body firstMacroblock macroblock extraStep extra afterMacroblock sliceStep slice P.direction P.pictureHeader
     P.afterSlice P.slicesStep P.slices P.slicesInRoles P.picture

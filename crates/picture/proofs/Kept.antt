@@ -14,7 +14,7 @@ use Rattle.bits.specs.Bounds.{longestStream}
 use Rattle.bits.specs.Programs.{run}
 use Rattle.bits.proofs.Gives.{Gives, g-done, g-any, g-bind, g-if, g-start, g-as, g-when}
 use Rattle.codes.specs.Matrices.{Bounded}
-use Rattle.coefficients.specs.Dcs.{dcInside}
+use Rattle.coefficients.specs.Dcs.{dcInRange}
 use Rattle.coefficients.specs.Blocks.{BlockRead}
 use Rattle.coefficients.specs.Syntax.{CodedBlock}
 use Rattle.coefficients.proofs.Kept as Coefficients
@@ -22,7 +22,7 @@ use Rattle.prediction.specs.declared.predict.Predicted.{Predicted}
 use Rattle.prediction.specs.declared.predict.Predicted.the-variants.{Done, Refused}
 use Rattle.prediction.specs.Planes.{PlaneAfter}
 use Rattle.picture_state.specs.declared.types.{Context.Context, Stores.Stores, Sizes.Sizes, Matrices.Matrices, Slice.Slice, Picture.Picture}
-use Rattle.picture_state.specs.State.{storesAs, addressAs}
+use Rattle.picture_state.specs.State.{withStores, withAddress}
 use Rattle.picture_state.specs.Possible.{between, possiblePicture, PossibleStores, PossibleSlice, PossiblePicture}
 use Rattle.picture_state.specs.Result.{Result, ok, error}
 use Rattle.picture_state.specs.Stop.{Cause, dcOutside, predictionOutside, Stop, stop}
@@ -47,7 +47,7 @@ Ends n P = OnResult P (λ (e : Stop). length (e .store) ≡ n)
 
 -- RULES Q8: the predictor of a DC value outside is inside
 abbrev pub PredictorInside : Cause → Type 0
-PredictorInside (dcOutside address block predictor difference) = dcInside predictor ≡ true
+PredictorInside (dcOutside address block predictor difference) = dcInRange predictor ≡ true
 PredictorInside (predictionOutside address plane h v) = Unit {0}
 
 -- a picture leaves early with a store of n numbers and, where H holds, with such a predictor
@@ -66,7 +66,7 @@ ends-by H n P Q k (error e) h = h .0
 
 -- the address goes on by i
 moved : (i : ℕ) (x : Slice) → PossibleSlice x → up (x .«macroblock_address») + i ≤ dn (x .«macroblock_address») + 402700000
-    → PossibleSlice (addressAs (x .«macroblock_address» +ℤ pos i) x)
+    → PossibleSlice (withAddress (x .«macroblock_address» +ℤ pos i) x)
 moved i x p h =
     let a = x .«macroblock_address» in
     record {
@@ -170,7 +170,7 @@ record PictureKept (H : Type 0) (n : ℕ) (f : P.PictureState) : Type 0 where
   store : length (f .store) ≡ n
 
 -- the turn of the stores keeps them possible
-pub after-kept : {t : Stores} → PossibleStores t → PossibleStores (P.after t)
+pub after-kept : {t : Stores} → PossibleStores t → PossibleStores (P.rolesAfterReading t)
 after-kept k = record { cur = k .fwd; fwd = k .bwd; bwd = k .cur; cur-fwd = k .fwd-bwd; cur-bwd = λ e. k .cur-fwd (sym e); fwd-bwd = λ e. k .cur-bwd (sym e) }
 
 module _ (H : Type 0) {s : List ℕ} (z : Sizes) (c : Domain H s z) (m : Matrices) (n : ℕ) where
@@ -179,7 +179,7 @@ module _ (H : Type 0) {s : List ℕ} (z : Sizes) (c : Domain H s z) (m : Matrice
   Behind p = Framed (keeps H n (P.contextOf z p) m c) p
 
   begin : (t : Stores) (f : P.PictureState) → PictureKept H n f
-      → let p = storesAs t (f .picture) in Behind p (P.withPicture p f)
+      → let p = withStores t (f .picture) in Behind p (P.withPicture p f)
   begin t f k = record {
     type = refl;
     stores = refl;
@@ -193,7 +193,7 @@ module _ (H : Type 0) {s : List ℕ} (z : Sizes) (c : Domain H s z) (m : Matrice
   unfolding P.slicesInRoles
   coded-ends f k =
       let p = f .picture in
-      let q = storesAs (P.before (p .stores)) p in
+      let q = withStores (P.rolesWhileReading (p .stores)) p in
       g-if (eqb (p .«picture_type») 3)
       (λ b. g-as (results-as (Leaves H n) {P = Behind p} {Q = PictureKept H n} (λ x i. record {
         picture = λ η. record {
@@ -206,7 +206,7 @@ module _ (H : Type 0) {s : List ℕ} (z : Sizes) (c : Domain H s z) (m : Matrice
         store = i .store;
       })) (slices-results (keeps H n (P.contextOf z p) m c) p f (begin (p .stores) f k)))
       (λ b. bind-results (Leaves H n) {P = Behind q} _
-      (slices-results (keeps H n (P.contextOf z q) m c) q (P.withPicture q f) (begin (P.before (p .stores)) f k))
+      (slices-results (keeps H n (P.contextOf z q) m c) q (P.withPicture q f) (begin (P.rolesWhileReading (p .stores)) f k))
       (λ x i. g-done (record {
         picture = λ η. record {
           type = rw (i .type) (k .picture η .type);

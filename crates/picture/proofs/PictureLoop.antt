@@ -16,8 +16,8 @@ use Rattle.laws.specs.Loops.{continue, finish}
 use Rattle.laws.proofs.Ints.{up, dn, v, lit, le-yes, yes-le, no-le, lt-yes, lt-no, fits-by, cast-by, cast-is, same-bits}
 use Rattle.laws.proofs.Tests.{both}
 use Rattle.bits.specs.declared.reader.Reader.{Reader}
-use Rattle.bits.specs.Programs.{many, done, nextStartCode, eqZ, if_then_else_}
-use Rattle.bits.specs.Runs.{Reading, bitsLeft}
+use Rattle.bits.specs.Programs.{streamFuel, done, nextStartCode, eqZ, if_then_else_}
+use Rattle.bits.specs.Runs.{RunsInBounds, bitsLeft}
 use Rattle.bits.proofs.Codes.{eqZ-yes, eqZ-no, code-fits}
 use Rattle.bits.proofs.Rules.{Loops, loop-start, loop-on, takes-less}
 use Rattle.picture_state.specs.declared.types.{Picture.Picture, Context.Context, Matrices.Matrices, Slice.Slice, Progress.Progress}
@@ -89,7 +89,7 @@ module _ (g : Context) (w : Progress) {c code : ℤ} (e : c ≡ code) where
 -- ---- a turn
 
 module _ {g : Context} {s : List ℕ} {reader : Reader} {x : Slice} {left : List ℤ} {store : List ℕ} (k : ReadInvariant s reader x left)
-    (held : StoreFits g store) (m : Matrices) (begun : Bool) {code : ℤ} {after : Reader} (found : Reading nextStartCode s reader code after)
+    (held : StoreFits g store) (m : Matrices) (begun : Bool) {code : ℤ} {after : Reader} (found : RunsInBounds nextStartCode s reader code after)
     (few : natAbs code ≤ 255) where
   -- a slice that ended with the number n, and behind which the picture ends or not
   behind : (y : Slice) (left₁ : List ℤ) (store₁ : List ℕ) (to : Reader) (n : ℕ) (last : Bool)
@@ -108,11 +108,11 @@ module _ {g : Context} {s : List ℕ} {reader : Reader} {x : Slice} {left : List
           → _≡_ {A = Result Exit P.PictureState} (numbered (error c)) (error (exit (suc n) store₁))
       told c e = ap error (error-injective e)
 
-  pub turned-slice : P.isSlice code ≡ true → (w : Progress) {left₁ : List ℤ} {store₁ : List ℕ}
+  pub refines-slice : P.isSlice code ≡ true → (w : Progress) {left₁ : List ℤ} {store₁ : List ℕ}
       → RefinesInSlice (slice g m (natAbs code) (sliceState x left store)) g s after w left₁ store₁
       → RefinesSlicesStep g m s reader begun x left store (afterSliceOf g code w) left₁ store₁
   unfolding P.slicesStep
-  turned-slice e w {left₁} {store₁} p = record {
+  refines-slice e w {left₁} {store₁} p = record {
     runs = λ before. t-call _ (found .runs) (t-yes _ e
         (t-call _ (p .runs .runs) (behind (w .state) left₁ store₁ (w .reader) (w .stop) _ refl (p .runs .value) (p .runs .is))));
     reads = p .reads;
@@ -120,11 +120,11 @@ module _ {g : Context} {s : List ℕ} {reader : Reader} {x : Slice} {left : List
     few = few;
   }
 
-  pub turned-other : P.isSlice code ≡ false → (t : Bool) → t ≡ (P.isExtra code && not begun)
+  pub refines-other : P.isSlice code ≡ false → (t : Bool) → t ≡ (P.isExtra code && not begun)
       → RefinesSlicesStep g m s reader begun x left store
       (record { reader = after; code = code; state = x; begun = false; continues = t; stop = 0 }) left store
   unfolding P.slicesStep
-  turned-other e t q = record {
+  refines-other e t q = record {
     runs = λ before. t-call _ (found .runs) (t-no _ e (picked before t (sym q)));
     reads = record { inside = found .inside; slice = k .slice; block = k .block };
     storeFits = held;
@@ -147,7 +147,7 @@ pub record AtSlices (g : Context) (m : Matrices) (s : List ℕ) (from₀ : Reade
   pub reads : ReadInvariant s from x left
   pub storeFits : StoreFits g store
   pub long : length store ≡ length (f₀ .store)
-  pub rest : Loops many (P.slicesStep g m) (ok f₀) (P.slicesLoopState false f₀) s from₀
+  pub rest : Loops streamFuel (P.slicesStep g m) (ok f₀) (P.slicesLoopState false f₀) s from₀
       (P.slicesLoopState begun (pictureStateOf g code x left store)) from (bitsLeft s from)
 
 pub at-slices : {g : Context} {m : Matrices} {s : List ℕ} {from : Reader} {x : Slice} {left : List ℤ} {store : List ℕ} (code : ℤ)

@@ -10,12 +10,12 @@ use lib.ListN.{length}
 use Rattle.laws.specs.Loops.{Step, continue, finish}
 use Rattle.bits.specs.Bounds.{longestStream}
 use Rattle.bits.specs.Bits.{Found, boundary, has, readAt, afterRead, found}
-use Rattle.bits.specs.Programs.{Prog, done, bind, bits, loop, many, run, continueWith}
+use Rattle.bits.specs.Programs.{Prog, done, bind, bits, loop, streamFuel, run, continueWith}
 use Rattle.bits.proofs.Start.{isCode, Searched, first, none, found-is-first}
 use Rattle.bits.proofs.Programs.{run-bind, run-on, served-next}
 use Rattle.laws.proofs.Tests.{by-case}
 use Rattle.picture_state.specs.declared.types.{Stores.Stores, Sizes.Sizes, Matrices.Matrices, Picture.Picture, Context.Context}
-use Rattle.picture_state.specs.State.{SliceState, sliceState, startCodeAs, storesAs}
+use Rattle.picture_state.specs.State.{SliceState, sliceState, withStartCode, withStores}
 use Rattle.picture_state.specs.Result.{Result, ok, error, ifOk, bindResult, pure}
 use Rattle.picture_state.specs.Stop.{Stop}
 use Rattle.slice.specs.Slices.{isLast, slice}
@@ -141,12 +141,12 @@ step-ahead g m x s a = go (found s a .code) (found s a .at) (code-ahead s a)
   where
     go : (c : ℤ) (e : ℕ) → (isCode c ≡ true → (a + 32 ≤ e) × (e + 8 ≤ length s * 8))
         → OnStep s a e (
-        let p = startCodeAs c (x .pictureState .picture) in
+        let p = withStartCode c (x .pictureState .picture) in
         let f = P.withPicture p (x .pictureState) in
         cond (P.isSlice c) (bind (slice g m (natAbs c) (sliceState (p .slice) (f .«block_data») (f .store))) (P.afterSlice g p))
         (cond (P.isExtra c && not (x .begun)) (done (continue (P.slicesLoopState false f))) (done (finish (ok f)))))
     go (pos v) e h =
-        let p = startCodeAs (pos v) (x .pictureState .picture) in
+        let p = withStartCode (pos v) (x .pictureState .picture) in
         let w = slice g m v (sliceState (p .slice) (x .pictureState .«block_data») (x .pictureState .store)) in
         let k = h refl in
         by-case (OnStep s a e) (P.isSlice (pos v))
@@ -180,10 +180,10 @@ slices-ahead g m d s (suc n) x a h =
 
 all-ahead : (g : Context) (m : Matrices) (f : P.PictureState) (s : List ℕ) (a : ℕ) → length s ≤ longestStream → Left s a (P.slices g m f)
 unfolding P.slices
-all-ahead g m f s a h = slices-ahead g m (ok f) s many (P.slicesLoopState false f) a (omega arith)
+all-ahead g m f s a h = slices-ahead g m (ok f) s streamFuel (P.slicesLoopState false f) a (omega arith)
 
 turned-ahead : (t : Stores) (s : List ℕ) (e : ℕ) (w : Result Stop P.PictureState) → Ahead s e w
-    → Left s e (ifOk (λ f. pure (P.withPicture (storesAs t (f .picture)) f)) w)
+    → Left s e (ifOk (λ f. pure (P.withPicture (withStores t (f .picture)) f)) w)
 unfolding ifOk run
 turned-ahead t s e (ok f) k = k
 turned-ahead t s e (error q) k = tt
@@ -192,11 +192,11 @@ coded-ahead : (z : Sizes) (m : Matrices) (f : P.PictureState) (s : List ℕ) (a 
 unfolding P.slicesInRoles bindResult
 coded-ahead z m f s a h =
     let p = f .picture in
-    let q = storesAs (P.before (p .stores)) p in
+    let q = withStores (P.rolesWhileReading (p .stores)) p in
     let c = P.slices (P.contextOf z q) m (P.withPicture q f) in
     by-case (Left s a) (eqb (p .«picture_type») 3) (λ e. all-ahead (P.contextOf z p) m f s a h)
     (λ e. rw (run-bind c _ s a)
-    (turned-ahead (P.after (p .stores)) s (run c s a .at) (run c s a .value) (all-ahead (P.contextOf z q) m (P.withPicture q f) s a h)))
+    (turned-ahead (P.rolesAfterReading (p .stores)) s (run c s a .at) (run c s a .value) (all-ahead (P.contextOf z q) m (P.withPicture q f) s a h)))
 
 given-ahead : (s : List ℕ) (a : ℕ) (f : P.PictureState) → a < length s * 8 → Left s a (pure f)
 unfolding run

@@ -6,7 +6,7 @@ use mathlib.Core.List.{List, [], _∷_, _++_}
 use Prim.Native.Nat.{ℕ}
 use lib.IntN.{pos, negsuc}
 use lib.ListN.{replicate}
-use Rattle.laws.specs.Signed.{odd, half0}
+use Rattle.laws.specs.Signed.{odd, halfTowardZero}
 use Rattle.laws.specs.Stores.{storeRow, storeRows}
 use Rattle.bits.specs.Bits.{bitAt, bitsAt, readAt, afterRead, codePrefix, codeFrom, found}
 use Rattle.bits.specs.Programs.{run, bind, loop}
@@ -17,9 +17,9 @@ use Rattle.codes.specs.Codes as Codes
 use Rattle.motion.specs.Displacement.{corrected}
 use Rattle.motion.specs.Vector.{displacement, motionVector}
 use Rattle.prediction.specs.declared.planes.Plane.the-variants.{Cr}
-use Rattle.prediction.specs.Predict.{fetch, predicted}
+use Rattle.prediction.specs.Predict.{predictionSource, predicted}
 use Rattle.prediction.specs.Samples.{sample}
-use Rattle.prediction.specs.Planes.{follow, thenPlane as following, predictedPlanes}
+use Rattle.prediction.specs.Planes.{predictFromSource, andThenPlane as following, predictedPlanes}
 use Rattle.picture_state.specs.declared.types.{Matrices.Matrices, Sizes.Sizes}
 use Rattle.picture_state.specs.Result.{ifOk, bindResult, lift, error}
 use Rattle.picture_state.specs.Stop.{Stop, stop, predictionOutside}
@@ -54,9 +54,10 @@ withY = replicate 256 7 ++ replicate 256 91 ++ replicate 256 7 ++ replicate 768 
 
 -- RULES Q9: Y is copied from 241, of max_address 256; Cr, by (1, -1), begins at 56 and reaches 9 further, past max_address 64. Cr and Cb are as they were
 pub nine-in-cr : run (P.picture two matrices givenTwo) pastInCr 0 ≡ record { value = error (stop (predictionOutside 1 Cr (pos 1) (negsuc 0)) withY); at = 90 }
-unfolding odd half0 storeRow storeRows sample predicted bitAt bitsAt readAt afterRead codePrefix codeFrom found run bind loop
+unfolding odd halfTowardZero storeRow storeRows sample predicted bitAt bitsAt readAt afterRead codePrefix codeFrom found run bind loop
     macroblockAddressIncrementIndex macroblockAddressIncrementValue macroblockTypePredictiveIndex macroblockTypePredictiveValue motionIndex motionValue
-    walkStep walk vlc Codes.macroblockAddressIncrement Codes.macroblockTypePredictive Codes.motion displacement motionVector corrected fetch follow following
+    walkStep walk vlc Codes.macroblockAddressIncrement Codes.macroblockTypePredictive Codes.motion displacement motionVector corrected predictionSource
+    predictFromSource following
     predictedPlanes ifOk bindResult lift incrementStep increment unlessRefused predictFrom predict macroblockType scale vector forward backward vectors head
     predictUnlessIntra body firstMacroblock macroblock extraStep extra afterMacroblock sliceStep slice P.direction P.pictureHeader P.afterSlice P.slicesStep
     P.slices P.slicesInRoles P.picture
@@ -69,8 +70,8 @@ none-by : {z : Sizes} {m : Matrices} {f : P.PictureState} {s : List ℕ} → isO
 none-by {z} {m} {f} {s} h k = true≢false (sym h ∙ ap isOk (picture-stops z m f s 0 k))
 
 -- a DC value of 255
-pub dc-inside : {e : Stop} → PictureStop one matrices given insideDc 0 e → ⊥
-dc-inside = none-by dc-of-255
+pub dc-in-range : {e : Stop} → PictureStop one matrices given insideDc 0 e → ⊥
+dc-in-range = none-by dc-of-255
 
 -- a prediction from max_address by whole samples
 pub prediction-inside : {e : Stop} → PictureStop one matrices given stillVector 0 e → ⊥

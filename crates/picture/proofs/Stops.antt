@@ -7,12 +7,12 @@ use lib.Dec.{eqb}
 use lib.IntN.{ℤ, natAbs}
 use Rattle.laws.specs.Loops.{Step, continue, finish}
 use Rattle.laws.proofs.Tests.{by-case}
-use Rattle.bits.specs.Programs.{Prog, Out, done, run, bind, nextStartCode, loop, continueWith, many}
+use Rattle.bits.specs.Programs.{Prog, RunResult, done, run, bind, nextStartCode, loop, continueWith, streamFuel}
 use Rattle.bits.proofs.Programs.{run-bind}
 use Rattle.bits.proofs.Gives.{Gives, g-done, g-if}
 use Rattle.bits.proofs.Rules.{loop-suc}
 use Rattle.picture_state.specs.declared.types.{Context.Context, Matrices.Matrices, Picture.Picture, Sizes.Sizes}
-use Rattle.picture_state.specs.State.{SliceState, sliceState, startCodeAs, storesAs}
+use Rattle.picture_state.specs.State.{SliceState, sliceState, withStartCode, withStores}
 use Rattle.picture_state.specs.Result.{Result, ok, error, ifOk, bindResult}
 use Rattle.picture_state.specs.Stop.{Stop}
 use Rattle.picture_state.proofs.Results.{error-is-not-ok, error-injective}
@@ -35,12 +35,12 @@ module _ (g : Context) (m : Matrices) (s : List ℕ) where
     abbrev f : P.PictureState
     f = x .pictureState
 
-    abbrev code : Out ℤ
+    abbrev code : RunResult ℤ
     code = run nextStartCode s a
 
     -- the picture with the start code, and the slice's state
     abbrev p : Picture
-    p = startCodeAs (code .value) (f .picture)
+    p = withStartCode (code .value) (f .picture)
 
     abbrev w : SliceState
     w = sliceState (f .picture .slice) (f .«block_data») (f .store)
@@ -55,13 +55,13 @@ module _ (g : Context) (m : Matrices) (s : List ℕ) where
 
     step-run : run (P.slicesStep g m x) s a .value ≡ run (cond (P.isSlice (code .value)) inSlice other) s (code .at) .value
     unfolding P.slicesStep
-    step-run = ap (λ (o : Out Turn). o .value) (run-bind nextStartCode _ s a)
+    step-run = ap (λ (o : RunResult Turn). o .value) (run-bind nextStartCode _ s a)
 
-    abbrev read : Out (Result Stop SliceState)
+    abbrev read : RunResult (Result Stop SliceState)
     read = run (slice g m (natAbs (code .value)) w) s (code .at)
 
     slice-run : run inSlice s (code .at) .value ≡ run (P.afterSlice g p (read .value)) s (read .at) .value
-    slice-run = ap (λ (o : Out Turn). o .value) (run-bind (slice g m (natAbs (code .value)) w) (P.afterSlice g p) s (code .at))
+    slice-run = ap (λ (o : RunResult Turn). o .value) (run-bind (slice g m (natAbs (code .value)) w) (P.afterSlice g p) s (code .at))
 
     other-ok : Gives s NoError other
     other-ok = g-if (P.isExtra (code .value) && not (x .begun)) (λ q. g-done tt) (λ q. g-done tt)
@@ -90,11 +90,11 @@ module _ (g : Context) (m : Matrices) (s : List ℕ) where
     abbrev looped : ℕ → P.SlicesLoopState → Prog (Result Stop P.PictureState)
     looped n = loop n (P.slicesStep g m) (ok d)
 
-    abbrev on : ℕ → Out Turn → Result Stop P.PictureState
+    abbrev on : ℕ → RunResult Turn → Result Stop P.PictureState
     on n o = run (continueWith (looped n) (o .value)) s (o .at) .value
 
     looped-run : (n : ℕ) (x : P.SlicesLoopState) (a : ℕ) → run (looped (suc n) x) s a .value ≡ on n (run (P.slicesStep g m x) s a)
-    looped-run n x a = ap (λ (o : Out (Result Stop P.PictureState)). o .value) (loop-suc (suc n) n (P.slicesStep g m) (ok d) x s a refl)
+    looped-run n x a = ap (λ (o : RunResult (Result Stop P.PictureState)). o .value) (loop-suc (suc n) n (P.slicesStep g m) (ok d) x s a refl)
 
     looped-stopped : {e : Stop} (n : ℕ) (x : P.SlicesLoopState) (a : ℕ) → run (looped n x) s a .value ≡ error e → SlicesStop g m s e n x a
     unfolding loop run
@@ -105,7 +105,7 @@ module _ (g : Context) (m : Matrices) (s : List ℕ) where
         go : (t : Turn) (b : ℕ) → run (P.slicesStep g m x) s a ≡ record { value = t; at = b } → run (continueWith (looped n) t) s b .value ≡ error e
             → ((y : P.SlicesLoopState) (b : ℕ) → run (looped n y) s b .value ≡ error e → SlicesStop g m s e n y b) → SlicesStop g m s e (suc n) x a
         go (continue y) b q k again = later q (again y b k)
-        go (finish v) b q k again = step-stopped x a (ap (λ (o : Out Turn). o .value) q ∙ ap finish k)
+        go (finish v) b q k again = step-stopped x a (ap (λ (o : RunResult Turn). o .value) q ∙ ap finish k)
 
     looped-stops : {e : Stop} {n : ℕ} {x : P.SlicesLoopState} {a : ℕ} → SlicesStop g m s e n x a → run (looped n x) s a .value ≡ error e
     unfolding run
@@ -119,7 +119,7 @@ then-stopped : {A B : Type 0} (p : Prog (Result Stop A)) (h : A → B) (s : List
     → run (bindResult p (λ x. done (ok (h x)))) s a .value ≡ error e → run p s a .value ≡ error e
 unfolding bindResult ifOk run
 then-stopped {A} {B} p h s a {e} k =
-    go (run p s a .value) (sym (ap (λ (o : Out (Result Stop B)). o .value) (run-bind p (ifOk (λ x. done (ok (h x)))) s a)) ∙ k)
+    go (run p s a .value) (sym (ap (λ (o : RunResult (Result Stop B)). o .value) (run-bind p (ifOk (λ x. done (ok (h x)))) s a)) ∙ k)
   where
     go : (v : Result Stop A) → run (ifOk (λ x. done (ok (h x))) v) s (run p s a .at) .value ≡ error e → v ≡ error e
     go (ok x) k = absurd (error-is-not-ok (sym k))
@@ -129,7 +129,7 @@ then-stops : {A B : Type 0} (p : Prog (Result Stop A)) (h : A → B) (s : List �
     → run (bindResult p (λ x. done (ok (h x)))) s a .value ≡ error e
 unfolding bindResult ifOk run
 then-stops {A} {B} p h s a k =
-    ap (λ (o : Out (Result Stop B)). o .value) (run-bind p (ifOk (λ x. done (ok (h x)))) s a)
+    ap (λ (o : RunResult (Result Stop B)). o .value) (run-bind p (ifOk (λ x. done (ok (h x)))) s a)
     ∙ ap (λ (v : Result Stop A). run (ifOk (λ x. done (ok (h x))) v) s (run p s a .at) .value) k
 
 module _ (z : Sizes) (m : Matrices) (f : P.PictureState) (s : List ℕ) (a : ℕ) where
@@ -143,17 +143,17 @@ module _ (z : Sizes) (m : Matrices) (f : P.PictureState) (s : List ℕ) (a : ℕ
   picture-run : run (P.picture z m f) s a .value
       ≡ run (cond (P.isDecoded (headerAt s a .value)) (P.slicesInRoles z m headed) (done (ok headed))) s (headerAt s a .at) .value
   unfolding P.picture
-  picture-run = ap (λ (o : Out (Result Stop P.PictureState)). o .value) (run-bind P.pictureHeader _ s a)
+  picture-run = ap (λ (o : RunResult (Result Stop P.PictureState)). o .value) (run-bind P.pictureHeader _ s a)
 
   roles-stopped : {e : Stop} → run (P.slicesInRoles z m headed) s (headerAt s a .at) .value ≡ error e → run slicesRead s (headerAt s a .at) .value ≡ error e
   unfolding P.slicesInRoles
   roles-stopped {e} = go (eqb (headed .picture .«picture_type») 3)
     where
       q : Bool → Picture
-      q t = storesAs (cond t (headed .picture .stores) (P.before (headed .picture .stores))) (headed .picture)
+      q t = withStores (cond t (headed .picture .stores) (P.rolesWhileReading (headed .picture .stores))) (headed .picture)
 
       turned : P.PictureState → P.PictureState
-      turned f₁ = P.withPicture (storesAs (P.after (headed .picture .stores)) (f₁ .picture)) f₁
+      turned f₁ = P.withPicture (withStores (P.rolesAfterReading (headed .picture .stores)) (f₁ .picture)) f₁
 
       go : (t : Bool) → run (cond t (P.slices (P.contextOf z (headed .picture)) m headed)
           (bindResult (P.slices (P.contextOf z (q false)) m (P.withPicture (q false) headed)) (λ f₁. done (ok (turned f₁))))) s (headerAt s a .at) .value
@@ -167,10 +167,10 @@ module _ (z : Sizes) (m : Matrices) (f : P.PictureState) (s : List ℕ) (a : ℕ
   roles-stops {e} = go (eqb (headed .picture .«picture_type») 3)
     where
       q : Bool → Picture
-      q t = storesAs (cond t (headed .picture .stores) (P.before (headed .picture .stores))) (headed .picture)
+      q t = withStores (cond t (headed .picture .stores) (P.rolesWhileReading (headed .picture .stores))) (headed .picture)
 
       turned : P.PictureState → P.PictureState
-      turned f₁ = P.withPicture (storesAs (P.after (headed .picture .stores)) (f₁ .picture)) f₁
+      turned f₁ = P.withPicture (withStores (P.rolesAfterReading (headed .picture .stores)) (f₁ .picture)) f₁
 
       go : (t : Bool) → run (P.slices (P.contextOf z (q t)) m (P.withPicture (q t) headed)) s (headerAt s a .at) .value ≡ error e
           → run (cond t (P.slices (P.contextOf z (headed .picture)) m headed)
@@ -188,7 +188,7 @@ module _ (z : Sizes) (m : Matrices) (f : P.PictureState) (s : List ℕ) (a : ℕ
           → run (cond t (P.slicesInRoles z m headed) (done (ok headed))) s (headerAt s a .at) .value ≡ error e → PictureStop z m f s a e
       go true q k = record {
         decoded = q;
-        stops = looped-stopped (P.contextOf z (pictureRead f s a)) m s (P.withPicture (pictureRead f s a) f) many _ (headerAt s a .at) (roles-stopped k);
+        stops = looped-stopped (P.contextOf z (pictureRead f s a)) m s (P.withPicture (pictureRead f s a) f) streamFuel _ (headerAt s a .at) (roles-stopped k);
       }
       go false q k = absurd (error-is-not-ok (sym k))
 

@@ -9,28 +9,28 @@ use lib.IntN.{ℤ, pos, natAbs, _+ℤ_}
 use lib.Signed.{leZ}
 use Rattle.laws.proofs.Ints.{v, lit, le-yes, abs-by}
 use Rattle.laws.proofs.Tests.{by-case, both}
-use Rattle.bits.specs.Programs.{nonZero, many, nextStartCode}
+use Rattle.bits.specs.Programs.{nonZero, streamFuel, nextStartCode}
 use Rattle.bits.proofs.Gives.{Gives, OnStep, g-done, g-any, g-bind, g-if, g-loop, g-bits}
 use Rattle.coefficients.specs.declared.quantiser.Quantiser.{Quantiser}
-use Rattle.coefficients.specs.Blocks.{Filled, BlockRead, blockDataAfter, reconstructed}
+use Rattle.coefficients.specs.Blocks.{BlockCoefficients, BlockRead, blockDataAfter, reconstructed}
 use Rattle.coefficients.specs.Syntax.{CodedBlock, codedBlock}
 use Rattle.coefficients.specs.declared.block.BlockEnd.{BlockEnd}
-use Rattle.coefficients.specs.declared.block.BlockEnd.the-variants.{Whole, Dropped, Outside}
+use Rattle.coefficients.specs.declared.block.BlockEnd.the-variants.{Complete, Dropped, DcOutOfRange}
 use Rattle.prediction.specs.Predict.{macroblockAt}
 use Rattle.prediction.specs.Planes.{predictedPlanes}
 use Rattle.picture_state.specs.declared.types.{Context.Context, Matrices.Matrices, Motion.Motion, Slice.Slice, Picture.Picture}
-use Rattle.picture_state.specs.State.{SliceState, sliceState, startCodeAs, sliceAs, addressAs}
+use Rattle.picture_state.specs.State.{SliceState, sliceState, withStartCode, withPictureSlice, withAddress}
 use Rattle.picture_state.specs.Result.{Result, ok, error}
 use Rattle.picture_state.specs.Stop.{Stop, stop, dcOutside}
 use Rattle.macroblock_head.specs.Predictions.{unlessRefused, predictFrom, predictBoth, predict, predictSkipped}
 use Rattle.picture_state.specs.Flags.{flag, isIntra}
 use Rattle.macroblock_head.specs.Heads.{macroblockType, head, pattern}
-use Rattle.blocks.specs.Blocks.{predictorAs, dcPredictor, quantiserOf, matrixFor, written, blockEnd, oneBlock, patternBlock, blocks}
+use Rattle.blocks.specs.Blocks.{withDcPredictor, dcPredictor, quantiserOf, matrixFor, written, blockResult, oneBlock, patternBlock, blocks}
 use Rattle.macroblock_head.specs.Increments.{increment}
 use Rattle.macroblock.specs.Macroblocks.{isOutside, addressPlus, skipReset, advance, predictUnlessIntra, body, firstMacroblock, laterMacroblock, macroblock}
 use Rattle.slice.specs.Slices.{SliceLoopState, sliceLoopState, sliceStart, isLast, extra, afterMacroblock, sliceStep, slice}
 use Rattle.picture.specs.Pictures as P
-use Rattle.picture_state.proofs.Exits.{OnResult, also-results, bind-results, lift-results, for-results}
+use Rattle.picture_state.proofs.Exits.{OnResult, andThen-results, bind-results, lift-results, for-results}
 
 -- what is to hold: of the state at the beginning of a slice and later in it, of the left-over coefficients, of the store, of the start code, and of
 -- cause and store where a picture leaves early
@@ -44,9 +44,9 @@ pub record Invariant : Type 1 where
 
 -- behind a block with this number and difference: predictor and left-over coefficients, and the exit for a DC value outside
 pub record BlockKept (i : Invariant) (q : Quantiser) (number : ℕ) (x : Slice) (difference : ℤ) (r : BlockRead) : Type 0 where
-  pub slice : i .slice (predictorAs number (r .predictor) x)
+  pub slice : i .slice (withDcPredictor number (r .predictor) x)
   pub block : i .block (blockDataAfter q r)
-  pub outside : r .end ≡ Outside → (l : List ℕ) → i .store l
+  pub outside : r .end ≡ DcOutOfRange → (l : List ℕ) → i .store l
       → i .exit (stop (dcOutside (natAbs (x .«macroblock_address»)) number (dcPredictor number x) difference) l)
 
 -- the block that comes of what is coded, with the coefficients l left over
@@ -57,16 +57,16 @@ reconstructedBy g m intra number x l = reconstructed (quantiserOf g intra x) (ma
 pub record Keeps (s : List ℕ) (g : Context) (m : Matrices) (i : Invariant) : Type 0 where
   pub codes : Gives s (i .code) nextStartCode
   pub starts : (number q : ℕ) (x : Slice) → number ≤ 175 → q ≤ 31 → i .slice x → i .start (sliceStart g number q x)
-  pub first : Gives s (λ n. (x : Slice) → i .start x → i .slice (addressAs (x .«macroblock_address» +ℤ pos n) x)) increment
+  pub first : Gives s (λ n. (x : Slice) → i .start x → i .slice (withAddress (x .«macroblock_address» +ℤ pos n) x)) increment
   pub next : (n : ℕ) (x : Slice) → leZ (pos (g .sizes .«mb_size»)) (x .«macroblock_address» +ℤ pos n) ≡ false → i .slice x
-      → i .slice (addressAs (x .«macroblock_address» +ℤ pos 1) x)
+      → i .slice (withAddress (x .«macroblock_address» +ℤ pos 1) x)
   pub skips : (n : ℕ) (x : Slice) → leZ (pos (g .sizes .«mb_size»)) (x .«macroblock_address» +ℤ pos n) ≡ false → i .slice x
-      → i .slice (addressAs (skipReset g x .«macroblock_address» +ℤ pos n) (skipReset g x))
+      → i .slice (withAddress (skipReset g x .«macroblock_address» +ℤ pos n) (skipReset g x))
   pub heads : (t : ℕ) (x : Slice) → i .slice x → Gives s (i .slice) (head (g .«picture_type») t x)
   pub blocks : (intra : Bool) (number : ℕ) (x : Slice) (c : List ℤ) → number ≤ 5 → i .slice x → i .block c
       → Gives s (λ (b : CodedBlock). BlockKept i (quantiserOf g intra x) number x (b .difference) (reconstructedBy g m intra number x c b))
       (codedBlock intra (ltb number 4) (dcPredictor number x))
-  pub writes : (q : Quantiser) (number address : ℕ) (f : Filled) (l : List ℕ) → i .store l → i .store (written g q number address f l)
+  pub writes : (q : Quantiser) (number address : ℕ) (f : BlockCoefficients) (l : List ℕ) → i .store l → i .store (written g q number address f l)
   pub predicts : (address k : ℕ) (h v : ℤ) (interpolate : Bool) (l : List ℕ) → i .store l → OnResult (i .store) (i .exit) (unlessRefused address
       (predictedPlanes (macroblockAt (g .sizes .«mb_width») (g .sizes .«mb_height») address) k (g .stores .cur) h v interpolate l))
 
@@ -87,7 +87,7 @@ module _ {s : List ℕ} {g : Context} {m : Matrices} {i : Invariant} (c : Keeps 
   both-results : (address : ℕ) (x : Slice) (l : List ℕ) → S l → OnResult S O (predictBoth g address x l)
   unfolding predictBoth
   both-results address x l e =
-      also-results O S S _ _ (from-results address _ _ _ l e) (λ l₁ e₁.
+      andThen-results O S S _ _ (from-results address _ _ _ l e) (λ l₁ e₁.
       by-case (OnResult S O) (x .«motion_backward» .«is_set») (λ b. from-results address _ _ _ l₁ e₁) (λ b. e₁))
 
   predict-results : (address : ℕ) (x : Slice) (l : List ℕ) → S l → OnResult S O (predict g address x l)
@@ -100,7 +100,7 @@ module _ {s : List ℕ} {g : Context} {m : Matrices} {i : Invariant} (c : Keeps 
   skipped-results : (x : Slice) (address k : ℕ) (l : List ℕ) → S l → OnResult S O (predictSkipped g x address k l)
   unfolding predictSkipped
   skipped-results x address zero l e = e
-  skipped-results x address (suc k) l e = also-results O S S _ _ (predict-results address x l e) (λ l₁ e₁. skipped-results x (address + 1) k l₁ e₁)
+  skipped-results x address (suc k) l e = andThen-results O S S _ _ (predict-results address x l e) (λ l₁ e₁. skipped-results x (address + 1) k l₁ e₁)
 
   unless-results : (t : ℕ) (x : Slice) (l : List ℕ) → S l → OnResult S O (predictUnlessIntra g t x l)
   unfolding predictUnlessIntra
@@ -114,22 +114,22 @@ module _ {s : List ℕ} {g : Context} {m : Matrices} {i : Invariant} (c : Keeps 
     store : S (w .store)
 
   end-results : (q : Quantiser) (number : ℕ) (w : SliceState) (d : ℤ) (r : BlockRead) → S (w .store) → BlockKept i q number (w .slice) d r
-      → OnResult WorldKept O (blockEnd g q number w d r)
-  unfolding blockEnd
+      → OnResult WorldKept O (blockResult g q number w d r)
+  unfolding blockResult
   end-results q number w d r k h = go (r .end) (h .outside)
     where
       at : List ℕ → Stop
       at = stop (dcOutside (natAbs (w .slice .«macroblock_address»)) number (dcPredictor number (w .slice)) d)
 
-      go : (e : BlockEnd) → (e ≡ Outside → (l : List ℕ) → S l → O (at l)) → OnResult WorldKept O (elim e as (λ x. Result Stop SliceState) [
-        | Whole ↦ ok (sliceState (predictorAs number (r .predictor) (w .slice)) (blockDataAfter q r)
-            (written g q number (natAbs (w .slice .«macroblock_address»)) (r .filled) (w .store)))
-        | Dropped ↦ ok (sliceState (predictorAs number (r .predictor) (w .slice)) (blockDataAfter q r) (w .store))
-        | Outside ↦ error (at (w .store))
+      go : (e : BlockEnd) → (e ≡ DcOutOfRange → (l : List ℕ) → S l → O (at l)) → OnResult WorldKept O (elim e as (λ x. Result Stop SliceState) [
+        | Complete ↦ ok (sliceState (withDcPredictor number (r .predictor) (w .slice)) (blockDataAfter q r)
+            (written g q number (natAbs (w .slice .«macroblock_address»)) (r .blockCoefficients) (w .store)))
+        | Dropped ↦ ok (sliceState (withDcPredictor number (r .predictor) (w .slice)) (blockDataAfter q r) (w .store))
+        | DcOutOfRange ↦ error (at (w .store))
       ])
-      go Whole o = record { slice = h .slice; block = h .block; store = c .writes q number _ (r .filled) (w .store) k }
+      go Complete o = record { slice = h .slice; block = h .block; store = c .writes q number _ (r .blockCoefficients) (w .store) k }
       go Dropped o = record { slice = h .slice; block = h .block; store = k }
-      go Outside o = o refl (w .store) k
+      go DcOutOfRange o = o refl (w .store) k
 
   block-results : (intra : Bool) (number : ℕ) (w : SliceState) → number ≤ 5 → WorldKept w → Gives s (OnResult WorldKept O) (oneBlock g m intra number w)
   unfolding oneBlock
@@ -158,7 +158,7 @@ module _ {s : List ℕ} {g : Context} {m : Matrices} {i : Invariant} (c : Keeps 
   unfolding advance
   advance-results n w k h =
       by-case (OnResult WorldKept O) (ltb n 2) (λ e. record { slice = c .next n (w .slice) h (k .slice); block = k .block; store = k .store }) (λ e.
-      also-results O S WorldKept _ _ (skipped-results _ _ _ _ (k .store)) (λ l j.
+      andThen-results O S WorldKept _ _ (skipped-results _ _ _ _ (k .store)) (λ l j.
       record { slice = c .skips n (w .slice) h (k .slice); block = k .block; store = j }))
 
   -- ---- slices
@@ -196,7 +196,7 @@ module _ {s : List ℕ} {g : Context} {m : Matrices} {i : Invariant} (c : Keeps 
   unfolding slice sliceStep
   slice-results number w h k =
       g-bind _ (g-bits 5) (λ q j. g-bind _ (g-any extra) (λ u e.
-      g-loop SlicingKept many _ _ (λ x b. g-bind _ (macroblock-results (x .first) (x .sliceState) b) past-results) k _
+      g-loop SlicingKept streamFuel _ _ (λ x b. g-bind _ (macroblock-results (x .first) (x .sliceState) b) past-results) k _
       (record { slice = c .starts number q (w .slice) h (omega arith) (k .slice); block = k .block; store = k .store })))
 
   -- ---- the slices of a picture change neither its type nor the roles of the stores
@@ -215,7 +215,7 @@ module _ {s : List ℕ} {g : Context} {m : Matrices} {i : Invariant} (c : Keeps 
   unfolding P.afterSlice
   slice-past p f (error e) k h = g-done h
   slice-past p f (ok w) k h =
-      let next : Framed p (P.pictureState (sliceAs (w .slice) (f .picture)) (w .«block_data») (w .store)) =
+      let next : Framed p (P.pictureState (withPictureSlice (w .slice) (f .picture)) (w .«block_data») (w .store)) =
       record { type = k .type; stores = k .stores; code = k .code; slice = h .slice; block = h .block; store = h .store } in
       g-if (isLast g w) (λ e. g-done next) (λ e. g-done next)
 
@@ -231,7 +231,7 @@ module _ {s : List ℕ} {g : Context} {m : Matrices} {i : Invariant} (c : Keeps 
   unfolding P.slicesStep
   step-results p x k =
       g-bind _ (c .codes) (λ n j.
-      let f = P.withPicture (startCodeAs n (x .pictureState .picture)) (x .pictureState) in
+      let f = P.withPicture (withStartCode n (x .pictureState .picture)) (x .pictureState) in
       let next : Framed p f = record { type = k .type; stores = k .stores; code = j; slice = k .slice; block = k .block; store = k .store } in
       g-if (P.isSlice n)
       (λ e. g-bind _ (slice-results (natAbs n) (sliceState (f .picture .slice) (f .«block_data») (f .store)) (number-most n e)
@@ -240,4 +240,4 @@ module _ {s : List ℕ} {g : Context} {m : Matrices} {i : Invariant} (c : Keeps 
 
   pub slices-results : (p : Picture) (f : P.PictureState) → Framed p f → Gives s (OnResult (Framed p) O) (P.slices g m f)
   unfolding P.slices
-  slices-results p f k = g-loop (λ (x : P.SlicesLoopState). Framed p (x .pictureState)) many _ _ (step-results p) k _ k
+  slices-results p f k = g-loop (λ (x : P.SlicesLoopState). Framed p (x .pictureState)) streamFuel _ _ (step-results p) k _ k

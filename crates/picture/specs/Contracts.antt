@@ -6,7 +6,7 @@ use lib.IntN.{ℤ, natAbs}
 use Rattle.laws.specs.Loops.{Step, continue, finish}
 use Rattle.bits.specs.declared.reader.Reader.{Reader}
 use Rattle.bits.specs.Programs.{Prog}
-use Rattle.bits.specs.Runs.{Inside}
+use Rattle.bits.specs.Runs.{ReaderInBounds}
 use Rattle.picture_state.specs.declared.types.{Context.Context, Matrices.Matrices, PictureProgress.PictureProgress, Slice.Slice, SlicesProgress.SlicesProgress}
 use Rattle.picture.specs.Pictures as P
 use Rattle.picture_state.specs.Result.{Result}
@@ -44,4 +44,4 @@ pub record RefinesSlices (p : Prog (Result Stop P.PictureState)) (g : Context) (
 pub record RefinesPicture (p : Prog (Result Stop P.PictureState)) (s : List ℕ) (reader : Reader) (r : PictureProgress) (left : List ℤ) (store : List ℕ) : Type 0
   where
     pub runs : RunsNumbered p s reader (resultOf (r .stop) (P.pictureState (r .picture) left store) store) (r .reader)
-    pub inside : Inside s (r .reader)
+    pub inside : ReaderInBounds s (r .reader)

@@ -6,9 +6,9 @@ use lib.Dec.{eqb, leb}
 use lib.IntN.{ℤ, pos, natAbs}
 use lib.Signed.{leZ}
 use Rattle.laws.specs.Loops.{Step, continue, finish}
-use Rattle.bits.specs.Programs.{Prog, done, bind, bits, nextStartCode, eqZ, loop, many, _>>=_, _>>_, if_then_else_}
+use Rattle.bits.specs.Programs.{Prog, done, bind, bits, nextStartCode, eqZ, loop, streamFuel, _>>=_, _>>_, if_then_else_}
 use Rattle.picture_state.specs.declared.types.{Context.Context, Motion.Motion, Stores.Stores, Sizes.Sizes, Matrices.Matrices, Picture.Picture}
-use Rattle.picture_state.specs.State.{SliceState, sliceState, fullPxAs, rSizeAs, motionsAs, startCodeAs, typeAs, storesAs, sliceAs}
+use Rattle.picture_state.specs.State.{SliceState, sliceState, withFullPx, withRSize, withMotions, withStartCode, withPictureType, withStores, withPictureSlice}
 use Rattle.picture_state.specs.Result.{Result, ok, error, bindResult, pure}
 use Rattle.picture_state.specs.Stop.{Stop}
 use Rattle.slice.specs.Slices.{isLast, slice}
@@ -40,9 +40,9 @@ pub record PictureHeader : Type 0 where
   pub backward : Direction
 
 -- RULES 8.4: does the header have an f code of 0 for this direction?
-abbrev pub isZero : Direction → Bool
-isZero absent = false
-isZero (present full f) = eqb f 0
+abbrev pub hasZeroFCode : Direction → Bool
+hasZeroFCode absent = false
+hasZeroFCode (present full f) = eqb f 0
 
 -- RULES 7.1: one bit and three, if the header has them
 unfoldable pub direction : Bool → Prog Direction
@@ -56,24 +56,24 @@ pictureHeader = do
   type ← bits 3
   delay ← bits 16
   forward ← direction (eqb type 2 || eqb type 3)
-  backward ← direction (eqb type 3 && not (isZero forward))
+  backward ← direction (eqb type 3 && not (hasZeroFCode forward))
   done (record { «temporal_reference» = temporal; «picture_coding_type» = type; «vbv_delay» = delay; forward = forward; backward = backward })
 
 -- RULES 8.4: a picture is decoded if its type is 1 to 3 and its header has no f code of 0
 abbrev pub isDecoded : PictureHeader → Bool
-isDecoded h = leb 1 (h .«picture_coding_type») && leb (h .«picture_coding_type») 3 && not (isZero (h .forward)) && not (isZero (h .backward))
+isDecoded h = leb 1 (h .«picture_coding_type») && leb (h .«picture_coding_type») 3 && not (hasZeroFCode (h .forward)) && not (hasZeroFCode (h .backward))
 
 -- RULES 7.1, 5.1, 8.4: flag and r of a motion; a direction that the header does not have leaves both as they were, and an f code of 0 leaves r
 abbrev pub motionBy : Direction → Motion → Motion
 motionBy absent m = m
-motionBy (present full f) m = if eqb f 0 then fullPxAs full m else rSizeAs (f - 1) (fullPxAs full m)
+motionBy (present full f) m = if eqb f 0 then withFullPx full m else withRSize (f - 1) (withFullPx full m)
 
 -- RULES 7.1: what a header sets in the picture p
 abbrev pub withPictureHeader : PictureHeader → Picture → Picture
 withPictureHeader h p =
     let forward = motionBy (h .forward) (p .slice .«motion_forward») in
     let backward = motionBy (h .backward) (p .slice .«motion_backward») in
-    typeAs (h .«picture_coding_type») (sliceAs (motionsAs forward backward (p .slice)) p)
+    withPictureType (h .«picture_coding_type») (withPictureSlice (withMotions forward backward (p .slice)) p)
 
 -- what the slices of the picture p are given
 abbrev pub contextOf : Sizes → Picture → Context
@@ -99,36 +99,36 @@ isSlice c = leZ (pos 1) c && leZ c (pos 0xaf)
 unfoldable pub afterSlice : Context → Picture → Result Stop SliceState → Prog (Step SlicesLoopState (Result Stop PictureState))
 afterSlice g p (error e) = done (finish (error e))
 afterSlice g p (ok w) =
-    let f = pictureState (sliceAs (w .slice) p) (w .«block_data») (w .store) in
+    let f = pictureState (withPictureSlice (w .slice) p) (w .«block_data») (w .store) in
     if isLast g w then done (finish (ok f)) else done (continue (slicesLoopState true f))
 
 -- RULES 7.3: the next start code; what is neither passed over nor a slice ends the picture and is kept
 unfoldable pub slicesStep : Context → Matrices → SlicesLoopState → Prog (Step SlicesLoopState (Result Stop PictureState))
 slicesStep g m x = do
   c ← nextStartCode
-  let p = startCodeAs c (x .pictureState .picture)
+  let p = withStartCode c (x .pictureState .picture)
   let f = withPicture p (x .pictureState)
   if isSlice c then bind (slice g m (natAbs c) (sliceState (p .slice) (f .«block_data») (f .store))) (afterSlice g p)
       else if isExtra c && not (x .begun) then done (continue (slicesLoopState false f)) else done (finish (ok f))
 
 -- RULES 7.3, 7.4: the slices of a picture, none of them read so far
 unfoldable pub slices : Context → Matrices → PictureState → Prog (Result Stop PictureState)
-slices g m f = loop many (slicesStep g m) (ok f) (slicesLoopState false f)
+slices g m f = loop streamFuel (slicesStep g m) (ok f) (slicesLoopState false f)
 
 -- RULES 7.2: the roles of the stores while the slices of an I or P picture are read, and after them
-abbrev pub before : Stores → Stores
-before t = record { cur = t .cur; fwd = t .bwd; bwd = t .bwd }
+abbrev pub rolesWhileReading : Stores → Stores
+rolesWhileReading t = record { cur = t .cur; fwd = t .bwd; bwd = t .bwd }
 
-abbrev pub after : Stores → Stores
-after t = record { cur = t .fwd; fwd = t .bwd; bwd = t .cur }
+abbrev pub rolesAfterReading : Stores → Stores
+rolesAfterReading t = record { cur = t .fwd; fwd = t .bwd; bwd = t .cur }
 
 -- RULES 7.2: the slices, with the turn of the stores
 unfoldable pub slicesInRoles : Sizes → Matrices → PictureState → Prog (Result Stop PictureState)
 slicesInRoles z m f =
     let p = f .picture in
     if eqb (p .«picture_type») 3 then slices (contextOf z p) m f
-    else let q = storesAs (before (p .stores)) p in
-    bindResult (slices (contextOf z q) m (withPicture q f)) λ f₁. pure (withPicture (storesAs (after (p .stores)) (f₁ .picture)) f₁)
+    else let q = withStores (rolesWhileReading (p .stores)) p in
+    bindResult (slices (contextOf z q) m (withPicture q f)) λ f₁. pure (withPicture (withStores (rolesAfterReading (p .stores)) (f₁ .picture)) f₁)
 
 -- a picture; one that is not decoded ends behind its header (RULES 8.4)
 unfoldable pub picture : Sizes → Matrices → PictureState → Prog (Result Stop PictureState)

@@ -1,8 +1,8 @@
 // RULES 7.1, 8.4 (11172-2, 2.4.2.5): the header of a picture, from behind its start code on.
 use bits::reader::Reader;
 ghost use mathlib.Core.Path.{_≡_};
-ghost use Rattle.bits.specs.Runs.{Inside, Reading};
-ghost use Rattle.picture.specs.Pictures.{direction, isZero, pictureHeader};
+ghost use Rattle.bits.specs.Runs.{ReaderInBounds, RunsInBounds};
+ghost use Rattle.picture.specs.Pictures.{direction, hasZeroFCode, pictureHeader};
 ghost use Rattle.picture.specs.CodeResults.{directionOf, headerOf};
 
 // Full-pel flag and f code of one direction, where the header has them.
@@ -28,15 +28,15 @@ pub struct HeaderRead {
 
 // Does the header have an f code of 0 for this direction?
 pub fn is_zero(d: Direction) -> bool
-    ensures { λ r. ⌜ r ≡ isZero (directionOf d) ⌝ }
+    ensures { λ r. ⌜ r ≡ hasZeroFCode (directionOf d) ⌝ }
 {
     d.present & (d.f_code == 0)
 }
 
 // One bit and three, if the header has them.
 fn read_direction(s: &[u8], reader: Reader, present: bool) -> DirectionRead
-    requires { ⌜ Inside (now s) reader ⌝ }
-    ensures { λ r. ⌜ Reading (direction present) (now (s .entry)) reader (directionOf (r .direction)) (r .reader) ⌝ }
+    requires { ⌜ ReaderInBounds (now s) reader ⌝ }
+    ensures { λ r. ⌜ RunsInBounds (direction present) (now (s .entry)) reader (directionOf (r .direction)) (r .reader) ⌝ }
 {
     if present {
         let full = reader.read_bit(s);
@@ -62,8 +62,8 @@ fn read_direction(s: &[u8], reader: Reader, present: bool) -> DirectionRead
 
 // A P or B header has the forward direction, and a B header then the backward one, unless the forward f code is 0.
 pub fn read_picture_header(s: &[u8], reader: Reader) -> HeaderRead
-    requires { ⌜ Inside (now s) reader ⌝ }
-    ensures { λ r. ⌜ Reading pictureHeader (now (s .entry)) reader (headerOf r) (r .reader) ⌝ }
+    requires { ⌜ ReaderInBounds (now s) reader ⌝ }
+    ensures { λ r. ⌜ RunsInBounds pictureHeader (now (s .entry)) reader (headerOf r) (r .reader) ⌝ }
 {
     let temporal = reader.read(s, 10);
     let t = temporal.reader.read(s, 3);

@@ -10,11 +10,11 @@ use slice::slices::read_slice;
 ghost use mathlib.Core.Path.{_≡_};
 ghost use mathlib.Core.Bool.{not, _&&_};
 ghost use Prim.Native.Nat.{_≤_};
-ghost use Rattle.codes.specs.Lent.{Lent};
+ghost use Rattle.codes.specs.DecodingTables.{DecodingTables};
 ghost use Rattle.picture.specs.Pictures.{isSlice, isExtra, slices};
 ghost use Rattle.picture_state.specs.Contracts.{matricesIn, ReadInvariant, StoreFits};
 ghost use Rattle.picture.specs.Contracts.{pictureStateOf, RefinesSlicesStep, RefinesSlices};
-ghost use Rattle.macroblock.specs.Contracts.{AddressAdds};
+ghost use Rattle.macroblock.specs.Contracts.{AddressSumBound};
 ghost use Rattle.picture.specs.CodeResults.{afterSliceOf};
 
 // RULES 7.3: user data (B2) and extensions (B5).
@@ -50,7 +50,7 @@ fn passes_over(code: i32, begun: bool) -> bool
 // RULES 7.4: behind a slice with this start code. The picture ends where the address has reached the last macroblock.
 fn after_slice(g: Context, code: i32, w: Progress) -> SlicesProgress
     requires { ⌜ g .sizes .«mb_size» ≤ 65536 ⌝ }
-    requires { ⌜ AddressAdds (w .state .«macroblock_address») 1 ⌝ }
+    requires { ⌜ AddressSumBound (w .state .«macroblock_address») 1 ⌝ }
     ensures { λ r. ⌜ r ≡ afterSliceOf g code w ⌝ }
 {
     let reader = w.reader;
@@ -90,7 +90,7 @@ fn slices_step(
 ) -> SlicesProgress
     requires { ⌜ ReadInvariant (now s) reader state (now values) ⌝ }
     requires { ⌜ StoreFits g (now store) ⌝ }
-    requires { ⌜ Lent (now tables) ⌝ }
+    requires { ⌜ DecodingTables (now tables) ⌝ }
     ensures { λ r. ⌜
         RefinesSlicesStep g (matricesIn (now (tables .entry))) (now (s .entry)) reader begun state (now (values .entry)) (now (store .entry))
         r (now (values .exit)) (now (store .exit))
@@ -127,7 +127,7 @@ pub fn read_slices(
 ) -> SlicesProgress
     requires { ⌜ ReadInvariant (now s) reader start (now values) ⌝ }
     requires { ⌜ StoreFits g (now store) ⌝ }
-    requires { ⌜ Lent (now tables) ⌝ }
+    requires { ⌜ DecodingTables (now tables) ⌝ }
     ensures { λ r. ⌜
         RefinesSlices (slices g (matricesIn (now (tables .entry))) (pictureStateOf g before start (now (values .entry)) (now (store .entry))))
         g (now (s .entry)) reader r (now (values .exit)) (now (store .exit))

@@ -14,10 +14,10 @@ ghost use lib.Dec.{eqb};
 ghost use lib.IntN.{natAbs};
 ghost use lib.ListN.{length, getD};
 ghost use Rattle.bits.specs.Programs.{if_then_else_};
-ghost use Rattle.bits.specs.Runs.{Inside};
+ghost use Rattle.bits.specs.Runs.{ReaderInBounds};
 ghost use Rattle.codes.specs.Matrices.{Bounded};
 ghost use Rattle.picture_state.specs.Possible.{PossiblePicture};
-ghost use Rattle.picture.specs.Pictures.{pictureState, contextOf, before, after, slicesInRoles};
+ghost use Rattle.picture.specs.Pictures.{pictureState, contextOf, rolesWhileReading, rolesAfterReading, slicesInRoles};
 ghost use Rattle.picture_state.specs.Contracts.{matrices, StoreFits};
 ghost use Rattle.picture.specs.Contracts.{RefinesPicture};
 ghost use Rattle.picture.specs.CodeResults.{progressOf};
@@ -30,8 +30,8 @@ struct Roles {
 
 // They turn unless it is a B picture.
 fn roles_of(picture_type: u32, t: Stores) -> Roles
-    ensures { λ r. ⌜ r .during ≡ (if eqb «picture_type» 3 then t else before t) ⌝ }
-    ensures { λ r. ⌜ r .afterwards ≡ (if eqb «picture_type» 3 then t else after t) ⌝ }
+    ensures { λ r. ⌜ r .during ≡ (if eqb «picture_type» 3 then t else rolesWhileReading t) ⌝ }
+    ensures { λ r. ⌜ r .afterwards ≡ (if eqb «picture_type» 3 then t else rolesAfterReading t) ⌝ }
 {
     if picture_type == 3 {
         return Roles {
@@ -88,7 +88,7 @@ pub fn read_slices_in_roles(
     other: &[u8; 64],
     p: Picture,
 ) -> PictureProgress
-    requires { ⌜ Inside (now s) reader ⌝ }
+    requires { ⌜ ReaderInBounds (now s) reader ⌝ }
     requires { ⌜ PossiblePicture p ⌝ }
     requires { ⌜ Bounded (now values) ⌝ }
     requires { ⌜ StoreFits (contextOf sizes p) (now store) ⌝ }

@@ -10,7 +10,7 @@ use picture_state::types::Picture;
 use picture_state::types::PictureProgress;
 use picture_state::types::Sizes;
 ghost use mathlib.Core.Path.{_≡_};
-ghost use Rattle.bits.specs.Runs.{Inside};
+ghost use Rattle.bits.specs.Runs.{ReaderInBounds};
 ghost use Rattle.codes.specs.Matrices.{Bounded};
 ghost use Rattle.picture_state.specs.Possible.{PossiblePicture};
 ghost use Rattle.picture.specs.Pictures.{pictureState, contextOf, isDecoded, motionBy, withPictureHeader, picture};
@@ -68,7 +68,7 @@ pub fn read_picture(
     other: &[u8; 64],
     p: Picture,
 ) -> PictureProgress
-    requires { ⌜ Inside (now s) reader ⌝ }
+    requires { ⌜ ReaderInBounds (now s) reader ⌝ }
     requires { ⌜ PossiblePicture p ⌝ }
     requires { ⌜ Bounded (now values) ⌝ }
     requires { ⌜ StoreFits (contextOf sizes p) (now store) ⌝ }

@@ -11,12 +11,12 @@ OnResult P O (ok x) = P x
 OnResult P O (error e) = O e
 
 module _ {E : Type 0} (O : E → Type 0) where
-  pub also-results : {A B : Type 0} (P : A → Type 0) (Q : B → Type 0) (w : Result E A) (f : A → Result E B) → OnResult P O w
+  pub andThen-results : {A B : Type 0} (P : A → Type 0) (Q : B → Type 0) (w : Result E A) (f : A → Result E B) → OnResult P O w
       → ((x : A) → P x → OnResult Q O (f x))
       → OnResult Q O (andThen w f)
   unfolding andThen
-  also-results P Q (ok x) f h k = k x h
-  also-results P Q (error e) f h k = h
+  andThen-results P Q (ok x) f h k = k x h
+  andThen-results P Q (error e) f h k = h
 
   pub results-as : {A : Type 0} {P Q : A → Type 0} → ((x : A) → P x → Q x) → (w : Result E A) → OnResult P O w → OnResult Q O w
   results-as k (ok x) h = k x h

@@ -7,7 +7,7 @@ use native.Mathlib.Omega.{arith}
 use lib.IntN.{ℤ}
 use lib.ListN.{length}
 use Rattle.bits.specs.declared.reader.Reader.{Reader}
-use Rattle.bits.specs.Runs.{Inside}
+use Rattle.bits.specs.Runs.{ReaderInBounds}
 use Rattle.codes.specs.Matrices.{Bounded}
 use Rattle.picture_state.specs.Possible.{PossibleSlice}
 use Rattle.picture_state.specs.declared.types.{Context.Context, Slice.Slice}
@@ -21,7 +21,7 @@ pub size-most : {g : Context} {store : List ℕ} → StoreFits g store → g .si
 size-most k = omega (arith, k .size, mul-le-mul (k .across) (k .down))
 
 module _ {g : Context} {s : List ℕ} {reader : Reader} {x : Slice} {left : List ℤ} {store : List ℕ} (k : MacroblockInvariant g s reader x left store) where
-  pub ready-on : {reader₁ : Reader} {x₁ : Slice} {left₁ : List ℤ} {store₁ : List ℕ} → Inside s reader₁
+  pub ready-on : {reader₁ : Reader} {x₁ : Slice} {left₁ : List ℤ} {store₁ : List ℕ} → ReaderInBounds s reader₁
       → PossibleSlice x₁ → Bounded left₁ → x₁ .«macroblock_address» ≡ x .«macroblock_address» → length store₁ ≡ length store
       → MacroblockInvariant g s reader₁ x₁ left₁ store₁
   ready-on p i b a e = record { reads = record { inside = p; slice = i; block = b }; storeFits = held-on (k .storeFits) e; here = rw a (k .here) }

@@ -163,6 +163,6 @@ loop-left {S} {A} {n} {f} {d} {x₀} {s} {from₀} {x} {from} {left} {w} {to} l 
     go (finish v) q e = record { value = v; runs = loop-end l q; is = ap (value-of (numbered v)) e }
 
 -- the way that a number tells
-pub way-out : {A : Type 0} {n : ℕ} (x : A) (l : List ℕ) → (n ≡ 0 → ⊥) → resultOf n x l ≡ error (exit n l)
-way-out {n = zero} x l h = absurd (h refl)
-way-out {n = suc n} x l h = refl
+pub nonzero-is-error : {A : Type 0} {n : ℕ} (x : A) (l : List ℕ) → (n ≡ 0 → ⊥) → resultOf n x l ≡ error (exit n l)
+nonzero-is-error {n = zero} x l h = absurd (h refl)
+nonzero-is-error {n = suc n} x l h = refl

@@ -10,8 +10,8 @@ use lib.Signed.{nonNeg}
 use Rattle.laws.specs.Loops.{Step, continue, finish}
 use Rattle.bits.specs.declared.reader.Reader.{Reader}
 use Rattle.bits.specs.Programs.{Prog}
-use Rattle.bits.specs.Runs.{Runs, Inside}
-use Rattle.codes.specs.Lent.{matrixOf}
+use Rattle.bits.specs.Runs.{Runs, ReaderInBounds}
+use Rattle.codes.specs.DecodingTables.{matrixOf}
 use Rattle.codes.specs.Matrices.{Bounded}
 use Rattle.coefficients.specs.Blocks.{block}
 use Rattle.prediction.specs.Planes.{storesBytes}
@@ -84,7 +84,7 @@ pub record AddressInPicture (g : Context) (address : ℤ) : Type 0 where
 
 -- what reads a part of a macroblock
 pub record ReadInvariant (s : List ℕ) (reader : Reader) (x : Slice) (left : List ℤ) : Type 0 where
-  pub inside : Inside s reader
+  pub inside : ReaderInBounds s reader
   pub slice : PossibleSlice x
   pub block : Bounded left
 

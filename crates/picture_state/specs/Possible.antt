@@ -8,7 +8,7 @@ use lib.ListN.{getD}
 use lib.Signed.{leZ}
 use Rattle.laws.specs.Each.{allBelow}
 use Rattle.motion.specs.Displacement.{InRange}
-use Rattle.coefficients.specs.Dcs.{dcInside}
+use Rattle.coefficients.specs.Dcs.{dcInRange}
 use Rattle.picture_state.specs.declared.types.{Motion.Motion, Stores.Stores, Slice.Slice, Picture.Picture}
 
 -- is x in low..high?
@@ -29,7 +29,7 @@ abbrev pub possibleSlice : Slice → Bool
 possibleSlice s =
     leb (s .«quantizer_scale») 31 && between (negℤ (pos 1)) (pos 402700000) (s .«macroblock_address») &&
     possibleMotion (s .«motion_forward») && possibleMotion (s .«motion_backward») &&
-    allBelow 3 (λ k. dcInside (getD (s .«dc_predictor») k (pos 0)))
+    allBelow 3 (λ k. dcInRange (getD (s .«dc_predictor») k (pos 0)))
 
 -- type, start code, stores
 abbrev pub possiblePicture : Picture → Bool
@@ -55,7 +55,7 @@ pub record PossibleSlice (s : Slice) : Type 0 where
   pub address : between (negℤ (pos 1)) (pos 402700000) (s .«macroblock_address») ≡ true
   pub forward : PossibleMotion (s .«motion_forward»)
   pub backward : PossibleMotion (s .«motion_backward»)
-  pub predictors : (k : ℕ) → k < 3 → dcInside (getD (s .«dc_predictor») k (pos 0)) ≡ true
+  pub predictors : (k : ℕ) → k < 3 → dcInRange (getD (s .«dc_predictor») k (pos 0)) ≡ true
 
 pub record PossiblePicture (p : Picture) : Type 0 where
   pub type : p .«picture_type» ≤ 7

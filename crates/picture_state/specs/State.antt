@@ -24,21 +24,21 @@ abbrev pub zeroed : Motion → Motion
 zeroed m = record { «full_px» = m .«full_px»; «is_set» = m .«is_set»; «r_size» = m .«r_size»; h = pos 0; v = pos 0 }
 
 -- a motion with one thing changed: RULES 7.13, 7.1 (flag and r), 5.7
-abbrev pub isSetAs : Bool → Motion → Motion
-isSetAs b m = record { «full_px» = m .«full_px»; «is_set» = b; «r_size» = m .«r_size»; h = m .h; v = m .v }
+abbrev pub withIsSet : Bool → Motion → Motion
+withIsSet b m = record { «full_px» = m .«full_px»; «is_set» = b; «r_size» = m .«r_size»; h = m .h; v = m .v }
 
-abbrev pub fullPxAs : Bool → Motion → Motion
-fullPxAs b m = record { «full_px» = b; «is_set» = m .«is_set»; «r_size» = m .«r_size»; h = m .h; v = m .v }
+abbrev pub withFullPx : Bool → Motion → Motion
+withFullPx b m = record { «full_px» = b; «is_set» = m .«is_set»; «r_size» = m .«r_size»; h = m .h; v = m .v }
 
-abbrev pub rSizeAs : ℕ → Motion → Motion
-rSizeAs r m = record { «full_px» = m .«full_px»; «is_set» = m .«is_set»; «r_size» = r; h = m .h; v = m .v }
+abbrev pub withRSize : ℕ → Motion → Motion
+withRSize r m = record { «full_px» = m .«full_px»; «is_set» = m .«is_set»; «r_size» = r; h = m .h; v = m .v }
 
-abbrev pub vectorAs : ℤ → ℤ → Motion → Motion
-vectorAs h v m = record { «full_px» = m .«full_px»; «is_set» = m .«is_set»; «r_size» = m .«r_size»; h = h; v = v }
+abbrev pub withVector : ℤ → ℤ → Motion → Motion
+withVector h v m = record { «full_px» = m .«full_px»; «is_set» = m .«is_set»; «r_size» = m .«r_size»; h = h; v = v }
 
 -- a slice with one thing changed: RULES 7.5 and 7.13, 7.8 to 7.11, 7.13 to 7.15, part 3
-abbrev pub scaleAs : ℕ → Slice → Slice
-scaleAs q s = record {
+abbrev pub withScale : ℕ → Slice → Slice
+withScale q s = record {
   «quantizer_scale» = q;
   «macroblock_address» = s .«macroblock_address»;
   «motion_forward» = s .«motion_forward»;
@@ -46,8 +46,8 @@ scaleAs q s = record {
   «dc_predictor» = s .«dc_predictor»;
 }
 
-abbrev pub addressAs : ℤ → Slice → Slice
-addressAs a s = record {
+abbrev pub withAddress : ℤ → Slice → Slice
+withAddress a s = record {
   «quantizer_scale» = s .«quantizer_scale»;
   «macroblock_address» = a;
   «motion_forward» = s .«motion_forward»;
@@ -55,8 +55,8 @@ addressAs a s = record {
   «dc_predictor» = s .«dc_predictor»;
 }
 
-abbrev pub motionsAs : Motion → Motion → Slice → Slice
-motionsAs f b s = record {
+abbrev pub withMotions : Motion → Motion → Slice → Slice
+withMotions f b s = record {
   «quantizer_scale» = s .«quantizer_scale»;
   «macroblock_address» = s .«macroblock_address»;
   «motion_forward» = f;
@@ -64,8 +64,8 @@ motionsAs f b s = record {
   «dc_predictor» = s .«dc_predictor»;
 }
 
-abbrev pub predictorsAs : List ℤ → Slice → Slice
-predictorsAs d s = record {
+abbrev pub withPredictors : List ℤ → Slice → Slice
+withPredictors d s = record {
   «quantizer_scale» = s .«quantizer_scale»;
   «macroblock_address» = s .«macroblock_address»;
   «motion_forward» = s .«motion_forward»;
@@ -75,20 +75,20 @@ predictorsAs d s = record {
 
 -- RULES 7.20 (11172-2, 2.4.4.1): the DC predictors go back to 128
 abbrev pub dcReset : Slice → Slice
-dcReset s = predictorsAs (replicate 3 (pos 128)) s
+dcReset s = withPredictors (replicate 3 (pos 128)) s
 
 -- a picture with one thing changed: RULES 7.3, 7.1, 7.2, 7.5
-abbrev pub startCodeAs : ℤ → Picture → Picture
-startCodeAs c p = record { «picture_type» = p .«picture_type»; «start_code» = c; stores = p .stores; slice = p .slice }
+abbrev pub withStartCode : ℤ → Picture → Picture
+withStartCode c p = record { «picture_type» = p .«picture_type»; «start_code» = c; stores = p .stores; slice = p .slice }
 
-abbrev pub typeAs : ℕ → Picture → Picture
-typeAs t p = record { «picture_type» = t; «start_code» = p .«start_code»; stores = p .stores; slice = p .slice }
+abbrev pub withPictureType : ℕ → Picture → Picture
+withPictureType t p = record { «picture_type» = t; «start_code» = p .«start_code»; stores = p .stores; slice = p .slice }
 
-abbrev pub storesAs : Stores → Picture → Picture
-storesAs t p = record { «picture_type» = p .«picture_type»; «start_code» = p .«start_code»; stores = t; slice = p .slice }
+abbrev pub withStores : Stores → Picture → Picture
+withStores t p = record { «picture_type» = p .«picture_type»; «start_code» = p .«start_code»; stores = t; slice = p .slice }
 
-abbrev pub sliceAs : Slice → Picture → Picture
-sliceAs s p = record { «picture_type» = p .«picture_type»; «start_code» = p .«start_code»; stores = p .stores; slice = s }
+abbrev pub withPictureSlice : Slice → Picture → Picture
+withPictureSlice s p = record { «picture_type» = p .«picture_type»; «start_code» = p .«start_code»; stores = p .stores; slice = s }
 
 -- RULES O.4: the numbers of the stores at the beginning
 abbrev pub firstStores : Stores

@@ -4,12 +4,12 @@ use crate::types::Motion;
 use crate::types::Picture;
 use crate::types::Slice;
 use crate::types::Stores;
-use coefficients::dc::dc_inside;
+use coefficients::dc::dc_in_range;
 ghost use mathlib.Core.Path.{_≡_};
 ghost use lib.IntN.{pos};
 ghost use lib.ListN.{getD};
 ghost use Rattle.laws.specs.Each.{allBelow};
-ghost use Rattle.coefficients.specs.Dcs.{dcInside};
+ghost use Rattle.coefficients.specs.Dcs.{dcInRange};
 ghost use Rattle.picture_state.specs.Possible.{between, possibleStores, possibleMotion, possibleSlice, possiblePicture};
 
 fn between(low: i32, high: i32, x: i32) -> bool
@@ -40,11 +40,11 @@ fn possible_motion(m: Motion) -> bool
 }
 
 fn possible_predictors(dc: [i32; 3]) -> bool
-    ensures { λ r. ⌜ r ≡ allBelow 3 (λ k. dcInside (getD dc k (pos 0))) ⌝ }
+    ensures { λ r. ⌜ r ≡ allBelow 3 (λ k. dcInRange (getD dc k (pos 0))) ⌝ }
 {
-    let y = dc_inside(dc[0]);
-    let cr = dc_inside(dc[1]);
-    let cb = dc_inside(dc[2]);
+    let y = dc_in_range(dc[0]);
+    let cr = dc_in_range(dc[1]);
+    let cb = dc_in_range(dc[2]);
     y & cr & cb
 }
 

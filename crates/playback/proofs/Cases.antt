@@ -17,10 +17,10 @@ use Rattle.playback.specs.declared.state.State.{State}
 use Rattle.playback.specs.State.{position, startCode, hasReferenceFrame, shownPicture, stateAfterPicture, hasReferenceFrameAs}
 use Rattle.playback.specs.Search.{nextPicture, isFollowed}
 use Rattle.playback.specs.Display.{OutcomeState, isWaiting, counted, outputPicture, shown, flushed}
-use Rattle.playback.specs.Steps.{DecodingState, withState, LoopEnd, finished, withStore, atPicture, pictureRun, afterPicture, decoded, searched}
+use Rattle.playback.specs.Steps.{DecodingState, withState, LoopEnd, finished, withStore, afterPictureSearch, pictureRun, afterPicture, decoded, searched}
 use Rattle.playback.specs.Steps.{pictureStep}
 use Rattle.playback.specs.Cases.{isPictureReady, isFlush, isB, ReadsPicture, stateLeftBy, countedAfter, b-picture, reference-picture, flushed-picture}
-use Rattle.playback.specs.Cases.{StepCase, outputs, keeps-reference, aborts, is-seven}
+use Rattle.playback.specs.Cases.{StepCase, outputs, keeps-reference, aborts, no-picture}
 
 module _ (s : List ℕ) (z : Sizes) (m : Matrices) (x : DecodingState) where
   shown-is : (f : PictureState) (a : ℕ) → isPictureReady s (x .state) ≡ true → ReadsPicture s z m x f a
@@ -62,13 +62,13 @@ module _ (s : List ℕ) (z : Sizes) (m : Matrices) (x : DecodingState) where
           → isWaiting s (x .state) ≡ u → (isPictureReady s (x .state) ≡ true → StepCase s z m x (decoded s z m x))
           → StepCase s z m x (cond t (withStore (x .«block_data») (x .store) (finish (waiting u))) (cond f (decoded s z m x) (finish (finished (Refused 7) x))))
       go true a f b true c k = outputs (flushed-picture (rw a refl) (rw a c))
-      go true a f b false c k = is-seven (rw a refl) (rw a c)
+      go true a f b false c k = no-picture (rw a refl) (rw a c)
       go false a true b u c k = k (rw a b)
-      go false a false b u c k = is-seven (rw a b) (rw a refl)
+      go false a false b u c k = no-picture (rw a b) (rw a refl)
 
-pub picture-step-is : (s : List ℕ) (z : Sizes) (m : Matrices) (x : DecodingState) → StepCase s z m (atPicture s x) (pictureStep s z m x)
+pub picture-step-is : (s : List ℕ) (z : Sizes) (m : Matrices) (x : DecodingState) → StepCase s z m (afterPictureSearch s x) (pictureStep s z m x)
 unfolding pictureStep
-picture-step-is s z m x = searched-is s z m (atPicture s x)
+picture-step-is s z m x = searched-is s z m (afterPictureSearch s x)
 
 -- ---- the other way, from the state w behind the search on
 
@@ -86,7 +86,7 @@ module _ (s : List ℕ) (z : Sizes) (m : Matrices) (x : DecodingState) (w : Stat
       go (outputs (flushed-picture j v)) = absurd (true≢false (sym v ∙ u))
       go (keeps-reference j r b h) = absurd (true≢false (sym j ∙ i))
       go (aborts j r) = absurd (true≢false (sym j ∙ i))
-      go (is-seven j v) = refl
+      go (no-picture j v) = refl
 
   module _ {f : PictureState} {a : ℕ} (i : isPictureReady s w ≡ true) (r : ReadsPicture s z m (withState w x) f a) where
     -- the state behind a picture that is read to its end

@@ -11,7 +11,7 @@ use borrow.Author.Tests.{eqb-true}
 use Rattle.laws.specs.Loops.{continue, finish}
 use Rattle.bits.specs.Bounds.{longestStream}
 use Rattle.bits.specs.Bits.{Found, boundary, codePrefix, codeFrom, found}
-use Rattle.bits.specs.Programs.{Out, done, bind, run, eqZ, continueWith, loop, many, findStep, findStartCode}
+use Rattle.bits.specs.Programs.{RunResult, done, bind, run, eqZ, continueWith, loop, streamFuel, findStep, findStartCode}
 use Rattle.bits.specs.Runs.{RunsAt}
 use Rattle.bits.proofs.Start.{isCode, Searched, first, none, found-end, found-is-first}
 use Rattle.bits.proofs.Rules.{at-find}
@@ -44,7 +44,7 @@ none-again s a h =
     rw (none-at s b n h) (rw (at-byte (b + n)) (found-end s (b + n) (omega arith)))
 
 -- RULES 1.11: a search for the code c from the place a on
-pub data Sought (c : ℤ) (s : List ℕ) (a : ℕ) (o : Out ℤ) : Type 0 where
+pub data Sought (c : ℤ) (s : List ℕ) (a : ℕ) (o : RunResult ℤ) : Type 0 where
   hit : o .value ≡ c → a + 32 ≤ o .at → o .at + 8 ≤ length s * 8 → Sought c s a o
   miss : o .value ≡ negsuc 0 → Barren s (o .at) → Sought c s a o
 
@@ -80,7 +80,7 @@ sought-from c s (suc n) a h = go (found s a .code) (found s a .at) (code-ahead s
     test k e p r true f = hit (f refl) (p .0) (p .1)
     test k e p r false f = further (r e (omega arith))
       where
-        further : {o : Out ℤ} → Sought c s e o → Sought c s a o
+        further : {o : RunResult ℤ} → Sought c s e o → Sought c s a o
         further (hit x y z) = hit x (omega arith) z
         further (miss x y) = miss x y
 
@@ -95,7 +95,7 @@ sought-from c s (suc n) a h = go (found s a .code) (found s a .at) (code-ahead s
 
 pub sought : (c : ℤ) (s : List ℕ) (a : ℕ) → length s ≤ longestStream → Sought c s a (run (findStartCode c) s a)
 unfolding findStartCode
-sought c s a h = sought-from c s many a (omega arith)
+sought c s a h = sought-from c s streamFuel a (omega arith)
 
 -- a search from where nothing is found
 pub still-barren : (c : ℤ) (s : List ℕ) (e : ℕ) → Barren s e → RunsAt (findStartCode c) s e (negsuc 0) e

@@ -14,19 +14,19 @@ use Rattle.bits.specs.Programs.{eqZ, findStartCode}
 use Rattle.bits.specs.Runs.{Runs, positionOf, readerAt}
 use Rattle.bits.proofs.Codes.{eqZ-yes, eqZ-no}
 use Rattle.playback.specs.declared.state.State.{State}
-use Rattle.playback.specs.State.{position, startCode, searchedAs}
-use Rattle.playback.specs.Search.{nextCode}
+use Rattle.playback.specs.State.{position, startCode, withSearchResult}
+use Rattle.playback.specs.Search.{ensureStartCode}
 use Rattle.playback.proofs.Searches.{eqZ-is}
 
 -- RULES Q3, 8.2
 module _ (c : ℤ) (s : List ℕ) (x : State) where
-  pub seek-has : eqZ (startCode x) c ≡ true → x ≡ nextCode c s x
-  unfolding nextCode
+  pub seek-has : eqZ (startCode x) c ≡ true → x ≡ ensureStartCode c s x
+  unfolding ensureStartCode
   seek-has e = rw e
 
   pub seek-finds : {k : ℤ} {to : Reader} → eqZ (startCode x) c ≡ false → Runs (findStartCode c) s (readerAt (position x)) k to
-      → searchedAs k (positionOf to) x ≡ nextCode c s x
-  unfolding nextCode
+      → withSearchResult k (positionOf to) x ≡ ensureStartCode c s x
+  unfolding ensureStartCode
   seek-finds g r = rw (g, r .is)
 
 -- RULES 8.3

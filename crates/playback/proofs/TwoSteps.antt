@@ -11,9 +11,9 @@ use Rattle.picture_state.specs.declared.types.{Matrices.Matrices, Sizes.Sizes}
 use Rattle.playback.specs.declared.outcome.Outcome.the-variants.{Refused}
 use Rattle.playback.specs.declared.state.State.{State}
 use Rattle.playback.specs.State.{startCode, hasReferenceFrame}
-use Rattle.playback.specs.Search.{nextCode, nextPicture}
+use Rattle.playback.specs.Search.{ensureStartCode, nextPicture}
 use Rattle.playback.specs.Steps.{DecodingState, LoopEnd, finished, pictureStep, pictures}
-use Rattle.playback.specs.Cases.{StepCase, outputs, keeps-reference, aborts, is-seven}
+use Rattle.playback.specs.Cases.{StepCase, outputs, keeps-reference, aborts, no-picture}
 use Rattle.playback.proofs.Cases.{picture-step-is}
 
 -- a turn that goes on has set held
@@ -27,7 +27,7 @@ isStop (finish e) = true
 
 -- a search leaves it as it is
 pub next-held : (s : List ℕ) (x : State) → hasReferenceFrame (nextPicture s x) ≡ hasReferenceFrame x
-unfolding nextCode
+unfolding ensureStartCode
 next-held s x = by-case (λ (y : State). hasReferenceFrame y ≡ hasReferenceFrame x) (eqZ (startCode x) (pos 0)) (λ e. refl) (λ e. refl)
 
 module _ (s : List ℕ) (z : Sizes) (m : Matrices) where
@@ -38,7 +38,7 @@ module _ (s : List ℕ) (z : Sizes) (m : Matrices) where
       go (outputs h) = tt
       go (keeps-reference i r b h) = refl
       go (aborts i r) = tt
-      go (is-seven i u) = tt
+      go (no-picture i u) = tt
 
   -- with held set every turn ends the call
   pub held-stops : (x : DecodingState) → hasReferenceFrame (x .state) ≡ true → isStop (pictureStep s z m x) ≡ true
@@ -48,7 +48,7 @@ module _ (s : List ℕ) (z : Sizes) (m : Matrices) where
       go e (outputs h) = refl
       go e (keeps-reference i r b h) = absurd (true≢false (sym e ∙ h))
       go e (aborts i r) = refl
-      go e (is-seven i u) = refl
+      go e (no-picture i u) = refl
 
   one : (t : Step DecodingState LoopEnd) → isStop t ≡ true → elim t [ continue y ↦ finishes 0 (pictureStep s z m) y | finish v ↦ true ] ≡ true
   unfolding finishes

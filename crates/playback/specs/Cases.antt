@@ -67,4 +67,4 @@ pub data StepCase (s : List ℕ) (z : Sizes) (m : Matrices) (x : DecodingState) 
   aborts : {e : Stop} {a : ℕ} → isPictureReady s (x .state) ≡ true → pictureRun s z m x ≡ record { value = error e; at = a }
       → StepCase s z m x (finish (aborted (errorCode (e .cause)) (e .store)))
   -- RULES Q7: no picture to decode, and none to flush
-  is-seven : isPictureReady s (x .state) ≡ false → isFlush s (x .state) ≡ false → StepCase s z m x (finish (finished (Refused 7) x))
+  no-picture : isPictureReady s (x .state) ≡ false → isFlush s (x .state) ≡ false → StepCase s z m x (finish (finished (Refused 7) x))

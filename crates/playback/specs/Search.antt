@@ -7,17 +7,17 @@ use lib.IntN.{ℤ, pos, negsuc}
 use lib.ListN.{length}
 use Rattle.bits.specs.Programs.{run, eqZ, findStartCode, if_then_else_}
 use Rattle.playback.specs.declared.state.State.{State}
-use Rattle.playback.specs.State.{position, startCode, searchedAs}
+use Rattle.playback.specs.State.{position, startCode, withSearchResult}
 
 -- RULES Q3, 8.2: the start code c is searched, unless the state has it already
-unfoldable pub nextCode : ℤ → List ℕ → State → State
-nextCode c s x =
+unfoldable pub ensureStartCode : ℤ → List ℕ → State → State
+ensureStartCode c s x =
     if eqZ (startCode x) c then x
-    else let o = run (findStartCode c) s (position x) in searchedAs (o .value) (o .at) x
+    else let o = run (findStartCode c) s (position x) in withSearchResult (o .value) (o .at) x
 
 -- RULES 8.2: the next picture
 abbrev pub nextPicture : List ℕ → State → State
-nextPicture = nextCode (pos 0)
+nextPicture = ensureStartCode (pos 0)
 
 -- RULES 1.4: the exact end of the bits
 abbrev pub hasEnded : List ℕ → ℕ → Bool

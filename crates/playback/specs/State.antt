@@ -4,9 +4,9 @@ use Prim.Native.Nat.{ℕ}
 use lib.Dec.{leb}
 use lib.Ieee.{Float}
 use lib.IntN.{ℤ}
-use Rattle.picture_state.specs.State.{startCodeAs, freshPicture}
+use Rattle.picture_state.specs.State.{withStartCode, freshPicture}
 use Rattle.picture.specs.Pictures.{PictureState}
-use Rattle.header.specs.State.{noTime}
+use Rattle.header.specs.State.{zeroFloat}
 use Rattle.playback.specs.declared.outcome.Shown.{Shown}
 use Rattle.playback.specs.declared.state.{Clock.Clock, Display.Display, State.State}
 
@@ -45,7 +45,7 @@ freshState = record {
   position = record { 0 = 0 };
   picture = freshPicture;
   display = record {
-    clock = record { framerate = noTime; «pixel_aspect_ratio» = noTime; time = noTime; «last_frame_time» = noTime };
+    clock = record { framerate = zeroFloat; «pixel_aspect_ratio» = zeroFloat; time = zeroFloat; «last_frame_time» = zeroFloat };
     «has_reference_frame» = false;
     «frames_decoded» = 0;
   };
@@ -60,8 +60,8 @@ abbrev pub timedAs : Clock → Display → Display
 timedAs c v = record { clock = c; «has_reference_frame» = v .«has_reference_frame»; «frames_decoded» = v .«frames_decoded» }
 
 -- a search that ended at the place a with the start code c
-abbrev pub searchedAs : ℤ → ℕ → State → State
-searchedAs c a x = record { position = record { 0 = a }; picture = startCodeAs c (x .picture); display = x .display }
+abbrev pub withSearchResult : ℤ → ℕ → State → State
+withSearchResult c a x = record { position = record { 0 = a }; picture = withStartCode c (x .picture); display = x .display }
 
 -- behind a picture that was read up to the place a
 abbrev pub stateAfterPicture : PictureState → ℕ → State → State

@@ -3,7 +3,7 @@ use mathlib.Core.List.{List}
 use Prim.Native.Nat.{ℕ}
 use lib.IntN.{ℤ, negsuc}
 use Rattle.laws.specs.Loops.{Step, continue, finish, iterate}
-use Rattle.bits.specs.Programs.{Out, run, eqZ, if_then_else_}
+use Rattle.bits.specs.Programs.{RunResult, run, eqZ, if_then_else_}
 use Rattle.picture_state.specs.declared.types.{Matrices.Matrices, Sizes.Sizes}
 use Rattle.picture_state.specs.Result.{Result, ok, error}
 use Rattle.picture_state.specs.Stop.{Stop, errorCode}
@@ -43,14 +43,14 @@ abbrev pub pictureStateOf : DecodingState → PictureState
 pictureStateOf x = pictureState (x .state .picture) (x .«block_data») (x .store)
 
 -- RULES Q8, Q9, 8.5: what a picture's run gives; one that stops gives the number of its cause
-unfoldable pub afterPicture : State → Out (Result Stop PictureState) → Step DecodingState LoopEnd
+unfoldable pub afterPicture : State → RunResult (Result Stop PictureState) → Step DecodingState LoopEnd
 afterPicture x o = elim (o .value) [
   | ok f ↦ withStore (f .«block_data») (f .store) (shown (stateAfterPicture f (o .at) x))
   | error e ↦ finish (aborted (errorCode (e .cause)) (e .store))
 ]
 
 -- the run of the picture at the state's place
-abbrev pub pictureRun : List ℕ → Sizes → Matrices → DecodingState → Out (Result Stop PictureState)
+abbrev pub pictureRun : List ℕ → Sizes → Matrices → DecodingState → RunResult (Result Stop PictureState)
 pictureRun s z m x = run (picture z m (pictureStateOf x)) s (position (x .state))
 
 -- that picture is decoded
@@ -64,12 +64,12 @@ searched s z m x =
     else if isFollowed s (position (x .state)) then decoded s z m x else finish (finished (Refused 7) x)
 
 -- the search, of a turn
-abbrev pub atPicture : List ℕ → DecodingState → DecodingState
-atPicture s x = withState (nextPicture s (x .state)) x
+abbrev pub afterPictureSearch : List ℕ → DecodingState → DecodingState
+afterPictureSearch s x = withState (nextPicture s (x .state)) x
 
 -- RULES 8.2 to 8.8: a turn
 unfoldable pub pictureStep : List ℕ → Sizes → Matrices → DecodingState → Step DecodingState LoopEnd
-pictureStep s z m x = searched s z m (atPicture s x)
+pictureStep s z m x = searched s z m (afterPictureSearch s x)
 
 -- RULES 8.7: at most two turns; the third case does not come up
 unfoldable pub pictures : List ℕ → Sizes → Matrices → DecodingState → LoopEnd

@@ -7,8 +7,8 @@ ghost use Prim.Native.Nat.{_≤_};
 ghost use lib.ListN.{length};
 ghost use Rattle.bits.specs.Bounds.{longestStream, lastPosition};
 ghost use Rattle.bits.specs.Programs.{eqZ};
-ghost use Rattle.bits.specs.Runs.{Inside, positionOf};
-ghost use Rattle.playback.specs.State.{position, searchedAs};
+ghost use Rattle.bits.specs.Runs.{ReaderInBounds, positionOf};
+ghost use Rattle.playback.specs.State.{position, withSearchResult};
 ghost use Rattle.playback.specs.Search as Search;
 
 // Whether the start code that was found last is this one.
@@ -21,7 +21,7 @@ pub fn has_code(p: Picture, code: i32) -> bool
 
 // A search that ended here with a start code.
 fn searched(mut d: State, reader: Reader, code: i32) -> State
-    ensures { λ r. ⌜ r ≡ searchedAs code (positionOf reader) d ⌝ }
+    ensures { λ r. ⌜ r ≡ withSearchResult code (positionOf reader) d ⌝ }
 {
     let mut p = d.picture;
     p.start_code = code;
@@ -35,7 +35,7 @@ fn searched(mut d: State, reader: Reader, code: i32) -> State
 pub fn next_code(s: &[u8], d: State, code: i32) -> State
     requires { ⌜ position d ≤ lastPosition ⌝ }
     requires { ⌜ length (now s) ≤ longestStream ⌝ }
-    ensures { λ r. ⌜ r ≡ Search.nextCode code (now (s .entry)) d ⌝ }
+    ensures { λ r. ⌜ r ≡ Search.ensureStartCode code (now (s .entry)) d ⌝ }
 {
     if has_code(d.picture, code) {
         return d;
@@ -46,7 +46,7 @@ pub fn next_code(s: &[u8], d: State, code: i32) -> State
 
 // RULES 8.3: a second picture start code is found ahead, or the bits end here.
 pub fn is_followed(s: &[u8], reader: Reader) -> bool
-    requires { ⌜ Inside (now s) reader ⌝ }
+    requires { ⌜ ReaderInBounds (now s) reader ⌝ }
     ensures { λ r. ⌜ r ≡ Search.isFollowed (now (s .entry)) (positionOf reader) ⌝ }
 {
     let ahead = reader.has_start_code(s, 0);

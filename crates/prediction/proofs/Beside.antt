@@ -11,9 +11,9 @@ use lib.Dec.{eqb}
 use lib.ListN.{length, getD, set, replicate, length-replicate}
 use Rattle.laws.specs.Stores.{storeRow}
 use Rattle.laws.proofs.Lists.{last-row, row-alike, row-in, rows-alike, rows-out, Stored, none-stored, stored-first, all-stored}
-use Rattle.prediction.specs.Apart.{Disjoint, chosen, sampled, storedSampleAt, storedRows}
+use Rattle.prediction.specs.DisjointBlocks.{Disjoint, averagedFourOrTwo, sampled, storedSampleAt, storedRows}
 use Rattle.prediction.specs.Samples.{average2, sample, storedSample}
-use Rattle.prediction.proofs.Lines.{Lines, no-line, line-on, lines-all}
+use Rattle.prediction.proofs.RowsWritten.{RowsWritten, no-line, line-on, lines-all}
 
 -- what f makes of a store at i is made of the numbers from i up to e further
 abbrev pub Reads : (List ℕ → ℕ → ℕ) → ℕ → Type 0
@@ -36,7 +36,7 @@ make-on m h e = record { read = m .read; written = m .written; made = stored-fir
 
 -- y of the b rows are written, each number made by f
 pub record Rows (interpolate : Bool) (f : List ℕ → ℕ → ℕ) (s : List ℕ) (from to dw b : ℕ) (now : List ℕ) (y : ℕ) : Type 0 where
-  pub lines : Lines s to dw b b (λ old y x. storedSample interpolate old (f s (from + y * dw + x))) now y
+  pub lines : RowsWritten s to dw b b (λ old y x. storedSample interpolate old (f s (from + y * dw + x))) now y
 
 pub no-row : {interpolate : Bool} {f : List ℕ → ℕ → ℕ} {s : List ℕ} {from to dw b e : ℕ} → Disjoint (length s) from to dw b e
     → Rows interpolate f s from to dw b s 0
@@ -101,7 +101,7 @@ rows-step {interpolate} {f} {s} {before} {now} {row} {from} {to} {dw} {b} {n} {e
 
 -- ---- averages of two and of four
 
-pub chosen-reads : (dw other right : ℕ) (four : Bool) → (four ≡ true → (other ≡ dw + 1) × (right ≡ 1)) → Reads (chosen dw other four) other
+pub chosen-reads : (dw other right : ℕ) (four : Bool) → (four ≡ true → (other ≡ dw + 1) × (right ≡ 1)) → Reads (averagedFourOrTwo dw other four) other
 unfolding sample
 chosen-reads dw other right true is s t i h =
     let e : other ≡ dw + 1 = is refl .0 in
@@ -115,7 +115,7 @@ chosen-reads dw other right false is s t i h = ap₂ average2 (h i (omega arith)
 
 -- an average of two, with an offset that is 0, 1 or a row: the sample itself, or averaged with the one to the right or the one below
 chosen-is : (s : List ℕ) (dw right below i : ℕ) → right ≤ 1 → below ≤ 1
-    → chosen dw (below * dw + right) (eqb (below * 2 + right) 3) s i ≡ sample s dw (eqb right 1) (eqb below 1) i
+    → averagedFourOrTwo dw (below * dw + right) (eqb (below * 2 + right) 3) s i ≡ sample s dw (eqb right 1) (eqb below 1) i
 unfolding sample
 chosen-is s dw zero zero i r b = let e : i + (0 * dw + 0) ≡ i = omega arith in ap (λ (k : ℕ). average2 (getD s i 0) (getD s k 0)) e ∙ omega arith
 chosen-is s dw zero (suc zero) i r b = ap (λ (k : ℕ). average2 (getD s i 0) (getD s k 0)) (omega arith)
@@ -126,7 +126,7 @@ chosen-is s dw zero (suc (suc k)) i r b = absurd (omega arith)
 chosen-is s dw (suc zero) (suc (suc k)) i r b = absurd (omega arith)
 
 pub chosen-rows : (interpolate : Bool) (s : List ℕ) (from to dw b right below : ℕ) → (right ≤ 1) × (below ≤ 1)
-    → storedRows interpolate (chosen dw (below * dw + right) (eqb (below * 2 + right) 3)) s from to dw b
+    → storedRows interpolate (averagedFourOrTwo dw (below * dw + right) (eqb (below * 2 + right) 3)) s from to dw b
     ≡ storedRows interpolate (sampled dw (eqb right 1) (eqb below 1)) s from to dw b
 chosen-rows interpolate s from to dw b right below h =
     rows-alike s to dw b _ _ b

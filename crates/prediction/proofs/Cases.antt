@@ -1,7 +1,7 @@
 -- RULES W.5 to W.7: the worked cases of averages and of a chroma vector.
 use mathlib.Core.Path.{_≡_, refl}
 use lib.IntN.{negsuc}
-use Rattle.laws.specs.Signed.{half0}
+use Rattle.laws.specs.Signed.{halfTowardZero}
 use Rattle.prediction.specs.Predict.{chroma}
 use Rattle.prediction.specs.Samples.{average4}
 
@@ -13,5 +13,5 @@ w6 = refl
 
 -- -3 gives -1
 pub w7 : chroma (negsuc 2) ≡ negsuc 0
-unfolding half0
+unfolding halfTowardZero
 w7 = refl

@@ -13,7 +13,7 @@ use Rattle.laws.specs.Signed.{odd}
 use Rattle.laws.specs.Stores.{storeRows}
 use Rattle.laws.proofs.Lists.{last-row, length-mid, mid-at, rows-alike, rows-put}
 use Rattle.prediction.specs.declared.position.BlockPosition.{BlockPosition}
-use Rattle.prediction.specs.Apart.{Disjoint, sampled, storedRows}
+use Rattle.prediction.specs.DisjointBlocks.{Disjoint, sampled, storedRows}
 use Rattle.prediction.specs.Predict.{BlockInPlane, width, bytes, address, maxAddress, reach, predicted}
 use Rattle.prediction.specs.Samples.{average2, average4, sample, storedSample}
 use Rattle.prediction.proofs.Places.{column-in, block-in, source-in, halves-reach}

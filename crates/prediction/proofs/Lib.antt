@@ -2,7 +2,7 @@ pub mod Beside
 pub mod Cases
 pub mod Copies
 pub mod Fetches
-pub mod Lines
+pub mod RowsWritten
 pub mod Macroblocks
 pub mod Places
 pub mod Pointwise

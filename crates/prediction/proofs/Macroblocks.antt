@@ -10,15 +10,16 @@ use native.Mathlib.Omega.{arith}
 use borrow.Author.Tests.{le-ltb}
 use lib.Dec.{eqb, ltb}
 use lib.IntN.{ℤ, pos, negsuc, natAbs}
-use Rattle.laws.specs.Signed.{half0}
+use Rattle.laws.specs.Signed.{halfTowardZero}
 use Rattle.laws.proofs.Nums.{neg-abs}
 use Rattle.prediction.specs.declared.position.{Macroblock.Macroblock, BlockPosition.BlockPosition}
 use Rattle.prediction.specs.declared.planes.Plane.{Plane}
 use Rattle.prediction.specs.declared.planes.Plane.the-variants.{Y, Cr, Cb}
 use Rattle.prediction.specs.declared.predict.Predicted.{Predicted}
 use Rattle.prediction.specs.declared.predict.Predicted.the-variants.{Done, Refused}
-use Rattle.prediction.specs.Planes.{macroblocks, blockSize, planeOf, planeLength, planeStart, PlaneAfter, inPlane, thenPlane, ofStores, predictedPlanes}
-use Rattle.prediction.specs.Predict.{Inside, BlockInPlane, macroblockAt, blockOf, bytes, chroma}
+use Rattle.prediction.specs.Planes.{macroblocks, blockSize, planeOf, planeLength, planeStart, PlaneAfter, predictPlane, andThenPlane}
+use Rattle.prediction.specs.Planes.{predictPlaneFromStore, predictedPlanes}
+use Rattle.prediction.specs.Predict.{MacroblockInPicture, BlockInPlane, macroblockAt, blockPositionOf, bytes, chroma}
 use Rattle.prediction.specs.Writers.{lumaAddress, chromaAddress, blockWidth, blockAddress}
 use Rattle.prediction.proofs.Places.{at-place, block-in}
 use Rattle.prediction.specs.Planes.{storesBytes}
@@ -29,7 +30,7 @@ across-some zero down address h = omega arith
 across-some (suc n) down address h = omega arith
 
 -- the macroblock with an address lies in the picture
-pub inside-at : (across down address : ℕ) → across ≤ 256 → down ≤ 256 → address < across * down → Inside (macroblockAt across down address)
+pub inside-at : (across down address : ℕ) → across ≤ 256 → down ≤ 256 → address < across * down → MacroblockInPicture (macroblockAt across down address)
 inside-at across down address wide high h =
     let some = across-some across down address h in
     record {
@@ -43,11 +44,11 @@ inside-at across down address wide high h =
 pub store-most : (k n : ℕ) → k < 3 → k * (384 * n) ≤ 768 * n
 store-most k n h = let r : k ≤ 2 = omega arith in omega (arith, mul-le-mul-right (384 * n) r)
 
-module _ {m : Macroblock} (i : Inside m) where
+module _ {m : Macroblock} (i : MacroblockInPicture m) where
   pub count-most : macroblocks m ≤ 65536
   count-most = mul-le-mul (i .across) (i .down)
 
-  pub placed : (q : Plane) → BlockInPlane (blockOf m (blockSize q))
+  pub placed : (q : Plane) → BlockInPlane (blockPositionOf m (blockSize q))
   placed Y = record { size = inr refl; inside = i }
   placed Cr = record { size = inl refl; inside = i }
   placed Cb = record { size = inl refl; inside = i }
@@ -78,7 +79,7 @@ size-most Cr = omega arith
 size-most Cb = omega arith
 
 -- block 0 to 5 lies in its plane
-module _ {m : Macroblock} (i : Inside m) (number : ℕ) where
+module _ {m : Macroblock} (i : MacroblockInPicture m) (number : ℕ) where
   pub width-least : 8 ≤ blockWidth m number
   width-least = let h : 1 ≤ m .across = omega (arith, i .column) in mul-le-mul h (size-least (planeOf number))
 
@@ -103,25 +104,26 @@ module _ {m : Macroblock} (i : Inside m) (number : ℕ) where
       go true = refl
       go false = refl
 
-pub plane-in : (m : Macroblock) (q : Plane) (k : ℕ) → k < 3 → planeStart k q (macroblocks m) + bytes (blockOf m (blockSize q)) ≤ storesBytes (macroblocks m)
+pub plane-in : (m : Macroblock) (q : Plane) (k : ℕ) → k < 3
+    → planeStart k q (macroblocks m) + bytes (blockPositionOf m (blockSize q)) ≤ storesBytes (macroblocks m)
 plane-in m Y k h = omega (arith, store-most k (macroblocks m) h)
 plane-in m Cr k h = omega (arith, store-most k (macroblocks m) h)
 plane-in m Cb k h = omega (arith, store-most k (macroblocks m) h)
 
 -- the same plane of two stores: they are apart
-plane-small : (m : Macroblock) (q : Plane) → bytes (blockOf m (blockSize q)) ≤ 384 * macroblocks m
+plane-small : (m : Macroblock) (q : Plane) → bytes (blockPositionOf m (blockSize q)) ≤ 384 * macroblocks m
 plane-small m Y = omega arith
 plane-small m Cr = omega arith
 plane-small m Cb = omega arith
 
-pub planes-apart : (m : Macroblock) (q : Plane) (from to : ℕ) → (to ≡ from → ⊥) → let b = bytes (blockOf m (blockSize q)) in
+pub planes-apart : (m : Macroblock) (q : Plane) (from to : ℕ) → (to ≡ from → ⊥) → let b = bytes (blockPositionOf m (blockSize q)) in
     let a = planeStart from q (macroblocks m) in
     let c = planeStart to q (macroblocks m) in
     (a + b ≤ c) ⊎ (c + b ≤ a)
 planes-apart m q from to n = go (decLt from to)
   where
     b : ℕ
-    b = bytes (blockOf m (blockSize q))
+    b = bytes (blockPositionOf m (blockSize q))
 
     above : Dec (to < from) → (from < to → ⊥) → to < from
     above (yes r) h = r
@@ -135,35 +137,35 @@ planes-apart m q from to n = go (decLt from to)
 -- the same place, planes and vector
 pub alike : {p r : BlockPosition} {from from′ to to′ : ℕ} {h h′ v v′ : ℤ} (interpolate : Bool) (store : List ℕ) → p ≡ r → from ≡ from′ → to ≡ to′ → h ≡ h′ → v
     ≡ v′
-    → inPlane p from to h v interpolate store ≡ inPlane r from′ to′ h′ v′ interpolate store
+    → predictPlane p from to h v interpolate store ≡ predictPlane r from′ to′ h′ v′ interpolate store
 alike interpolate store ep ef et eh ev = rw (ep, ef, et, eh, ev)
 
-pub half-most : (z : ℤ) (n : ℕ) → natAbs z ≤ n → natAbs (half0 z) ≤ n
-unfolding half0
+pub half-most : (z : ℤ) (n : ℕ) → natAbs z ≤ n → natAbs (halfTowardZero z) ≤ n
+unfolding halfTowardZero
 half-most (pos a) n h = omega arith
 half-most (negsuc a) n h = omega (arith, neg-abs (pos (suc a / 2)))
 
-next-done : (o : PlaneAfter) (f : List ℕ → PlaneAfter) → o .answer ≡ Done → thenPlane o f ≡ f (o .store)
-unfolding thenPlane
+next-done : (o : PlaneAfter) (f : List ℕ → PlaneAfter) → o .answer ≡ Done → andThenPlane o f ≡ f (o .store)
+unfolding andThenPlane
 next-done o f e = ap (λ (a : Predicted). elim a [ Done ↦ f (o .store) | Refused ↦ o ]) e
 
-next-refused : (o : PlaneAfter) (f : List ℕ → PlaneAfter) → o .answer ≡ Refused → thenPlane o f ≡ o
-unfolding thenPlane
+next-refused : (o : PlaneAfter) (f : List ℕ → PlaneAfter) → o .answer ≡ Refused → andThenPlane o f ≡ o
+unfolding andThenPlane
 next-refused o f e = ap (λ (a : Predicted). elim a [ Done ↦ f (o .store) | Refused ↦ o ]) e
 
 module _ (m : Macroblock) (from to : ℕ) (h v : ℤ) (interpolate : Bool) (store : List ℕ) where
   abbrev first : PlaneAfter
-  first = ofStores m from to interpolate Y h v store
+  first = predictPlaneFromStore m from to interpolate Y h v store
 
   abbrev second : PlaneAfter
-  second = ofStores m from to interpolate Cr (chroma h) (chroma v) (first .store)
+  second = predictPlaneFromStore m from to interpolate Cr (chroma h) (chroma v) (first .store)
 
   -- what follows Cr, and Y
   abbrev after-cr : List ℕ → PlaneAfter
-  after-cr = ofStores m from to interpolate Cb (chroma h) (chroma v)
+  after-cr = predictPlaneFromStore m from to interpolate Cb (chroma h) (chroma v)
 
   abbrev after-y : List ℕ → PlaneAfter
-  after-y s = thenPlane (ofStores m from to interpolate Cr (chroma h) (chroma v) s) after-cr
+  after-y s = andThenPlane (predictPlaneFromStore m from to interpolate Cr (chroma h) (chroma v) s) after-cr
 
   abbrev third : PlaneAfter
   third = after-cr (second .store)
@@ -172,7 +174,7 @@ module _ (m : Macroblock) (from to : ℕ) (h v : ℤ) (interpolate : Bool) (stor
   unfolding predictedPlanes
   first-refused e = next-refused first after-y e
 
-  after-first : first .answer ≡ Done → predictedPlanes m from to h v interpolate store ≡ thenPlane second after-cr
+  after-first : first .answer ≡ Done → predictedPlanes m from to h v interpolate store ≡ andThenPlane second after-cr
   unfolding predictedPlanes
   after-first e = next-done first after-y e
 

@@ -13,11 +13,11 @@ use Rattle.laws.specs.Signed.{odd}
 use Rattle.laws.proofs.Bytes.{half-is}
 use Rattle.laws.proofs.Ints.{v as vary, lit, _⊕_, _⊖_, _⊛_, at-dif, eq-by, eq-of, le-of, no-lt}
 use Rattle.laws.proofs.Lists.{rows-in}
-use Rattle.prediction.specs.declared.position.Fetch.the-variants.{Copied}
+use Rattle.prediction.specs.declared.position.PredictionSource.the-variants.{SourceAt}
 use Rattle.prediction.specs.declared.position.BlockPosition.{BlockPosition}
-use Rattle.prediction.specs.Predict.{BlockInPlane, width, height, bytes, address, start, maxAddress, reach, fetch, predicted, chroma}
+use Rattle.prediction.specs.Predict.{BlockInPlane, width, height, bytes, address, start, maxAddress, reach, predictionSource, predicted, chroma}
 use Rattle.prediction.specs.Samples.{average2, average4, sample, storedSample}
-use Rattle.prediction.specs.Standard.{roundedDiv, whole, half, chrominance, pelPast, none, formed, pel, interpolated, InPicture}
+use Rattle.prediction.specs.Standard.{roundedDiv, wholeSamples, halfSample, chrominance, pelPast, noHalfSample, formed, pel, interpolated, InPicture}
 use Rattle.prediction.proofs.Fetches.{inside}
 use Rattle.prediction.proofs.Places.{column-in, block-in}
 
@@ -32,14 +32,14 @@ four-rounded a b c d = omega arith
 pub chrominance-is : (z : ℤ) → chroma z ≡ chrominance z
 chrominance-is z = sym (half-is z)
 
-half-part : (z : ℤ) → half z ≡ pos (natAbs z % 2)
+half-part : (z : ℤ) → halfSample z ≡ pos (natAbs z % 2)
 half-part (pos n) = eq-by (vary (pos n) ⊖ (2 ⊛ vary (shrZ (pos n) 2))) (lit (n % 2)) (omega arith)
 half-part (negsuc n) = eq-by (vary (negsuc n) ⊖ (2 ⊛ vary (shrZ (negsuc n) 2))) (lit (suc n % 2)) (omega arith)
 
 -- ! half is: not odd
-none-is : (z : ℤ) → none (half z) ≡ not (odd z)
+none-is : (z : ℤ) → noHalfSample (halfSample z) ≡ not (odd z)
 unfolding odd
-none-is z = ap none (half-part z) ∙ go (natAbs z % 2) (omega arith)
+none-is z = ap noHalfSample (half-part z) ∙ go (natAbs z % 2) (omega arith)
   where
     go : (k : ℕ) → k < 2 → eqb k 0 ≡ not (eqb k 1)
     go zero h = refl
@@ -70,9 +70,9 @@ next-is : (a b y : ℕ) (d : ℤ) → pos a +ℤ d ≡ pos b → natAbs (pos (a 
 next-is a b y d e = ap natAbs (eq-by (lit (a + y) ⊕ vary d ⊕ lit 1) (lit (b + y + 1)) (omega (arith, eq-of (lit a ⊕ vary d) (lit b) e)))
 
 -- a side of the block with its half sample ends inside
-ends-in : (a b s n : ℕ) (z : ℤ) → pos a +ℤ whole z ≡ pos b → (pos a +ℤ whole z +ℤ pos s +ℤ half z) ≤ℤ pos n → b + s + natAbs z % 2 ≤ n
+ends-in : (a b s n : ℕ) (z : ℤ) → pos a +ℤ wholeSamples z ≡ pos b → (pos a +ℤ wholeSamples z +ℤ pos s +ℤ halfSample z) ≤ℤ pos n → b + s + natAbs z % 2 ≤ n
 ends-in a b s n z e h =
-    let q : pos a +ℤ whole z +ℤ pos s +ℤ half z ≡ pos (b + s + natAbs z % 2) = ap₂ (λ (i j : ℤ). i +ℤ pos s +ℤ j) e (half-part z) in
+    let q : pos a +ℤ wholeSamples z +ℤ pos s +ℤ halfSample z ≡ pos (b + s + natAbs z % 2) = ap₂ (λ (i j : ℤ). i +ℤ pos s +ℤ j) e (half-part z) in
     omega (arith, le-of (at-dif q (lit (b + s + natAbs z % 2))) (lit n) h)
 
 fits-in : (i j m n s w h : ℕ) → i + s + m ≤ h → j + s + n ≤ w → i * w + j + (m * w + n) ≤ w * (h - s + 1) - s
@@ -92,24 +92,24 @@ cases false false e f g h = e
 module _ {p : BlockPosition} (k : BlockInPlane p) (h v : ℤ) (i : InPicture p h v) where
   -- the row and the column of the block's first sample
   pub row : ℕ
-  row = natAbs (pos (p .row * p .size) +ℤ whole v)
+  row = natAbs (pos (p .row * p .size) +ℤ wholeSamples v)
 
   pub column : ℕ
-  column = natAbs (pos (p .column * p .size) +ℤ whole h)
+  column = natAbs (pos (p .column * p .size) +ℤ wholeSamples h)
 
-  row-is : pos (p .row * p .size) +ℤ whole v ≡ pos row
+  row-is : pos (p .row * p .size) +ℤ wholeSamples v ≡ pos row
   unfolding row
-  row-is = natural-is (pos (p .row * p .size) +ℤ whole v) (i .top)
+  row-is = natural-is (pos (p .row * p .size) +ℤ wholeSamples v) (i .top)
 
-  column-is : pos (p .column * p .size) +ℤ whole h ≡ pos column
+  column-is : pos (p .column * p .size) +ℤ wholeSamples h ≡ pos column
   unfolding column
-  column-is = natural-is (pos (p .column * p .size) +ℤ whole h) (i .left)
+  column-is = natural-is (pos (p .column * p .size) +ℤ wholeSamples h) (i .left)
 
   start-is : start p h v ≡ pos (row * width p + column)
   start-is =
-      ap (λ (z : ℤ). z *ℤ pos (width p) +ℤ pos (p .column * p .size) +ℤ whole h) row-is
-      ∙ eq-by (lit (row * width p) ⊕ lit (p .column * p .size) ⊕ vary (whole h)) (lit (row * width p + column))
-      (omega (arith, eq-of (lit (p .column * p .size) ⊕ vary (whole h)) (lit column) column-is))
+      ap (λ (z : ℤ). z *ℤ pos (width p) +ℤ pos (p .column * p .size) +ℤ wholeSamples h) row-is
+      ∙ eq-by (lit (row * width p) ⊕ lit (p .column * p .size) ⊕ vary (wholeSamples h)) (lit (row * width p + column))
+      (omega (arith, eq-of (lit (p .column * p .size) ⊕ vary (wholeSamples h)) (lit column) column-is))
 
   reaches : row * width p + column + reach p h v ≤ maxAddress p
   reaches =
@@ -123,11 +123,11 @@ module _ {p : BlockPosition} (k : BlockInPlane p) (h v : ℤ) (i : InPicture p h
       )
 
   -- the block is copied, from where the standard says
-  pub is-copied : fetch p h v ≡ Copied (row * width p + column)
+  pub is-copied : predictionSource p h v ≡ SourceAt (row * width p + column)
   is-copied =
       sym (inside p h v (ap (λ (z : ℤ). ltZ z (pos 0)) start-is ∙ no-lt (lit (row * width p + column)) (lit 0) (omega arith))
       (omega (arith, ap natAbs start-is, reaches)) (omega (arith, ap natAbs start-is, reaches)))
-      ∙ ap (λ (z : ℤ). Copied (natAbs z)) start-is
+      ∙ ap (λ (z : ℤ). SourceAt (natAbs z)) start-is
 
   module _ (s : List ℕ) (y x : ℕ) where
     -- a sample of the past picture
@@ -139,12 +139,12 @@ module _ {p : BlockPosition} (k : BlockInPlane p) (h v : ℤ) (i : InPicture p h
         ≡ pel s (width p) h v (p .row * p .size + y) (p .column * p .size + x)
     unfolding sample formed
     sample-is =
-        let c : ℤ = pos (p .row * p .size + y) +ℤ whole v in
-        let d : ℤ = pos (p .column * p .size + x) +ℤ whole h in
-        let r = further (p .row * p .size) row y (whole v) row-is in
-        let r1 = next-is (p .row * p .size) row y (whole v) row-is in
-        let q = further (p .column * p .size) column x (whole h) column-is in
-        let q1 = next-is (p .column * p .size) column x (whole h) column-is in
+        let c : ℤ = pos (p .row * p .size + y) +ℤ wholeSamples v in
+        let d : ℤ = pos (p .column * p .size + x) +ℤ wholeSamples h in
+        let r = further (p .row * p .size) row y (wholeSamples v) row-is in
+        let r1 = next-is (p .row * p .size) row y (wholeSamples v) row-is in
+        let q = further (p .column * p .size) column x (wholeSamples h) column-is in
+        let q1 = next-is (p .column * p .size) column x (wholeSamples h) column-is in
         cases (odd h) (odd v) (past c d r q (omega arith)) (past c (d +ℤ pos 1) r q1 (omega arith)) (past (c +ℤ pos 1) d r1 q (omega arith))
         (past (c +ℤ pos 1) (d +ℤ pos 1) r1 q1 (omega arith))
         ∙ sym (ap₂ (λ (t u : Bool). shape t u c d) (none-is h) (none-is v))

@@ -1,4 +1,4 @@
-pub mod Apart
+pub mod DisjointBlocks
 pub mod Blocks
 pub mod Planes
 pub mod Predict

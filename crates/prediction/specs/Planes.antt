@@ -5,13 +5,13 @@ use Prim.Native.Nat.{ℕ, _+_, _*_}
 use borrow.Rule.Slice.PartMut.{midOf, putMid}
 use lib.Dec.{eqb, ltb}
 use lib.IntN.{ℤ}
-use Rattle.prediction.specs.declared.position.{Fetch.Fetch, Macroblock.Macroblock, BlockPosition.BlockPosition}
-use Rattle.prediction.specs.declared.position.Fetch.the-variants.{Alone, Past, Copied}
+use Rattle.prediction.specs.declared.position.{PredictionSource.PredictionSource, Macroblock.Macroblock, BlockPosition.BlockPosition}
+use Rattle.prediction.specs.declared.position.PredictionSource.the-variants.{SourceOutside, HalfSampleOutside, SourceAt}
 use Rattle.prediction.specs.declared.planes.Plane.{Plane}
 use Rattle.prediction.specs.declared.planes.Plane.the-variants.{Y, Cr, Cb}
 use Rattle.prediction.specs.declared.predict.Predicted.{Predicted}
 use Rattle.prediction.specs.declared.predict.Predicted.the-variants.{Done, Refused}
-use Rattle.prediction.specs.Predict.{blockOf, bytes, fetch, predicted, chroma}
+use Rattle.prediction.specs.Predict.{blockPositionOf, bytes, predictionSource, predicted, chroma}
 
 -- macroblocks of the picture
 abbrev pub macroblocks : Macroblock → ℕ
@@ -49,7 +49,7 @@ abbrev pub planeStart : ℕ → Plane → ℕ → ℕ
 planeStart k p n = k * storeLength n + offset p n
 
 -- the lent memory after the prediction of a block, and its answer
-pub record After : Type 0 where
+pub record PredictionOutcome : Type 0 where
   pub store : List ℕ
   pub answer : Predicted
 
@@ -61,35 +61,36 @@ pub record PlaneAfter : Type 0 where
   pub store : List ℕ
   pub answer : Predicted
 
-abbrev pub ofPlane : Plane → ℤ → ℤ → After → PlaneAfter
+abbrev pub ofPlane : Plane → ℤ → ℤ → PredictionOutcome → PlaneAfter
 ofPlane q h v o = record { plane = q; h = h; v = v; store = o .store; answer = o .answer }
 
 -- what is done with the block at p of the plane that begins at `to`, from the plane at `from`
-unfoldable pub follow : Fetch → BlockPosition → ℕ → ℕ → ℤ → ℤ → Bool → List ℕ → After
-follow Alone p from to h v interpolate store = record { store = store; answer = Done }
-follow Past p from to h v interpolate store = record { store = store; answer = Refused }
-follow (Copied a) p from to h v interpolate store =
+unfoldable pub predictFromSource : PredictionSource → BlockPosition → ℕ → ℕ → ℤ → ℤ → Bool → List ℕ → PredictionOutcome
+predictFromSource SourceOutside p from to h v interpolate store = record { store = store; answer = Done }
+predictFromSource HalfSampleOutside p from to h v interpolate store = record { store = store; answer = Refused }
+predictFromSource (SourceAt a) p from to h v interpolate store =
     record {
       store = putMid to (bytes p) store (predicted p (midOf from (bytes p) store) (midOf to (bytes p) store) h v interpolate a);
       answer = Done;
     }
 
 -- RULES 6.4 to 6.9 for one plane
-abbrev pub inPlane : BlockPosition → ℕ → ℕ → ℤ → ℤ → Bool → List ℕ → After
-inPlane p from to h v = follow (fetch p h v) p from to h v
+abbrev pub predictPlane : BlockPosition → ℕ → ℕ → ℤ → ℤ → Bool → List ℕ → PredictionOutcome
+predictPlane p from to h v = predictFromSource (predictionSource p h v) p from to h v
 
 -- a refusal ends the prediction
-unfoldable pub thenPlane : PlaneAfter → (List ℕ → PlaneAfter) → PlaneAfter
-thenPlane o f = elim (o .answer) [ Done ↦ f (o .store) | Refused ↦ o ]
+unfoldable pub andThenPlane : PlaneAfter → (List ℕ → PlaneAfter) → PlaneAfter
+andThenPlane o f = elim (o .answer) [ Done ↦ f (o .store) | Refused ↦ o ]
 
 -- the plane q of the store number `to` from that of the store number `from`
-abbrev pub ofStores : Macroblock → ℕ → ℕ → Bool → Plane → ℤ → ℤ → List ℕ → PlaneAfter
-ofStores m from to interpolate q h v store =
+abbrev pub predictPlaneFromStore : Macroblock → ℕ → ℕ → Bool → Plane → ℤ → ℤ → List ℕ → PlaneAfter
+predictPlaneFromStore m from to interpolate q h v store =
     ofPlane q h v
-    (inPlane (blockOf m (blockSize q)) (planeStart from q (macroblocks m)) (planeStart to q (macroblocks m)) h v interpolate store)
+    (predictPlane (blockPositionOf m (blockSize q)) (planeStart from q (macroblocks m)) (planeStart to q (macroblocks m)) h v interpolate store)
 
 -- RULES 6.2, 6.10: Y, then Cr and Cb with the vector halved; h and v are in half samples
 unfoldable pub predictedPlanes : Macroblock → ℕ → ℕ → ℤ → ℤ → Bool → List ℕ → PlaneAfter
 predictedPlanes m from to h v interpolate store =
-    thenPlane (ofStores m from to interpolate Y h v store) (λ s.
-    thenPlane (ofStores m from to interpolate Cr (chroma h) (chroma v) s) (ofStores m from to interpolate Cb (chroma h) (chroma v)))
+    andThenPlane (predictPlaneFromStore m from to interpolate Y h v store) (λ s.
+    andThenPlane (predictPlaneFromStore m from to interpolate Cr (chroma h) (chroma v) s)
+    (predictPlaneFromStore m from to interpolate Cb (chroma h) (chroma v)))

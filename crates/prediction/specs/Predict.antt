@@ -8,10 +8,10 @@ use lib.Dec.{ltb}
 use lib.IntN.{ℤ, pos, natAbs, _+ℤ_, _*ℤ_}
 use lib.ListN.{getD}
 use lib.Signed.{ltZ, shrZ}
-use Rattle.laws.specs.Signed.{odd, half0}
+use Rattle.laws.specs.Signed.{odd, halfTowardZero}
 use Rattle.laws.specs.Stores.{storeRows}
-use Rattle.prediction.specs.declared.position.{Fetch.Fetch, Macroblock.Macroblock, BlockPosition.BlockPosition}
-use Rattle.prediction.specs.declared.position.Fetch.the-variants.{Alone, Past, Copied}
+use Rattle.prediction.specs.declared.position.{PredictionSource.PredictionSource, Macroblock.Macroblock, BlockPosition.BlockPosition}
+use Rattle.prediction.specs.declared.position.PredictionSource.the-variants.{SourceOutside, HalfSampleOutside, SourceAt}
 use Rattle.prediction.specs.Samples.{sample, storedSample}
 
 -- RULES S.7, 7.5: the macroblock with this address in a picture of so many across and down; addresses go by rows
@@ -19,15 +19,15 @@ abbrev pub macroblockAt : ℕ → ℕ → ℕ → Macroblock
 macroblockAt across down address = record { across = across; down = down; row = address / across; column = address % across }
 
 -- the block of a macroblock in a plane of this block size
-abbrev pub blockOf : Macroblock → ℕ → BlockPosition
-blockOf m size = record { size = size; across = m .across; down = m .down; row = m .row; column = m .column }
+abbrev pub blockPositionOf : Macroblock → ℕ → BlockPosition
+blockPositionOf m size = record { size = size; across = m .across; down = m .down; row = m .row; column = m .column }
 
 -- and the macroblock of a block
 abbrev pub macroblockOf : BlockPosition → Macroblock
 macroblockOf p = record { across = p .across; down = p .down; row = p .row; column = p .column }
 
 -- what the picture layer's macroblocks keep to: at most 256 of them each way
-pub record Inside (m : Macroblock) : Type 0 where
+pub record MacroblockInPicture (m : Macroblock) : Type 0 where
   pub across : m .across ≤ 256
   pub down : m .down ≤ 256
   pub row : m .row < m .down
@@ -36,7 +36,7 @@ pub record Inside (m : Macroblock) : Type 0 where
 -- and the places of their blocks, of 8 or 16 samples
 pub record BlockInPlane (p : BlockPosition) : Type 0 where
   pub size : (p .size ≡ 8) ⊎ (p .size ≡ 16)
-  pub inside : Inside (macroblockOf p)
+  pub inside : MacroblockInPicture (macroblockOf p)
 
 -- the plane's width and height in samples
 abbrev pub width : BlockPosition → ℕ
@@ -66,10 +66,10 @@ abbrev pub reach : BlockPosition → ℤ → ℤ → ℕ
 reach p h v = cond (odd v) (width p) 0 + cond (odd h) 1 0
 
 -- RULES 6.6, 6.9: a block outside is left alone, one that reaches past the last is refused
-unfoldable pub fetch : BlockPosition → ℤ → ℤ → Fetch
-fetch p h v =
-    cond (ltZ (start p h v) (pos 0) || ltZ (pos (maxAddress p)) (start p h v)) Alone
-    (cond (ltb (maxAddress p) (natAbs (start p h v) + reach p h v)) Past (Copied (natAbs (start p h v))))
+unfoldable pub predictionSource : BlockPosition → ℤ → ℤ → PredictionSource
+predictionSource p h v =
+    cond (ltZ (start p h v) (pos 0) || ltZ (pos (maxAddress p)) (start p h v)) SourceOutside
+    (cond (ltb (maxAddress p) (natAbs (start p h v) + reach p h v)) HalfSampleOutside (SourceAt (natAbs (start p h v))))
 
 -- RULES 6.7, 6.8: the plane d with the block written from the plane s, whose block begins at `from`
 unfoldable pub predicted : BlockPosition → List ℕ → List ℕ → ℤ → ℤ → Bool → ℕ → List ℕ
@@ -83,4 +83,4 @@ inHalves full z = cond full (z *ℤ pos 2) z
 
 -- RULES 6.2: for Cr and Cb it is then halved toward zero
 abbrev pub chroma : ℤ → ℤ
-chroma = half0
+chroma = halfTowardZero

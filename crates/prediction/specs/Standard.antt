@@ -14,12 +14,12 @@ abbrev pub roundedDiv : ℕ → ℕ → ℕ
 roundedDiv n d = (2 * n + d) / (2 * d)
 
 -- right_for = recon_right_for >> 1, and the same down
-abbrev pub whole : ℤ → ℤ
-whole recon = shrZ recon 2
+abbrev pub wholeSamples : ℤ → ℤ
+wholeSamples recon = shrZ recon 2
 
 -- right_half_for = recon_right_for - 2 * right_for, and the same down
-abbrev pub half : ℤ → ℤ
-half recon = recon -ℤ pos 2 *ℤ whole recon
+abbrev pub halfSample : ℤ → ℤ
+halfSample recon = recon -ℤ pos 2 *ℤ wholeSamples recon
 
 -- for chrominance recon_right_for / 2 takes the place of recon_right_for; / truncates toward zero
 abbrev pub chrominance : ℤ → ℤ
@@ -30,20 +30,20 @@ abbrev pub pelPast : List ℕ → ℕ → ℤ → ℤ → ℕ
 pelPast s wide i j = getD s (natAbs i * wide + natAbs j) 0
 
 -- ! half
-abbrev pub none : ℤ → Bool
-none z = eqb (natAbs z) 0
+abbrev pub noHalfSample : ℤ → Bool
+noHalfSample z = eqb (natAbs z) 0
 
 -- pel[i][j] by the four cases, at i = i + down_for and j = j + right_for
 unfoldable pub formed : List ℕ → ℕ → ℤ → ℤ → ℤ → ℤ → ℕ
 formed s wide rightHalf downHalf i j =
-    cond (none rightHalf)
-    (cond (none downHalf) (pelPast s wide i j) (roundedDiv (pelPast s wide i j + pelPast s wide (i +ℤ pos 1) j) 2))
-    (cond (none downHalf) (roundedDiv (pelPast s wide i j + pelPast s wide i (j +ℤ pos 1)) 2)
+    cond (noHalfSample rightHalf)
+    (cond (noHalfSample downHalf) (pelPast s wide i j) (roundedDiv (pelPast s wide i j + pelPast s wide (i +ℤ pos 1) j) 2))
+    (cond (noHalfSample downHalf) (roundedDiv (pelPast s wide i j + pelPast s wide i (j +ℤ pos 1)) 2)
     (roundedDiv (pelPast s wide i j + pelPast s wide (i +ℤ pos 1) j + pelPast s wide i (j +ℤ pos 1) + pelPast s wide (i +ℤ pos 1) (j +ℤ pos 1)) 4))
 
 -- the same from the vector in half samples
 abbrev pub pel : List ℕ → ℕ → ℤ → ℤ → ℕ → ℕ → ℕ
-pel s wide right down i j = formed s wide (half right) (half down) (pos i +ℤ whole down) (pos j +ℤ whole right)
+pel s wide right down i j = formed s wide (halfSample right) (halfSample down) (pos i +ℤ wholeSamples down) (pos j +ℤ wholeSamples right)
 
 -- 2.4.4.3: the average of a forward and a backward prediction
 abbrev pub interpolated : ℕ → ℕ → ℕ
@@ -51,7 +51,7 @@ interpolated forward backward = roundedDiv (forward + backward) 2
 
 -- 2.4.4.2 allows no reference outside the picture: all samples that the block at p refers to are inside
 pub record InPicture (p : BlockPosition) (h v : ℤ) : Type 0 where
-  pub top : pos 0 ≤ℤ (pos (p .row * p .size) +ℤ whole v)
-  pub bottom : (pos (p .row * p .size) +ℤ whole v +ℤ pos (p .size) +ℤ half v) ≤ℤ pos (height p)
-  pub left : pos 0 ≤ℤ (pos (p .column * p .size) +ℤ whole h)
-  pub right : (pos (p .column * p .size) +ℤ whole h +ℤ pos (p .size) +ℤ half h) ≤ℤ pos (width p)
+  pub top : pos 0 ≤ℤ (pos (p .row * p .size) +ℤ wholeSamples v)
+  pub bottom : (pos (p .row * p .size) +ℤ wholeSamples v +ℤ pos (p .size) +ℤ halfSample v) ≤ℤ pos (height p)
+  pub left : pos 0 ≤ℤ (pos (p .column * p .size) +ℤ wholeSamples h)
+  pub right : (pos (p .column * p .size) +ℤ wholeSamples h +ℤ pos (p .size) +ℤ halfSample h) ≤ℤ pos (width p)

@@ -12,7 +12,7 @@ ghost use Prim.Native.Nat.{_+_, _*_, _≤_, _<_};
 ghost use lib.Dec.{eqb};
 ghost use lib.ListN.{length, getD};
 ghost use Rattle.laws.specs.Stores.{storeRow};
-ghost use Rattle.prediction.specs.Apart.{Disjoint, paired, chosen, sampled, storedSampleAt, storedRows};
+ghost use Rattle.prediction.specs.DisjointBlocks.{Disjoint, averagedPair, averagedFourOrTwo, sampled, storedSampleAt, storedRows};
 
 // So many bytes of a row that was made.
 fn put_row(d: &mut [u8], at: usize, row: &[u8; 16], size: usize)
@@ -30,7 +30,7 @@ fn put_row(d: &mut [u8], at: usize, row: &[u8; 16], size: usize)
 // The sample at i averaged with the one that stands `other` further, in place of the one at o or averaged with it.
 fn pair_at(store: &[u8], i: usize, o: usize, other: usize, interpolate: bool) -> u8
     requires { ⌜ (i + other < length (now store)) × (o < length (now store)) ⌝ }
-    ensures { λ r. ⌜ r ≡ storedSampleAt interpolate (paired other) (now (store .entry)) i o ⌝ }
+    ensures { λ r. ⌜ r ≡ storedSampleAt interpolate (averagedPair other) (now (store .entry)) i o ⌝ }
 {
     stored_sample(interpolate, store[o], average2(store[i], store[i + other]))
 }
@@ -54,7 +54,7 @@ fn four_at(store: &[u8], i: usize, o: usize, dw: usize, right: usize, interpolat
 }
 
 // The average of four or of two.
-fn laid_at(
+fn stored_sample_at(
     store: &[u8],
     i: usize,
     o: usize,
@@ -66,7 +66,7 @@ fn laid_at(
 ) -> u8
     requires { ⌜ (i + other < length (now store)) × (o < length (now store)) ⌝ }
     requires { ⌜ (four ≡ true → (other ≡ dw + 1) × (right ≡ 1)) ⌝ }
-    ensures { λ r. ⌜ r ≡ storedSampleAt interpolate (chosen dw other four) (now (store .entry)) i o ⌝ }
+    ensures { λ r. ⌜ r ≡ storedSampleAt interpolate (averagedFourOrTwo dw other four) (now (store .entry)) i o ⌝ }
 {
     if four {
         return four_at(store, i, o, dw, right, interpolate);
@@ -75,7 +75,7 @@ fn laid_at(
 }
 
 // The block of size by size samples that begins at `from`, laid at `to`. right and below are 1 for a half sample across and down, else 0.
-pub fn predict_apart(
+pub fn predict_disjoint(
     store: &mut [u8],
     from: usize,
     to: usize,
@@ -100,14 +100,14 @@ pub fn predict_apart(
         let mut x: usize = 0;
         if size == 16 {
             while x < 16 {
-                row[x] = laid_at(store, i + x, o + x, dw, other, right, four, interpolate);
+                row[x] = stored_sample_at(store, i + x, o + x, dw, other, right, four, interpolate);
                 x += 1;
             }
             put_row(store, o, &row, 16);
             y += 1;
         } else {
             while x < 8 {
-                row[x] = laid_at(store, i + x, o + x, dw, other, right, four, interpolate);
+                row[x] = stored_sample_at(store, i + x, o + x, dw, other, right, four, interpolate);
                 x += 1;
             }
             put_row(store, o, &row, 8);

@@ -4,7 +4,8 @@ ghost use Prim.Native.Nat.{_+_, _*_, _≤_, _<_};
 ghost use lib.Dec.{eqb};
 ghost use lib.IntN.{natAbs};
 ghost use Rattle.laws.specs.Signed.{odd};
-ghost use Rattle.prediction.specs.Predict.{Inside, BlockInPlane, macroblockAt, blockOf, width, address, start, maxAddress, reach, fetch};
+ghost use Rattle.prediction.specs.Predict.{MacroblockInPicture, BlockInPlane, macroblockAt, blockPositionOf, width, address, start, maxAddress, reach};
+ghost use Rattle.prediction.specs.Predict.{predictionSource};
 
 // A block of a plane: the block's size in samples, how many blocks the plane has across and down, and the block's row and column among them.
 pub struct BlockPosition {
@@ -25,10 +26,10 @@ pub struct Macroblock {
 
 // What a prediction does with its block: leaves it alone, is refused since its half samples reach past max_address, or
 // copies the samples from an address on.
-pub enum Fetch {
-    Alone,
-    Past,
-    Copied(usize),
+pub enum PredictionSource {
+    SourceOutside,
+    HalfSampleOutside,
+    SourceAt(usize),
 }
 
 // An odd component asks for a half sample (RULES 6.3): 1 for one, else 0.
@@ -44,7 +45,7 @@ pub fn macroblock_at(across: usize, down: usize, address: usize) -> Macroblock
     requires { ⌜ down ≤ 256 ⌝ }
     requires { ⌜ address < across * down ⌝ }
     ensures is { λ r. ⌜ r ≡ macroblockAt across down address ⌝ }
-    ensures inside { λ r. ⌜ Inside r ⌝ }
+    ensures inside { λ r. ⌜ MacroblockInPicture r ⌝ }
 {
     Macroblock {
         across,
@@ -57,7 +58,7 @@ pub fn macroblock_at(across: usize, down: usize, address: usize) -> Macroblock
 impl Macroblock {
     // The macroblock's block in a plane of this block size.
     pub fn block(self, size: usize) -> BlockPosition
-        ensures { λ r. ⌜ r ≡ blockOf self size ⌝ }
+        ensures { λ r. ⌜ r ≡ blockPositionOf self size ⌝ }
     {
         BlockPosition {
             size,
@@ -115,23 +116,23 @@ impl BlockPosition {
     }
 
     // RULES 6.6, 6.9.
-    pub fn fetch_of(self, h: i32, v: i32) -> Fetch
+    pub fn prediction_source(self, h: i32, v: i32) -> PredictionSource
         requires { ⌜ BlockInPlane self ⌝ }
         requires { ⌜ (natAbs h ≤ 2048) × (natAbs v ≤ 2048) ⌝ }
-        ensures { λ r. ⌜ r ≡ fetch self h v ⌝ }
+        ensures { λ r. ⌜ r ≡ predictionSource self h v ⌝ }
     {
         let start = self.start(h, v);
         if start < 0 {
-            return Fetch::Alone;
+            return PredictionSource::SourceOutside;
         }
         let at = start as usize;
         let max = self.max_address();
         if max < at {
-            return Fetch::Alone;
+            return PredictionSource::SourceOutside;
         }
         if max < at + self.reach(h, v) {
-            return Fetch::Past;
+            return PredictionSource::HalfSampleOutside;
         }
-        Fetch::Copied(at)
+        PredictionSource::SourceAt(at)
     }
 }

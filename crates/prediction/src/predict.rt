@@ -1,11 +1,11 @@
 // Blocks of one plane predicted from another, and a macroblock's three planes from another store.
-use crate::apart::predict_apart;
+use crate::apart::predict_disjoint;
 use crate::planes::Plane;
 use crate::planes::block_size;
 use crate::planes::plane_start;
 use crate::position::BlockPosition;
-use crate::position::Fetch;
 use crate::position::Macroblock;
+use crate::position::PredictionSource;
 use crate::position::half_sample;
 use laws::half;
 ghost use mathlib.Core.Path.{_≡_};
@@ -14,8 +14,8 @@ ghost use Prim.Native.Nat.{_+_, _*_, _≤_, _<_};
 ghost use borrow.Rule.Slice.PartMut.{midOf, putMid};
 ghost use lib.IntN.{natAbs};
 ghost use lib.ListN.{length};
-ghost use Rattle.prediction.specs.Planes.{macroblocks, inPlane, ofStores, predictedPlanes, storesBytes};
-ghost use Rattle.prediction.specs.Predict.{Inside, BlockInPlane, bytes, maxAddress, reach, predicted};
+ghost use Rattle.prediction.specs.Planes.{macroblocks, predictPlane, predictPlaneFromStore, predictedPlanes, storesBytes};
+ghost use Rattle.prediction.specs.Predict.{MacroblockInPicture, BlockInPlane, bytes, maxAddress, reach, predicted};
 
 // RULES Q9: refused is number 9.
 pub enum Predicted {
@@ -46,7 +46,7 @@ fn copy_block(
     let di = p.address();
     let right = half_sample(h);
     let below = half_sample(v);
-    predict_apart(
+    predict_disjoint(
         store,
         from + at,
         to + di,
@@ -71,13 +71,13 @@ pub fn predict_plane(
     requires { ⌜ BlockInPlane p ⌝ }
     requires { ⌜ (natAbs h ≤ 2048) × (natAbs v ≤ 2048) ⌝ }
     requires { ⌜ (from + bytes p ≤ length (now store)) × (to + bytes p ≤ length (now store)) × ((from + bytes p ≤ to) ⊎ (to + bytes p ≤ from)) ⌝ }
-    ensures answer { λ r. ⌜ r ≡ inPlane p from to h v interpolate (now (store .entry)) .answer ⌝ }
-    ensures store { λ _. ⌜ now (store .exit) ≡ inPlane p from to h v interpolate (now (store .entry)) .store ⌝ }
+    ensures answer { λ r. ⌜ r ≡ predictPlane p from to h v interpolate (now (store .entry)) .answer ⌝ }
+    ensures store { λ _. ⌜ now (store .exit) ≡ predictPlane p from to h v interpolate (now (store .entry)) .store ⌝ }
 {
-    match p.fetch_of(h, v) {
-        Fetch::Alone => Predicted::Done,
-        Fetch::Past => Predicted::Refused,
-        Fetch::Copied(at) => {
+    match p.prediction_source(h, v) {
+        PredictionSource::SourceOutside => Predicted::Done,
+        PredictionSource::HalfSampleOutside => Predicted::Refused,
+        PredictionSource::SourceAt(at) => {
             copy_block(store, from, to, p, h, v, interpolate, at);
             Predicted::Done
         }
@@ -85,7 +85,7 @@ pub fn predict_plane(
 }
 
 // One plane of the store number `to` from that of the store number `from`.
-fn predict_of_stores(
+fn predict_one_plane(
     store: &mut [u8],
     m: Macroblock,
     from: usize,
@@ -95,12 +95,12 @@ fn predict_of_stores(
     v: i32,
     interpolate: bool,
 ) -> Predicted
-    requires { ⌜ Inside m ⌝ }
+    requires { ⌜ MacroblockInPicture m ⌝ }
     requires { ⌜ (from < 3) × (to < 3) × (to ≡ from → ⊥) ⌝ }
     requires { ⌜ (natAbs h ≤ 2048) × (natAbs v ≤ 2048) ⌝ }
     requires { ⌜ storesBytes (macroblocks m) ≤ length (now store) ⌝ }
-    ensures answer { λ r. ⌜ r ≡ ofStores m from to interpolate q h v (now (store .entry)) .answer ⌝ }
-    ensures store { λ _. ⌜ now (store .exit) ≡ ofStores m from to interpolate q h v (now (store .entry)) .store ⌝ }
+    ensures answer { λ r. ⌜ r ≡ predictPlaneFromStore m from to interpolate q h v (now (store .entry)) .answer ⌝ }
+    ensures store { λ _. ⌜ now (store .exit) ≡ predictPlaneFromStore m from to interpolate q h v (now (store .entry)) .store ⌝ }
 {
     let n = m.across * m.down;
     let source = plane_start(from, q, n);
@@ -120,21 +120,21 @@ pub fn predict_macroblock_planes(
     v: i32,
     interpolate: bool,
 ) -> Predicted
-    requires { ⌜ Inside m ⌝ }
+    requires { ⌜ MacroblockInPicture m ⌝ }
     requires { ⌜ (from < 3) × (to < 3) × (to ≡ from → ⊥) ⌝ }
     requires { ⌜ (natAbs h ≤ 2048) × (natAbs v ≤ 2048) ⌝ }
     requires { ⌜ storesBytes (macroblocks m) ≤ length (now store) ⌝ }
     ensures answer { λ r. ⌜ r ≡ predictedPlanes m from to h v interpolate (now (store .entry)) .answer ⌝ }
     ensures store { λ _. ⌜ now (store .exit) ≡ predictedPlanes m from to h v interpolate (now (store .entry)) .store ⌝ }
 {
-    let Predicted::Done = predict_of_stores(store, m, from, to, Plane::Y, h, v, interpolate) else {
+    let Predicted::Done = predict_one_plane(store, m, from, to, Plane::Y, h, v, interpolate) else {
         return Predicted::Refused;
     };
     let ch = half(h);
     let cv = half(v);
-    let Predicted::Done = predict_of_stores(store, m, from, to, Plane::Cr, ch, cv, interpolate)
+    let Predicted::Done = predict_one_plane(store, m, from, to, Plane::Cr, ch, cv, interpolate)
     else {
         return Predicted::Refused;
     };
-    predict_of_stores(store, m, from, to, Plane::Cb, ch, cv, interpolate)
+    predict_one_plane(store, m, from, to, Plane::Cb, ch, cv, interpolate)
 }

@@ -11,8 +11,8 @@ ghost use lib.ListN.{length, getD};
 ghost use Rattle.laws.specs.Signed.{clamp255};
 ghost use Rattle.laws.specs.Stores.{storeRow};
 ghost use Rattle.prediction.specs.Planes.{macroblocks, planeOf, planeLength};
-ghost use Rattle.prediction.specs.Predict.{Inside};
-ghost use Rattle.laws.specs.Sizes.{Narrow};
+ghost use Rattle.prediction.specs.Predict.{MacroblockInPicture};
+ghost use Rattle.laws.specs.Sizes.{ResultsInBounds};
 ghost use Rattle.prediction.specs.Writers.{lumaAddress, chromaAddress, blockWidth, blockAddress, setConst, overwrite, addConst, addBlock};
 
 // The result k of a row of them as a byte.
@@ -43,7 +43,7 @@ fn added_const(d: &[u8], at: usize, value: i32, k: usize) -> u8
 // The byte k of a row and the result k of a row of them.
 fn added_at(d: &[u8], at: usize, s: &[i32; 64], from: usize, k: usize) -> u8
     requires { ⌜ (at + 8 ≤ length (now d)) × (from + 8 ≤ 64) × (k < 8) ⌝ }
-    requires { ⌜ Narrow (now s) ⌝ }
+    requires { ⌜ ResultsInBounds (now s) ⌝ }
     ensures { λ r. ⌜ r ≡ clamp255 (pos (getD (now (d .entry)) (at + k) 0) +ℤ getD (now (s .entry)) (from + k) (pos 0)) ⌝ }
 {
     added(d[at + k], s[from + k])
@@ -89,7 +89,7 @@ fn add_const_row(d: &mut [u8], at: usize, value: i32)
 fn add_row(d: &mut [u8], at: usize, s: &[i32; 64], from: usize)
     requires { ⌜ at + 8 ≤ length (now d) ⌝ }
     requires { ⌜ from + 8 ≤ 64 ⌝ }
-    requires { ⌜ Narrow (now s) ⌝ }
+    requires { ⌜ ResultsInBounds (now s) ⌝ }
     ensures { λ _. ⌜ now (d .exit) ≡ storeRow (now (d .entry)) at
         (λ x. clamp255 (pos (getD (now (d .entry)) (at + x) 0) +ℤ getD (now (s .entry)) (from + x) (pos 0))) 8 ⌝ }
 {
@@ -152,7 +152,7 @@ pub fn block_set_add_const(d: &mut [u8], di: usize, dw: usize, value: i32)
 pub fn block_set_add(d: &mut [u8], di: usize, dw: usize, s: &[i32; 64])
     requires { ⌜ 8 ≤ dw ⌝ }
     requires { ⌜ di + 7 * dw + 8 ≤ length (now d) ⌝ }
-    requires { ⌜ Narrow (now s) ⌝ }
+    requires { ⌜ ResultsInBounds (now s) ⌝ }
     ensures { λ _. ⌜ now (d .exit) ≡ addBlock (now (d .entry)) di dw (now (s .entry)) ⌝ }
 {
     let mut y: usize = 0;
@@ -164,7 +164,7 @@ pub fn block_set_add(d: &mut [u8], di: usize, dw: usize, s: &[i32; 64])
 
 // The place of block 0, 1, 2 or 3 in the plane Y.
 fn luma_address(m: Macroblock, block: usize) -> usize
-    requires { ⌜ Inside m ⌝ }
+    requires { ⌜ MacroblockInPicture m ⌝ }
     requires { ⌜ block < 4 ⌝ }
     ensures is { λ r. ⌜ r ≡ lumaAddress (m .across * 16) (m .row) (m .column) block ⌝ }
     ensures inside { λ r. ⌜ r + 7 * (m .across * 16) + 8 ≤ 256 * macroblocks m ⌝ }
@@ -175,7 +175,7 @@ fn luma_address(m: Macroblock, block: usize) -> usize
 
 // The place of block 4 in the plane Cb and of block 5 in the plane Cr.
 pub fn chroma_address(m: Macroblock) -> usize
-    requires { ⌜ Inside m ⌝ }
+    requires { ⌜ MacroblockInPicture m ⌝ }
     ensures is { λ r. ⌜ r ≡ chromaAddress (m .across * 8) (m .row) (m .column) ⌝ }
     ensures inside { λ r. ⌜ r + 7 * (m .across * 8) + 8 ≤ 64 * macroblocks m ⌝ }
 {
@@ -185,7 +185,7 @@ pub fn chroma_address(m: Macroblock) -> usize
 
 // The width of the plane of block 0 to 5.
 pub fn block_width(m: Macroblock, number: usize) -> usize
-    requires { ⌜ Inside m ⌝ }
+    requires { ⌜ MacroblockInPicture m ⌝ }
     ensures is { λ r. ⌜ r ≡ blockWidth m number ⌝ }
     ensures wide { λ r. ⌜ 8 ≤ r ⌝ }
 {
@@ -194,7 +194,7 @@ pub fn block_width(m: Macroblock, number: usize) -> usize
 
 // The place of block 0 to 5 in its plane.
 pub fn block_address(m: Macroblock, number: usize) -> usize
-    requires { ⌜ Inside m ⌝ }
+    requires { ⌜ MacroblockInPicture m ⌝ }
     ensures is { λ r. ⌜ r ≡ blockAddress m number ⌝ }
     ensures inside { λ r. ⌜ r + 7 * blockWidth m number + 8 ≤ planeLength (planeOf number) (macroblocks m) ⌝ }
 {

@@ -1,6 +1,6 @@
 pub mod AllAgree
 pub mod Defaults
-pub mod Inside
+pub mod CursorInList
 pub mod Replays
 pub mod Scores
 pub mod Steps

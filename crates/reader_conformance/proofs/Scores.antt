@@ -9,21 +9,22 @@ use lib.ListN.{length}
 use Rattle.answer_lists.specs.declared.tally.Tally.{Tally}
 use Rattle.answer_lists.specs.Numbers.{numberAt}
 use Rattle.answer_lists.specs.Tallies.{none, counted}
-use Rattle.reader_conformance.specs.declared.reader_list.{Along.Along, CaseResult.CaseResult}
-use Rattle.reader_conformance.specs.ReaderList.{Inside, stepped, beginning, scoreFrom, scored}
-use Rattle.reader_conformance.proofs.Inside.{beginning-inside}
+use Rattle.reader_conformance.specs.declared.reader_list.{CaseCursor.CaseCursor, CaseResult.CaseResult}
+use Rattle.reader_conformance.specs.ReaderList.{CursorInList, nextCaseResult, beginning, scoreFrom, scored}
+use Rattle.reader_conformance.proofs.CursorInList.{beginning-inside}
 use Rattle.bits.specs.Bounds.{longestStream}
 
 -- a list of n cases in the middle: with `left` cases from p on, and those before them counted in t, it still comes to what the whole list comes to
-pub record Scoring (l : List ℕ) (n : ℕ) (p : Along) (t : Tally) (left : ℕ) : Type 0 where
-  pub inside : Inside l p
+pub record Scoring (l : List ℕ) (n : ℕ) (p : CaseCursor) (t : Tally) (left : ℕ) : Type 0 where
+  pub inside : CursorInList l p
   pub same : scoreFrom l left p t ≡ scoreFrom l n beginning none
 
-pub scoring-start : (l : List ℕ) (n : ℕ) (p : Along) (t : Tally) → 4 ≤ length l → p ≡ beginning → t ≡ none → Scoring l n p t n
+pub scoring-start : (l : List ℕ) (n : ℕ) (p : CaseCursor) (t : Tally) → 4 ≤ length l → p ≡ beginning → t ≡ none → Scoring l n p t n
 scoring-start l n p t h e f = rw (e, f) (record { inside = beginning-inside l h; same = refl })
 
-module _ (l : List ℕ) (n : ℕ) (p : Along) (t : Tally) where
-  pub scoring-on : (left : ℕ) (s : CaseResult) (u : Tally) → Scoring l n p t left → 0 < left → s ≡ stepped l p → Inside l (s .along) → u ≡ counted t (s .agrees)
+module _ (l : List ℕ) (n : ℕ) (p : CaseCursor) (t : Tally) where
+  pub scoring-on : (left : ℕ) (s : CaseResult) (u : Tally) → Scoring l n p t left → 0 < left → s ≡ nextCaseResult l p → CursorInList l (s .along)
+      → u ≡ counted t (s .agrees)
       → Scoring l n (s .along) u (left - 1)
   unfolding scoreFrom
   scoring-on zero s u h k e i f = absurd (omega arith)

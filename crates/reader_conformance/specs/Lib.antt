@@ -1,3 +1,3 @@
 pub mod Operations
 pub mod ReaderList
-pub mod Replayed
+pub mod ScoreOfSomeList

@@ -8,10 +8,10 @@ use mir.Syntax.{w32}
 use mir.Val.{ofZ, toZ}
 use Rattle.bits.specs.Bounds.{longestStream}
 use Rattle.bits.specs.Bits.{has, boundary, equalBytes, partAt}
-use Rattle.bits.specs.Programs.{run, bits, reads, skips, nonZero, nextStartCode, findStartCode}
+use Rattle.bits.specs.Programs.{run, bits, readAtMost32, skips, nonZero, nextStartCode, findStartCode}
 use Rattle.bits.specs.declared.bytes.Part.{Part}
 use Rattle.bits.specs.declared.bytes.Part.the-variants.{Bytes, Absent}
-use Rattle.reader_conformance.specs.declared.reader_operations.{Operation.Operation, Outcome.Outcome}
+use Rattle.reader_conformance.specs.declared.reader_operations.{Operation.Operation, OperationResult.OperationResult}
 use Rattle.reader_conformance.specs.declared.reader_operations.Operation.the-variants.{New, Read, ReadBit, Has, HasEnded, Skip, Align, Tell, Seek}
 use Rattle.reader_conformance.specs.declared.reader_operations.Operation.the-variants.{SkipBytes, NextStartCode, FindStartCode, HasStartCode}
 use Rattle.reader_conformance.specs.declared.reader_operations.Operation.the-variants.{PeekNonZero, PeekBytes, Unknown}
@@ -30,11 +30,11 @@ abbrev pub flag : Bool → ℕ
 flag b = cond b 1 0
 
 -- an operation answers v, and ends at the place a
-abbrev pub gives : ℕ → ℕ → Outcome
+abbrev pub gives : ℕ → ℕ → OperationResult
 gives v a = record { reader = record { at = record { 0 = a } }; answer = v; known = true }
 
 -- it is no operation, or has an argument that it does not take
-abbrev pub unknown : ℕ → Outcome
+abbrev pub unknown : ℕ → OperationResult
 unknown a = record { reader = record { at = record { 0 = a } }; answer = 0; known = false }
 
 -- a peek answers one more than the bytes of its part, or 0 where they are absent
@@ -43,13 +43,13 @@ peek (Bytes from to) = to .0 - from .0 + 1
 peek Absent = 0
 
 -- the bytes from the place a on that equal x are passed
-abbrev pub passed : List ℕ → ℕ → ℕ → Outcome
+abbrev pub passed : List ℕ → ℕ → ℕ → OperationResult
 passed s x b = gives (equalBytes s x b (length s - b)) ((b + equalBytes s x b (length s - b)) * 8)
 
 -- RULES 1.2 to 1.7: what an operation with the argument x gives on the stream s at the place a
-unfoldable pub outcome : Operation → ℕ → List ℕ → ℕ → Outcome
+unfoldable pub outcome : Operation → ℕ → List ℕ → ℕ → OperationResult
 outcome New x s a = gives 0 0
-outcome Read x s a = gives (run (reads x) s a .value) (run (reads x) s a .at)
+outcome Read x s a = gives (run (readAtMost32 x) s a .value) (run (readAtMost32 x) s a .at)
 outcome ReadBit x s a = gives (run (bits 1) s a .value) (run (bits 1) s a .at)
 outcome Has x s a = gives (flag (has s a x)) a
 outcome HasEnded x s a = gives (flag (leb (length s * 8) a)) a

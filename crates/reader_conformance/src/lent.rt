@@ -4,7 +4,7 @@ use codes::matrices::INTRA_QUANT_MATRIX;
 use codes::matrices::NON_INTRA_QUANT_MATRIX;
 use tables::tables::tables_with;
 ghost use mathlib.Core.Path.{_≡_};
-ghost use Rattle.codes.specs.Lent.{tablesWith};
+ghost use Rattle.codes.specs.DecodingTables.{tablesWith};
 ghost use Rattle.codes.specs.Matrices.{intraQuantMatrix, nonIntraQuantMatrix};
 
 // Those with the default matrices.

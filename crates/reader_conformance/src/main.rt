@@ -4,7 +4,7 @@ mod reader_list;
 mod reader_operations;
 mod worked;
 
-use answer_lists::numbers::held;
+use answer_lists::numbers::twos_complement;
 use answer_lists::tally::Tally;
 use libc::STDOUT_FILENO;
 use worked::Averages;
@@ -23,7 +23,7 @@ fn print_pixel(pixel: u32) {
 }
 
 fn print_signed(z: i32) {
-    let n = held(z) as u64;
+    let n = twos_complement(z) as u64;
     io::write_all(STDOUT_FILENO, b" ");
     if z < 0 {
         io::write_all(STDOUT_FILENO, b"-");

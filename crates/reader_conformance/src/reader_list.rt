@@ -2,7 +2,7 @@
 //
 // A case is the operation's number (a byte), its argument, the Rust's answer and the place after it in bits (three numbers). Behind a new stream
 // stand its bytes, as many as the argument says; behind a peek the bytes that it gave, one less than the answer.
-use crate::reader_operations::Outcome;
+use crate::reader_operations::OperationResult;
 use crate::reader_operations::operate;
 use crate::reader_operations::operation_of;
 use answer_lists::bytes::same;
@@ -16,13 +16,14 @@ use bits::reader::Reader;
 ghost use mathlib.Core.Path.{_≡_};
 ghost use Prim.Native.Nat.{_+_, _≤_};
 ghost use lib.ListN.{length};
-ghost use Rattle.reader_conformance.specs.ReaderList.{bytesAfter, agree, bytesAgree, eightAgree, nextCase, cutOff, Inside, stepped, scored};
-ghost use Rattle.reader_conformance.specs.Replayed.{Replayed};
+ghost use Rattle.reader_conformance.specs.ReaderList.{bytesAfter, agree, bytesAgree, nextByteAgrees, nextCase, cutOff, CursorInList, nextCaseResult};
+ghost use Rattle.reader_conformance.specs.ReaderList.{scored};
+ghost use Rattle.reader_conformance.specs.ScoreOfSomeList.{ScoreOfSomeList};
 ghost use Rattle.bits.specs.Bounds.{longestStream};
 ghost use Rattle.bits.specs.Runs.{positionOf};
 
 // How far a list is taken: the next case stands at `at`, the present stream from `from` up to `to`, and our reader is in it.
-pub struct Along {
+pub struct CaseCursor {
     pub at: usize,
     pub from: usize,
     pub to: usize,
@@ -30,7 +31,7 @@ pub struct Along {
 }
 
 pub struct CaseResult {
-    pub along: Along,
+    pub along: CaseCursor,
     pub agrees: bool,
 }
 
@@ -59,7 +60,7 @@ fn bytes_after(number: u8, argument: u32, answer: u32) -> usize
 }
 
 // Whether ours gave the Rust's answer, and ended at its place.
-fn agrees(ours: Outcome, answer: u32, position: u32) -> bool
+fn agrees(ours: OperationResult, answer: u32, position: u32) -> bool
     ensures { λ r. ⌜ r ≡ agree ours answer position ⌝ }
 {
     let at = ours.reader.position().0;
@@ -85,7 +86,7 @@ fn bytes_agree(number: u8, bytes: &[u8], s: &[u8], reader: Reader, argument: u32
 // Whether has_eight and next_eight give what the Rust gave at the same place: that the two bytes are there beside its peek of 2, and the bits beside its
 // read of 8.
 fn eight_agrees(number: u8, argument: u32, answer: u32, s: &[u8], reader: Reader) -> bool
-    ensures { λ r. ⌜ r ≡ eightAgree number argument answer (now (s .entry)) (positionOf reader) ⌝ }
+    ensures { λ r. ⌜ r ≡ nextByteAgrees number argument answer (now (s .entry)) (positionOf reader) ⌝ }
 {
     let there = reader.has_eight(s);
     if (number == PEEK_BYTES) & (argument == 2) {
@@ -98,11 +99,11 @@ fn eight_agrees(number: u8, argument: u32, answer: u32, s: &[u8], reader: Reader
 }
 
 // On to the next case: a new stream stands from start up to end, behind its own.
-fn next(along: Along, number: u8, start: usize, end: usize, reader: Reader) -> Along
+fn next(along: CaseCursor, number: u8, start: usize, end: usize, reader: Reader) -> CaseCursor
     ensures { λ r. ⌜ r ≡ nextCase along number start end reader ⌝ }
 {
     if number == NEW {
-        return Along {
+        return CaseCursor {
             at: end,
             from: start,
             to: end,
@@ -111,7 +112,7 @@ fn next(along: Along, number: u8, start: usize, end: usize, reader: Reader) -> A
     }
     let from = along.from;
     let to = along.to;
-    Along {
+    CaseCursor {
         at: end,
         from: from,
         to: to,
@@ -120,13 +121,13 @@ fn next(along: Along, number: u8, start: usize, end: usize, reader: Reader) -> A
 }
 
 // A case that is cut off does not agree, and neither does any behind it.
-fn cut(list: &[u8], along: Along) -> CaseResult
+fn cut(list: &[u8], along: CaseCursor) -> CaseResult
     ensures { λ r. ⌜ r ≡ cutOff (now (list .entry)) along ⌝ }
 {
     let from = along.from;
     let to = along.to;
     let reader = along.reader;
-    let end = Along {
+    let end = CaseCursor {
         at: list.len(),
         from: from,
         to: to,
@@ -139,10 +140,10 @@ fn cut(list: &[u8], along: Along) -> CaseResult
 }
 
 // The next case.
-fn take_case(list: &[u8], along: Along) -> CaseResult
-    requires { ⌜ (length (now list) ≤ longestStream) × Inside (now list) along ⌝ }
-    ensures { λ r. ⌜ r ≡ stepped (now (list .entry)) along ⌝ }
-    ensures { λ r. ⌜ Inside (now (list .entry)) (r .along) ⌝ }
+fn take_case(list: &[u8], along: CaseCursor) -> CaseResult
+    requires { ⌜ (length (now list) ≤ longestStream) × CursorInList (now list) along ⌝ }
+    ensures { λ r. ⌜ r ≡ nextCaseResult (now (list .entry)) along ⌝ }
+    ensures { λ r. ⌜ CursorInList (now (list .entry)) (r .along) ⌝ }
 {
     let at = along.at;
     if list.len() - at < 13 {
@@ -193,7 +194,7 @@ pub fn score(list: &[u8]) -> Tally
         };
     }
     let reader = Reader::new();
-    let mut along = Along {
+    let mut along = CaseCursor {
         at: 4,
         from: 4,
         to: 4,
@@ -215,7 +216,7 @@ pub fn score(list: &[u8]) -> Tally
 
 // The list that reader.bin holds.
 pub fn replay() -> Tally
-    ensures { λ r. ⌜ Replayed scored r ⌝ }
+    ensures { λ r. ⌜ ScoreOfSomeList scored r ⌝ }
 {
     let mut room = space();
     let count = load(b"reader.bin", &mut room);

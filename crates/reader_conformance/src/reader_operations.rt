@@ -1,6 +1,6 @@
 // The operations of the reader, as the list reader.bin names them, and ours for each.
-use answer_lists::numbers::held;
 use answer_lists::numbers::signed;
+use answer_lists::numbers::twos_complement;
 use bits::bytes::Part;
 use bits::bytes::SkippedBytes;
 use bits::position::BytePosition;
@@ -17,7 +17,7 @@ ghost use mir.Syntax.{w32};
 ghost use mir.Val.{ofZ};
 ghost use Rattle.bits.specs.Bounds.{longestStream};
 ghost use Rattle.bits.specs.Bits.{partAt};
-ghost use Rattle.bits.specs.Runs.{Inside, positionOf};
+ghost use Rattle.bits.specs.Runs.{ReaderInBounds, positionOf};
 ghost use Rattle.reader_conformance.specs.Operations.{operationOf, gives, unknown, flag, peek, outcome};
 
 pub enum Operation {
@@ -71,26 +71,26 @@ pub fn operation_of(number: u8) -> Operation
 
 // What an operation gives: its answer as the list holds it, and the reader after it. known is false where the list names no operation, or an
 // argument that the operation does not take.
-pub struct Outcome {
+pub struct OperationResult {
     pub reader: Reader,
     pub answer: u32,
     pub known: bool,
 }
 
-fn given(reader: Reader, answer: u32) -> Outcome
+fn given(reader: Reader, answer: u32) -> OperationResult
     ensures { λ r. ⌜ r ≡ gives answer (positionOf reader) ⌝ }
 {
-    Outcome {
+    OperationResult {
         reader: reader,
         answer: answer,
         known: true,
     }
 }
 
-fn refused(reader: Reader) -> Outcome
+fn refused(reader: Reader) -> OperationResult
     ensures { λ r. ⌜ r ≡ unknown (positionOf reader) ⌝ }
 {
-    Outcome {
+    OperationResult {
         reader: reader,
         answer: 0,
         known: false,
@@ -98,21 +98,21 @@ fn refused(reader: Reader) -> Outcome
 }
 
 // A start code, or -1.
-fn coded(found: StartCode) -> Outcome
+fn coded(found: StartCode) -> OperationResult
     ensures { λ r. ⌜ r ≡ gives (ofZ w32 (found .code)) (positionOf (found .reader)) ⌝ }
 {
-    given(found.reader, held(found.code))
+    given(found.reader, twos_complement(found.code))
 }
 
 // The bits of a read.
-fn valued(read: ReadBits) -> Outcome
+fn valued(read: ReadBits) -> OperationResult
     ensures { λ r. ⌜ r ≡ gives (read .value) (positionOf (read .reader)) ⌝ }
 {
     given(read.reader, read.value)
 }
 
 // A yes or a no.
-fn flagged(ahead: Peeked) -> Outcome
+fn flagged(ahead: Peeked) -> OperationResult
     ensures { λ r. ⌜ r ≡ gives (flag (ahead .value)) (positionOf (ahead .reader)) ⌝ }
 {
     if ahead.value {
@@ -122,7 +122,7 @@ fn flagged(ahead: Peeked) -> Outcome
 }
 
 // One more than the bytes that a peek gives; 0 where they are absent.
-fn peeked(s: &[u8], reader: Reader, count: usize) -> Outcome
+fn peeked(s: &[u8], reader: Reader, count: usize) -> OperationResult
     requires { ⌜ length (now s) ≤ longestStream ⌝ }
     ensures { λ r. ⌜ r ≡ gives (peek (partAt (now (s .entry)) (positionOf reader) count)) (positionOf reader) ⌝ }
 {
@@ -136,7 +136,7 @@ fn peeked(s: &[u8], reader: Reader, count: usize) -> Outcome
 }
 
 // The place in bytes.
-fn told(position: Told) -> Outcome
+fn told(position: Told) -> OperationResult
     requires { ⌜ position .at .0 < 4294967296 ⌝ }
     ensures { λ r. ⌜ r ≡ gives (position .at .0) (positionOf (position .reader)) ⌝ }
 {
@@ -144,7 +144,7 @@ fn told(position: Told) -> Outcome
 }
 
 // How many bytes were passed.
-fn passed(bytes: SkippedBytes) -> Outcome
+fn passed(bytes: SkippedBytes) -> OperationResult
     requires { ⌜ bytes .count < 4294967296 ⌝ }
     ensures { λ r. ⌜ r ≡ gives (bytes .count) (positionOf (bytes .reader)) ⌝ }
 {
@@ -152,10 +152,10 @@ fn passed(bytes: SkippedBytes) -> Outcome
 }
 
 // Ours, on the stream s.
-pub fn operate(s: &[u8], reader: Reader, op: Operation, argument: u32) -> Outcome
-    requires { ⌜ Inside (now s) reader ⌝ }
+pub fn operate(s: &[u8], reader: Reader, op: Operation, argument: u32) -> OperationResult
+    requires { ⌜ ReaderInBounds (now s) reader ⌝ }
     ensures { λ r. ⌜ r ≡ outcome op argument (now (s .entry)) (positionOf reader) ⌝ }
-    ensures { λ r. ⌜ Inside (now (s .entry)) (r .reader) ⌝ }
+    ensures { λ r. ⌜ ReaderInBounds (now (s .entry)) (r .reader) ⌝ }
 {
     let count = argument as usize;
     match op {

@@ -10,12 +10,12 @@ use lib.Ieee.{Float}
 use Rattle.laws.specs.Loops.{iterate}
 use Rattle.laws.proofs.Loops.{steps-again, steps-stop}
 use Rattle.bits.specs.Bounds.{longestStream}
-use Rattle.bits.specs.Programs.{many}
+use Rattle.bits.specs.Programs.{streamFuel}
 use Rattle.picture_state.specs.declared.types.{Sizes.Sizes, Matrices.Matrices}
 use Rattle.picture_state.specs.Result.{ok}
 use Rattle.picture_state.proofs.Possible.{stores-of}
 use Rattle.standard.specs.Standard as S
-use Rattle.header.specs.State.{noTime}
+use Rattle.header.specs.State.{zeroFloat}
 use Rattle.standard.proofs.Related.{Rule}
 use Rattle.decoder.specs.declared.record.Decoder.{Decoder}
 use Rattle.decoder.specs.declared.answers.{Opening.Opening, Opened.Opened}
@@ -103,9 +103,11 @@ module _ (s : List ℕ) (long : length s ≤ longestStream) (bytes : (k : ℕ) �
           subst (OutputsInOrder (z .«mb_size») rate s number (at g)) (sym (o .order (allButLast (c′ ∷ cs)))) (λ r l gave.
           subst (λ (q : CallResult Outcome). (q .answer ≡ H.Picture (record { store = storeOf (o .picture); time = timeAt rate number }))
           × StoreHolds (z .«mb_size») (q .store) (o .picture)
-          × OutputsInOrder (z .«mb_size») rate s (number + 1) (stateAfter q) (displayed (o .next) (allButLast (c′ ∷ cs)))) (sym (gave ∙ left-is))
-          (ap (λ (t : Float). H.Picture (record { store = storeOf (o .picture); time = t })) (time .0),
-          subst (λ (l : List ℕ). StoreHolds (z .«mb_size») l (o .picture)) (sym (o .pels)) (o .holds), rest))
+          × OutputsInOrder (z .«mb_size») rate s (number + 1) (stateAfter q) (displayed (o .next) (allButLast (c′ ∷ cs)))) (sym (gave ∙ left-is)) (
+            ap (λ (t : Float). H.Picture (record { store = storeOf (o .picture); time = t })) (time .0),
+            subst (λ (l : List ℕ). StoreHolds (z .«mb_size») l (o .picture)) (sym (o .pels)) (o .holds),
+            rest,
+          ))
 
       -- from the first on
       first-calls : (ds : List S.Decoded) (n : ℕ) (x : SequenceState) (a : ℕ) (y : DecodingState) → Clock 0 y
@@ -131,7 +133,7 @@ module _ (rule : Rule) (s : List ℕ) (bytes : (k : ℕ) → getD s k 0 < 256) w
   -- the calls behind an opening that left this
   abbrev Shows : CallResult Opening → Type 0
   Shows q = let d = q .decoder in (ds : List S.Decoded)
-      → pictures (rule .rules) (d .sequence .sizes) (d .sequence .matrices) s many (initialState (q .store)) (position d) ≡ ok ds
+      → pictures (rule .rules) (d .sequence .sizes) (d .sequence .matrices) s streamFuel (initialState (q .store)) (position d) ≡ ok ds
       → OutputsInOrder (d .sequence .sizes .«mb_size») (rateRead s fresh) s 0 (callState d (q .store)) (shown (allButLast ds))
 
   opened-shows : (l : List ℕ) → opening s l .answer ≡ O.Ready → Shows (opening s l)
@@ -139,12 +141,13 @@ module _ (rule : Rule) (s : List ℕ) (bytes : (k : ℕ) → getD s k 0 < 256) w
       let r = readied s l ready in
       let d = opening s l .decoder in
       let clock = subst (λ (o : Opening). OpeningClock s o d) ready (opening-clock s l) in
-      first-calls s (r .short) bytes rule d (rateRead s fresh) (r .starting .1) ds many (initialState (opening s l .store)) (position d)
-      (decodingStateOf d (opening s l .store)) (noTime, clock .1) refl h (r .starting .0) (record { three = stores-of _ refl; long = r .keeps .step .long }) (r .keeps)
+      first-calls s (r .short) bytes rule d (rateRead s fresh) (r .starting .1) ds streamFuel (initialState (opening s l .store)) (position d)
+      (decodingStateOf d (opening s l .store)) (zeroFloat, clock .1) refl h (r .starting .0) (record { three = stores-of _ refl; long = r .keeps .step .long })
+      (r .keeps)
 
   -- from a call of `open` that accepts the first header on: where the pictures behind it conform, the calls hand them out as they are shown
   pub pictures-output : (l : List ℕ) (r : Opened) (m : List ℕ) → Opens s l r m → r .answer ≡ O.Ready → (ds : List S.Decoded)
-      → pictures (rule .rules) (r .decoder .sequence .sizes) (r .decoder .sequence .matrices) s many (initialState m) (position (r .decoder)) ≡ ok ds
+      → pictures (rule .rules) (r .decoder .sequence .sizes) (r .decoder .sequence .matrices) s streamFuel (initialState m) (position (r .decoder)) ≡ ok ds
       → OutputsInOrder (r .decoder .sequence .sizes .«mb_size») (rateRead s fresh) s 0 (callState (r .decoder) m) (shown (allButLast ds))
   pictures-output l r m gave ready =
       subst Shows (sym gave) (opened-shows l (ap (λ (q : CallResult Opening). q .answer) (sym gave) ∙ ready))

@@ -9,7 +9,7 @@ use Rattle.laws.specs.Signed.{clamp255, odd}
 use Rattle.laws.specs.Loops.{iterate}
 use Rattle.laws.specs.Stores.{storeRow, storeRows}
 use Rattle.bits.specs.Bits.{bitAt, bitsAt, readAt, afterRead, codePrefix, codeFrom, found}
-use Rattle.bits.specs.Programs.{run, bind, forBelow, loop, many, findStep, findStartCode}
+use Rattle.bits.specs.Programs.{run, bind, forBelow, loop, streamFuel, findStep, findStartCode}
 use Rattle.codes.specs.Tables as Tables
 use Rattle.codes.specs.Standard.{macroblockTypeIntraCodes, macroblockTypePredictiveCodes, macroblockTypeBCodes}
 use Rattle.codes.specs.Walk.{walkStep, walk, vlc}
@@ -27,12 +27,12 @@ use Rattle.transform.specs.Idct.{columns, rows as rowPass, idct}
 use Rattle.prediction.specs.Standard.{formed}
 use Rattle.prediction.specs.Writers.{overwrite, addBlock, blockAddress}
 use Rattle.picture_state.specs.Result.{Result, ok, error, andThen, ifOk, bindResult, lift}
-use Rattle.standard.specs.Standard.Words.{Forbidden}
+use Rattle.standard.specs.Standard.Prelude.{Forbidden}
 use Rattle.macroblock_head.specs.Heads.{macroblockType}
 use Rattle.slice.specs.Slices.{extraStep, extra}
 use Rattle.standard.specs.Rules.{rust}
 use Rattle.standard.specs.Standard as S
-use Rattle.standard.specs.Standard.Words as Words
+use Rattle.standard.specs.Standard.Prelude as Prelude
 use Rattle.standard.specs.Standard.State.{inTable}
 use Rattle.standard.specs.Standard.Prediction as Prediction
 use Rattle.standard.specs.Standard.Block as Block
@@ -41,7 +41,7 @@ use Rattle.header.specs.Sequences.{matrix, size, rest}
 use Rattle.decoder.specs.declared.answers.Opening.{Opening}
 use Rattle.decoder.specs.declared.answers.Opening.the-variants.{Ready}
 use Rattle.playback.specs.State.{freshState}
-use Rattle.playback.specs.Search.{nextCode}
+use Rattle.playback.specs.Search.{ensureStartCode}
 use Rattle.decoder.specs.Record.{CallResult, fresh, position}
 use Rattle.decoder.specs.Headers.{findSequence, accepted, checkSize, checkHeader, checkStore}
 use Rattle.decoder.specs.Opening.{opened, openingFrom, opening}
@@ -85,7 +85,7 @@ unendedStream = headerBytes ++ (groupBytes ++ (intraBytes ++ (predictiveBytes ++
 
 -- the pictures of the stream s, behind the opening o
 abbrev decoded : List ℕ → CallResult Opening → Result Forbidden (List S.Decoded)
-decoded s o = pictures rust (o .decoder .sequence .sizes) (o .decoder .sequence .matrices) s many (initialState (o .store)) (position (o .decoder))
+decoded s o = pictures rust (o .decoder .sequence .sizes) (o .decoder .sequence .matrices) s streamFuel (initialState (o .store)) (position (o .decoder))
 
 abbrev types : Result Forbidden (List S.Decoded) → List ℕ
 types (ok ds) = map (λ (d : S.Decoded). d .header .«picture_coding_type») ds
@@ -120,10 +120,10 @@ unfolding clamp255 odd storeRow storeRows bitAt bitsAt readAt afterRead codePref
     complement right recon reconstructed residual standardVector or32 dctZZ0 Dcs.dcSize Coefficients.runLevel Coefficients.coefficient dequantised
     Syntax.pairStep Syntax.pairs butterfly columns rowPass idct formed overwrite addBlock blockAddress
     andThen ifOk bindResult lift macroblockType extraStep extra
-    Words.field Words.whileStep Words.while S.increment inTable Prediction.vector Prediction.forVector Prediction.backVector
+    Prelude.field Prelude.whileStep Prelude.while S.increment inTable Prediction.vector Prediction.forVector Prediction.backVector
     Prediction.predictedPlane Prediction.predictedFrom Prediction.predicted Prediction.skippedFrom Prediction.skipped
     Block.reconstructed Block.dctDc Block.written Block.intraBlock Block.nonIntraBlock Block.blocks S.codedMacroblock S.macroblock
     S.afterMacroblock S.sliceStep S.slice S.direction S.header S.afterSlice S.slicesStep S.slices S.picture
-    fresh freshState cleared nextCode matrix size rest findSequence accepted checkSize checkHeader checkStore opened openingFrom opening following
+    fresh freshState cleared ensureStartCode matrix size rest findSequence accepted checkSize checkHeader checkStore opened openingFrom opening following
     pictures
 sequence = record { ready = refl; four = refl; unended = refl; handed = refl }

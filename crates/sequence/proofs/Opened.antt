@@ -10,7 +10,7 @@ use borrow.Author.Tests.{leb-true}
 use Rattle.laws.proofs.Tests.{by-case}
 use Rattle.bits.specs.Bounds.{longestStream}
 use Rattle.bits.specs.Bits.{has}
-use Rattle.bits.specs.Programs.{Out, run, eqZ, findStartCode}
+use Rattle.bits.specs.Programs.{RunResult, run, eqZ, findStartCode}
 use Rattle.standard.specs.Standard.State.{zero-vector}
 use Rattle.header.specs.Store.{cleared}
 use Rattle.header.specs.Sequences.{size}
@@ -18,8 +18,8 @@ use Rattle.decoder.specs.declared.record.Decoder.{Decoder}
 use Rattle.decoder.specs.declared.answers.Opening.{Opening}
 use Rattle.decoder.specs.declared.answers.Opening.the-variants as O
 use Rattle.playback.specs.State.{freshState}
-use Rattle.playback.specs.Search.{nextCode}
-use Rattle.decoder.specs.Record.{CallResult, fresh, decodingStateOf, position, searchedAs, storeBytes}
+use Rattle.playback.specs.Search.{ensureStartCode}
+use Rattle.decoder.specs.Record.{CallResult, fresh, decodingStateOf, position, withSearchResult, storeBytes}
 use Rattle.decoder.specs.Headers.{CheckResult, refused, passed, findSequence, accepted, checkSize, checkHeader, checkStore}
 use Rattle.decoder.specs.Opening.{opened, openingFrom, opening}
 use Rattle.playback.proofs.Searches.{Sought, hit, miss, sought}
@@ -39,7 +39,7 @@ abbrev Checks : CheckResult → Type 0
 Checks (refused n x) = Unit {0}
 Checks (passed x) = (l : List ℕ) → Starting x l
 
-size-checks : (s : List ℕ) (e : ℕ) → Checks (checkSize s (searchedAs (pos 0xb3) e fresh))
+size-checks : (s : List ℕ) (e : ℕ) → Checks (checkSize s (withSearchResult (pos 0xb3) e fresh))
 unfolding checkSize accepted fresh freshState
 size-checks s e =
     let w = run size s e .value .width in
@@ -58,12 +58,12 @@ size-checks s e =
     ))
 
 header-asks : (s : List ℕ) → length s ≤ longestStream → Checks (checkHeader s fresh)
-unfolding checkHeader findSequence nextCode fresh freshState
+unfolding checkHeader findSequence ensureStartCode fresh freshState
 header-asks s h = go (run (findStartCode (pos 0xb3)) s 0) (sought (pos 0xb3) s 0 h)
   where
-    go : (o : Out ℤ) → Sought (pos 0xb3) s 0 o
+    go : (o : RunResult ℤ) → Sought (pos 0xb3) s 0 o
         → Checks (
-        let x = searchedAs (o .value) (o .at) fresh in
+        let x = withSearchResult (o .value) (o .at) fresh in
         cond (eqZ (o .value) (negsuc 0)) (refused 3 x) (cond (not (has s (o .at) 1088)) (refused 4 x) (checkSize s x)))
     go o (hit x y z) = rw x (by-case Checks (not (has s (o .at) 1088)) (λ e. tt) (λ e. size-checks s (o .at)))
     go o (miss x y) = rw x tt

@@ -10,7 +10,7 @@ use lib.IntN.{ℤ, negsuc}
 use lib.ListN.{length}
 use Rattle.laws.specs.Loops.{Step, continue, finish}
 use Rattle.bits.specs.Bounds.{longestStream}
-use Rattle.bits.specs.Programs.{eqZ, many}
+use Rattle.bits.specs.Programs.{eqZ, streamFuel}
 use Rattle.bits.proofs.Programs.{run-on}
 use Rattle.picture_state.specs.declared.types.{Stores.Stores, Sizes.Sizes, Matrices.Matrices}
 use Rattle.standard.specs.Standard as S
@@ -53,7 +53,7 @@ module _ (rule : Rule) (s : List ℕ) (long : length s ≤ longestStream) (z : S
     abbrev pub after : ℕ
     after = coded rule s z m x (q .f .at) .at
 
-    abbrev next : Next s many a (q .f)
+    abbrev next : Next s streamFuel a (q .f)
     next = following-finds m s a (q .f) (q .following)
 
     -- the state behind the search, and the picture as ours reads it

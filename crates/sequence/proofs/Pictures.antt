@@ -6,11 +6,11 @@ use Prim.Native.Nat.{ℕ, zero, suc}
 use lib.Dec.{eqb}
 use lib.IntN.{pos}
 use Rattle.bits.specs.Bits.{Found}
-use Rattle.bits.specs.Programs.{Out, run}
+use Rattle.bits.specs.Programs.{RunResult, run}
 use Rattle.picture_state.specs.declared.types.{Sizes.Sizes, Matrices.Matrices}
 use Rattle.picture_state.specs.Result.{Result, ok, error, andThen}
-use Rattle.standard.specs.Standard.Words.{Forbidden}
-use Rattle.standard.specs.Standard.Words.{conforms, forbidden}
+use Rattle.standard.specs.Standard.Prelude.{Forbidden}
+use Rattle.standard.specs.Standard.Prelude.{conforms, forbidden}
 use Rattle.standard.specs.Standard as S
 use Rattle.standard.proofs.Related.{Rule}
 use Rattle.sequence.specs.Sequence.{following, SequenceState, stateAfterDecoded, stateAfterPicture, isLast, ended, atEnd, pictures}
@@ -45,7 +45,7 @@ same-tail h = ap (λ (w : Result Forbidden (List S.Decoded)). tailOf (listOf w))
 some : {X : Type 0} {d : S.Decoded} {ds : List S.Decoded} → _≡_ {A = Result Forbidden (List S.Decoded)} (ok (d ∷ ds)) (ok []) → X
 some h = absurd (false≢true (ap (λ (w : Result Forbidden (List S.Decoded)). isEmpty (listOf w)) h))
 
-abbrev pub coded : Rule → List ℕ → Sizes → Matrices → SequenceState → ℕ → Out (Result Forbidden S.Decoded)
+abbrev pub coded : Rule → List ℕ → Sizes → Matrices → SequenceState → ℕ → RunResult (Result Forbidden S.Decoded)
 coded rule s z m x a = run (S.picture (rule .rules) z m (x .stores) (x .forward) (x .backward) (x .pels)) s a
 
 -- what a picture is read in that has these behind it

@@ -9,15 +9,15 @@ use lib.IntN.{ℤ, pos, negsuc}
 use lib.ListN.{length}
 use Rattle.laws.specs.Loops.{continue, finish, iterate}
 use Rattle.bits.specs.Bits.{Found, boundary, found}
-use Rattle.bits.specs.Programs.{Out, done, run, bind, eqZ, loop, continueWith, many, findStep}
+use Rattle.bits.specs.Programs.{RunResult, done, run, bind, eqZ, loop, continueWith, streamFuel, findStep}
 use Rattle.bits.proofs.Start.{Searched, first, none, found-is-first}
 use Rattle.picture_state.specs.declared.types.Matrices.{Matrices}
 use Rattle.picture_state.specs.Result.{Result, ok, error}
-use Rattle.standard.specs.Standard.Words.{Forbidden}
-use Rattle.standard.specs.Standard.Words.{forbidden, conforms}
+use Rattle.standard.specs.Standard.Prelude.{Forbidden}
+use Rattle.standard.specs.Standard.Prelude.{forbidden, conforms}
 use Rattle.sequence.specs.Sequence.{isSkipped, followStep, following}
 
-abbrev turned : List ℕ → ℕ → Found → Out ℤ
+abbrev turned : List ℕ → ℕ → Found → RunResult ℤ
 turned s n f =
     run (bind (cond (eqZ (f .code) (pos 0) || eqZ (f .code) (negsuc 0)) (done (finish (f .code))) (done (continue tt)))
     (continueWith (loop n (findStep (pos 0)) (negsuc 0)))) s (f .at)
@@ -55,7 +55,8 @@ follows-finds m s (suc n) a f h =
     go (found s a) refl (eqZ (found s a .code) (pos 0)) refl (isSkipped m s (found s a)) refl h (λ b i. follows-finds m s n b f i)
   where
     go : (g : Found) → found s a ≡ g → (t : Bool) → eqZ (g .code) (pos 0) ≡ t → (u : Bool) → isSkipped m s g ≡ u
-        → _≡_ {A = Result Forbidden Found} (elim (cond t (finish (ok g)) (cond u (continue (g .at)) (finish forbidden))) [ continue y ↦ follows m s n y | finish v ↦ v ])
+        → _≡_ {A = Result Forbidden Found}
+        (elim (cond t (finish (ok g)) (cond u (continue (g .at)) (finish forbidden))) [ continue y ↦ follows m s n y | finish v ↦ v ])
         (ok f)
         → ((b : ℕ) → follows m s n b ≡ ok f → Next s n b f) → Next s (suc n) a f
     go g q true t u p h r =
@@ -77,6 +78,6 @@ follows-finds m s (suc n) a f h =
         }
     go g q false t false p h r = absurd (false≢true (ap conforms h))
 
-pub following-finds : (m : Matrices) (s : List ℕ) (a : ℕ) (f : Found) → following (pos 0) m s a ≡ ok f → Next s many a f
+pub following-finds : (m : Matrices) (s : List ℕ) (a : ℕ) (f : Found) → following (pos 0) m s a ≡ ok f → Next s streamFuel a f
 unfolding following
-following-finds m s a f h = follows-finds m s many a f h
+following-finds m s a f h = follows-finds m s streamFuel a f h

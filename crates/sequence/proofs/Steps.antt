@@ -8,11 +8,11 @@ use lib.ListN.{length}
 use Rattle.laws.specs.Loops.{finish}
 use Rattle.bits.specs.Bounds.{longestStream}
 use Rattle.bits.specs.Bits.{Found}
-use Rattle.bits.specs.Programs.{Out, run, eqZ, many, findStartCode}
+use Rattle.bits.specs.Programs.{RunResult, run, eqZ, streamFuel, findStartCode}
 use Rattle.picture_state.specs.declared.types.{Stores.Stores, Sizes.Sizes, Matrices.Matrices}
 use Rattle.picture_state.specs.State.{freshBlock}
 use Rattle.picture_state.specs.Result.{Result, ok}
-use Rattle.standard.specs.Standard.Words.{Forbidden}
+use Rattle.standard.specs.Standard.Prelude.{Forbidden}
 use Rattle.picture.specs.Pictures.{PictureState}
 use Rattle.standard.specs.Standard as S
 use Rattle.standard.proofs.Agreement.{agreed}
@@ -22,8 +22,8 @@ use Rattle.standard.proofs.Picture.{RefinesDecoded, picture-agrees}
 use Rattle.playback.specs.declared.outcome.Outcome.the-variants.{Refused}
 use Rattle.playback.specs.declared.state.State.{State}
 use Rattle.playback.specs.State as D
-use Rattle.playback.specs.State.{startCode, searchedAs}
-use Rattle.playback.specs.Search.{nextCode, nextPicture, isFollowed}
+use Rattle.playback.specs.State.{startCode, withSearchResult}
+use Rattle.playback.specs.Search.{ensureStartCode, nextPicture, isFollowed}
 use Rattle.playback.specs.Steps.{DecodingState, withState, finished, pictureStateOf, pictureStep}
 use Rattle.playback.specs.Cases.{ReadsPicture}
 use Rattle.playback.proofs.Cases.{step-seven}
@@ -41,21 +41,21 @@ pub record Waiting (x : SequenceState) (a : ℕ) (y : DecodingState) : Type 0 wh
   pub pels : y .store ≡ x .pels
 
 module _ (rule : Rule) (s : List ℕ) (long : length s ≤ longestStream) (z : Sizes) (m : Matrices) (x : SequenceState) (a : ℕ) (y : DecodingState)
-    (w : Waiting x a y) (f : Found) (n : Next s many a f) where
-  abbrev theirs : Stores → List ℕ → Out (Result Forbidden S.Decoded)
+    (w : Waiting x a y) (f : Found) (n : Next s streamFuel a f) where
+  abbrev theirs : Stores → List ℕ → RunResult (Result Forbidden S.Decoded)
   theirs t l = run (S.picture (rule .rules) z m t (x .forward) (x .backward) l) s (f .at)
 
   -- the state behind the search
   abbrev pub found : State
-  found = searchedAs (pos 0) (f .at) (y .state)
+  found = withSearchResult (pos 0) (f .at) (y .state)
 
   -- RULES 8.2
   pub next-is : nextPicture s (y .state) ≡ found
-  unfolding nextCode findStartCode
+  unfolding ensureStartCode findStartCode
   next-is =
-      let search : ℕ → State = λ a. let o = run (findStartCode (pos 0)) s a in searchedAs (o .value) (o .at) (y .state) in
+      let search : ℕ → State = λ a. let o = run (findStartCode (pos 0)) s a in withSearchResult (o .value) (o .at) (y .state) in
       ap (λ (b : Bool). cond b (y .state) (search (D.position (y .state)))) (w .code) ∙ ap search (w .position)
-      ∙ ap (λ (o : Out ℤ). searchedAs (o .value) (o .at) (y .state)) (n .runs)
+      ∙ ap (λ (o : RunResult ℤ). withSearchResult (o .value) (o .at) (y .state)) (n .runs)
 
   -- RULES 8.3: the last picture
   pub last : isFollowed s (f .at) ≡ false → pictureStep s z m y ≡ finish (finished (Refused 7) (withState found y))
@@ -77,9 +77,9 @@ module _ (rule : Rule) (s : List ℕ) (long : length s ≤ longestStream) (z : S
     pub read : Picture
     read =
         let ours = agreed (picture-agrees rule s long z m (pictureStateOf (withState found y)) (x .forward) (x .backward) (f .at) (w .begun) (w .left))
-        (ap (λ (o : Out (Result Forbidden S.Decoded)). o .value) same ∙ h) in
+        (ap (λ (o : RunResult (Result Forbidden S.Decoded)). o .value) same ∙ h) in
         record {
           pictureState = ours .0;
-          reads = ours .1 ∙ ap (λ (o : Out (Result Forbidden S.Decoded)). record { value = ok (ours .0); at = o .at }) same;
+          reads = ours .1 ∙ ap (λ (o : RunResult (Result Forbidden S.Decoded)). record { value = ok (ours .0); at = o .at }) same;
           result = ours .2;
         }

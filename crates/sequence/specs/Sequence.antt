@@ -7,10 +7,10 @@ use lib.Dec.{eqb}
 use lib.IntN.{ℤ, pos, negsuc}
 use Rattle.laws.specs.Loops.{Step, continue, finish, iterate}
 use Rattle.bits.specs.Bits.{Found, readAt, found}
-use Rattle.bits.specs.Programs.{run, eqZ, many, findStartCode, if_then_else_}
+use Rattle.bits.specs.Programs.{run, eqZ, streamFuel, findStartCode, if_then_else_}
 use Rattle.picture_state.specs.declared.types.{Stores.Stores, Sizes.Sizes, Matrices.Matrices}
 use Rattle.picture_state.specs.Result.{Result, ok, andThen}
-use Rattle.standard.specs.Standard.Words.{Forbidden, forbidden}
+use Rattle.standard.specs.Standard.Prelude.{Forbidden, forbidden}
 use Rattle.standard.specs.Standard.State.{Direction, Rules}
 use Rattle.standard.specs.Standard.{Decoded, picture}
 use Rattle.header.specs.Sequences.{size, rest}
@@ -48,7 +48,7 @@ followStep c m s a =
 
 -- on to the next picture_start_code (00) or sequence_end_code (B7), which is c
 unfoldable pub following : ℤ → Matrices → List ℕ → ℕ → Result Forbidden Found
-following c m s a = iterate many (followStep c m s) (λ a. forbidden) a
+following c m s a = iterate streamFuel (followStep c m s) (λ a. forbidden) a
 
 -- what goes from one picture to the next; `held`: has an I or P picture been decoded?
 pub record SequenceState : Type 0 where

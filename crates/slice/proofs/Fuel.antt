@@ -1,4 +1,4 @@
--- RULES 7.5, 7.6: the fuel `many` of a slice's loops is enough: each turn that goes on takes a bit of the stream. Assumes nothing.
+-- RULES 7.5, 7.6: the fuel `streamFuel` of a slice's loops is enough: each turn that goes on takes a bit of the stream. Assumes nothing.
 use mathlib.Core.Path.{_≡_}
 use mathlib.Core.Bool.{Bool, not, _&&_}
 use mathlib.Core.List.{List}
@@ -11,7 +11,7 @@ use lib.ListN.{length}
 use Rattle.laws.specs.Loops.{Step}
 use Rattle.bits.specs.Bounds.{longestStream}
 use Rattle.bits.specs.Bits.{has, readAt, afterRead}
-use Rattle.bits.specs.Programs.{Prog, bind, loop, many, run}
+use Rattle.bits.specs.Programs.{Prog, bind, loop, streamFuel, run}
 use Rattle.laws.proofs.Tests.{by-case, both}
 use Rattle.bits.proofs.Programs.{run-bind, run-on, bind-on, next-le, got-served}
 use Rattle.bits.proofs.Rules.{Takes}
@@ -35,7 +35,7 @@ extra-takes s x a =
     (omega (arith, next-le s (afterRead s a 1) 8), omega arith))
 
 -- RULES 7.5
-pub extra-fuel : (s : List ℕ) → length s ≤ longestStream → (n : ℕ) → many ≤ n → (a : ℕ) → run (loop n extraStep tt tt) s a ≡ run extra s a
+pub extra-fuel : (s : List ℕ) → length s ≤ longestStream → (n : ℕ) → streamFuel ≤ n → (a : ℕ) → run (loop n extraStep tt tt) s a ≡ run extra s a
 unfolding extra
 extra-fuel s l n m a = enough s extraStep (extra-takes s) l n m tt tt tt a
 
@@ -62,7 +62,7 @@ slice-takes g m s x a =
     (past-takes g s a _ _ (run-on (macroblock g m (x .first) (x .sliceState)) s a) (macroblock-takes g m (x .first) (x .sliceState) s a))
 
 -- RULES 7.6
-pub slice-fuel : (g : Context) (m : Matrices) (s : List ℕ) → length s ≤ longestStream → (n : ℕ) → many ≤ n
+pub slice-fuel : (g : Context) (m : Matrices) (s : List ℕ) → length s ≤ longestStream → (n : ℕ) → streamFuel ≤ n
     → (d e : Result Stop SliceState) (x : SliceLoopState) (a : ℕ)
-    → run (loop n (sliceStep g m) d x) s a ≡ run (loop many (sliceStep g m) e x) s a
+    → run (loop n (sliceStep g m) d x) s a ≡ run (loop streamFuel (sliceStep g m) e x) s a
 slice-fuel g m s l n h d e x a = enough s (sliceStep g m) (slice-takes g m s) l n h d e x a

@@ -16,8 +16,8 @@ use Rattle.laws.specs.Loops.{continue, finish}
 use Rattle.laws.proofs.Ints.{Dif, v, lit, _⊕_, _⊖_, low, eq-by, yes-le, fits-by}
 use Rattle.laws.proofs.Tests.{both}
 use Rattle.bits.specs.declared.reader.Reader.{Reader}
-use Rattle.bits.specs.Programs.{bits, reads, skips, nonZero, many, done}
-use Rattle.bits.specs.Runs.{Runs, Inside, Reading, bitsLeft}
+use Rattle.bits.specs.Programs.{bits, readAtMost32, skips, nonZero, streamFuel, done}
+use Rattle.bits.specs.Runs.{Runs, ReaderInBounds, RunsInBounds, bitsLeft}
 use Rattle.bits.proofs.Gives.{given-by, g-bits}
 use Rattle.bits.proofs.Rules.{Loops, loop-start, loop-on, loop-end, takes-less, r-call, r-yes, r-no, r-done, r-reads}
 use Rattle.picture_state.specs.State.{SliceState, sliceState}
@@ -33,24 +33,24 @@ use Rattle.slice.proofs.Fuel.{extra-takes, slice-takes}
 use Rattle.picture_state.specs.declared.types.{Context.Context, Matrices.Matrices, Slice.Slice, Progress.Progress}
 use Rattle.slice.specs.Contracts.{sliceStepOf, macroblocks, RefinesAfterMacroblock, RefinesMacroblocks}
 use Rattle.picture_state.specs.Contracts.{Exit, exit, numbered, numberedStep, RunsAs, RunsNumbered, StoreFits, ReadInvariant, RefinesInSlice}
-use Rattle.macroblock.specs.Contracts.{AddressAdds, IncrementInvariant}
-use Rattle.picture_state.proofs.Results.{t-done, t-yes, t-no, t-call, numbered-ok, error-is-not-ok, loop-left, step-continues, way-out}
+use Rattle.macroblock.specs.Contracts.{AddressSumBound, IncrementInvariant}
+use Rattle.picture_state.proofs.Results.{t-done, t-yes, t-no, t-call, numbered-ok, error-is-not-ok, loop-left, step-continues, nonzero-is-error}
 
 -- ---- the extra bytes
 
 pub record AtExtra (s : List ℕ) (from₀ from : Reader) : Type 0 where
-  pub inside : Inside s from
-  pub rest : Loops many extraStep tt tt s from₀ tt from (bitsLeft s from)
+  pub inside : ReaderInBounds s from
+  pub rest : Loops streamFuel extraStep tt tt s from₀ tt from (bitsLeft s from)
 
-pub at-extra : {s : List ℕ} {from : Reader} → Inside s from → AtExtra s from from
+pub at-extra : {s : List ℕ} {from : Reader} → ReaderInBounds s from → AtExtra s from from
 at-extra i = record { inside = i; rest = loop-start (omega (arith, i .stream)) }
 
-module _ {s : List ℕ} {from₀ from to : Reader} (i : AtExtra s from₀ from) {b : ℕ} (r : Reading (bits 1) s from b to) where
-  pub extra-end : b ≡ 0 → Reading extra s from₀ tt to
+module _ {s : List ℕ} {from₀ from to : Reader} (i : AtExtra s from₀ from) {b : ℕ} (r : RunsInBounds (bits 1) s from b to) where
+  pub extra-end : b ≡ 0 → RunsInBounds extra s from₀ tt to
   unfolding extra extraStep
   extra-end h = record { runs = loop-end (i .rest) (r-call _ (r .runs) (r-yes _ (eq-eqb b 0 h) r-done)); inside = r .inside }
 
-  module _ (h : b ≡ 0 → ⊥) {next : Reader} (q : Reading (skips 8) s to tt next) where
+  module _ (h : b ≡ 0 → ⊥) {next : Reader} (q : RunsInBounds (skips 8) s to tt next) where
     extra-step : Runs (extraStep tt) s from (continue tt) next
     unfolding extraStep
     extra-step = r-call _ (r .runs) (r-no _ (ne-eqb b 0 h) (r-call _ (q .runs) r-done))
@@ -81,7 +81,8 @@ module _ (number width : ℕ) (h : number ≤ 175) (k : width ≤ 256) where
   start-is = toZ-ofZ start-fits ∙ eq-by start-dif (lit ((number - 1) * width) ⊖ lit 1) refl
 
 module _ {s : List ℕ} {reader from to : Reader} {g : Context} {x : Slice} {left : List ℤ} {store : List ℕ} (k : ReadInvariant s reader x left)
-    (held : StoreFits g store) (number : ℕ) (h : number ≤ 175) {q : ℕ} (r : Reading (reads 5) s reader q from) (e : Reading extra s from tt to) where
+    (held : StoreFits g store) (number : ℕ) (h : number ≤ 175) {q : ℕ} (r : RunsInBounds (readAtMost32 5) s reader q from)
+    (e : RunsInBounds extra s from tt to) where
   scale-read : Runs (bits 5) s reader q from
   scale-read = r-reads 5 (omega arith) (r .runs)
 
@@ -115,7 +116,7 @@ module _ {s : List ℕ} {reader from to : Reader} {g : Context} {x : Slice} {lef
 
 -- ---- behind a macroblock
 
-pub adds-one : {x : Slice} → PossibleSlice x → AddressAdds (x .«macroblock_address») 1
+pub adds-one : {x : Slice} → PossibleSlice x → AddressSumBound (x .«macroblock_address») 1
 adds-one {x} k =
     let a = x .«macroblock_address» in
     let b = between-of 1 402700000 (v a) (k .address) in
@@ -126,21 +127,21 @@ module _ {g : Context} {s : List ℕ} {reader : Reader} {x : Slice} {n : ℕ} wh
   unfolding afterMacroblock
   goes-stop h =
       record {
-        runs = λ w left store k. left-so w (sliceState x left store) store (k ∙ way-out (sliceState x left store) store h);
+        runs = λ w left store k. left-so w (sliceState x left store) store (k ∙ nonzero-is-error (sliceState x left store) store h);
         later = λ z. absurd (false≢true z);
       }
     where
       left-so : (w : Result Stop SliceState) (y : SliceState) (store : List ℕ) → numbered w ≡ error (exit n store)
           → RunsAs numberedStep (afterMacroblock g w) s reader (sliceStepOf false n y store) reader
       left-so (ok v) y store k = absurd (error-is-not-ok (sym k))
-      left-so (error e) y store k = t-done (ap finish (k ∙ sym (way-out y store h)))
+      left-so (error e) y store k = t-done (ap finish (k ∙ sym (nonzero-is-error y store h)))
 
   pub goes-last : n ≡ 0 → leZ (pos (g .sizes .«mb_size»)) (x .«macroblock_address» +ℤ pos 1) ≡ true → RefinesAfterMacroblock g s reader x n false
   unfolding afterMacroblock
   goes-last z e = record { runs = λ w left store k. rw (z, numbered-ok w (rw z at k)) (t-yes _ e (t-done refl)); later = λ z. absurd (false≢true z) }
 
   pub goes-more : n ≡ 0 → leZ (pos (g .sizes .«mb_size»)) (x .«macroblock_address» +ℤ pos 1) ≡ false → {more : Bool} {to : Reader}
-      → Reading (nonZero 23) s reader more to → to ≡ reader → RefinesAfterMacroblock g s reader x n more
+      → RunsInBounds (nonZero 23) s reader more to → to ≡ reader → RefinesAfterMacroblock g s reader x n more
   unfolding afterMacroblock
   goes-more z e {more} r same =
       record {
@@ -162,7 +163,7 @@ pub record AtMacroblock (g : Context) (m : Matrices) (s : List ℕ) (from₀ : R
   pub awaits : IncrementInvariant g s from first x left store
   pub long : length store ≡ length store₀
   pub rest : (w₀ : Result Stop SliceState)
-      → Loops many (sliceStep g m) w₀ (sliceLoopState true (sliceState x₀ left₀ store₀)) s from₀
+      → Loops streamFuel (sliceStep g m) w₀ (sliceLoopState true (sliceState x₀ left₀ store₀)) s from₀
       (sliceLoopState first (sliceState x left store)) from (bitsLeft s from)
 
 pub at-macroblock : {g : Context} {m : Matrices} {s : List ℕ} {from : Reader} {x : Slice} {left : List ℤ} {store : List ℕ}

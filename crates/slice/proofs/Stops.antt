@@ -4,7 +4,7 @@ use mathlib.Core.Bool.{Bool, true, false}
 use mathlib.Core.List.{List}
 use Prim.Native.Nat.{ℕ, zero, suc}
 use Rattle.laws.specs.Loops.{Step, continue, finish}
-use Rattle.bits.specs.Programs.{Prog, Out, done, run, bind, bits, nonZero, loop, continueWith, many}
+use Rattle.bits.specs.Programs.{Prog, RunResult, done, run, bind, bits, nonZero, loop, continueWith, streamFuel}
 use Rattle.bits.proofs.Programs.{run-bind}
 use Rattle.bits.proofs.Gives.{Gives, OnStep, g-done, g-any, g-bind, g-if}
 use Rattle.bits.proofs.Rules.{loop-suc}
@@ -32,13 +32,13 @@ module _ (g : Context) (m : Matrices) (s : List ℕ) where
       g-if (isLast g w) (λ q. g-done tt) (λ q. g-bind _ (g-any (nonZero 23)) (λ more u. g-if more (λ q. g-done tt) (λ q. g-done tt)))
 
   module _ (x : SliceLoopState) (a : ℕ) where
-    abbrev read : Out (Result Stop SliceState)
+    abbrev read : RunResult (Result Stop SliceState)
     read = run (macroblock g m (x .first) (x .sliceState)) s a
 
     step-run : run (sliceStep g m x) s a .value ≡ run (afterMacroblock g (read .value)) s (read .at) .value
     unfolding sliceStep
     step-run =
-        ap (λ (o : Out (Step SliceLoopState (Result Stop SliceState))). o .value)
+        ap (λ (o : RunResult (Step SliceLoopState (Result Stop SliceState))). o .value)
         (run-bind (macroblock g m (x .first) (x .sliceState)) (afterMacroblock g) s a)
 
     step-stopped : {e : Stop} → run (sliceStep g m x) s a .value ≡ finish (error e) → MacroblockStop g m (x .sliceState) s a e (x .first)
@@ -62,11 +62,11 @@ module _ (g : Context) (m : Matrices) (s : List ℕ) where
     looped n = loop n (sliceStep g m) (ok d)
 
     -- behind a step
-    abbrev on : ℕ → Out (Step SliceLoopState (Result Stop SliceState)) → Result Stop SliceState
+    abbrev on : ℕ → RunResult (Step SliceLoopState (Result Stop SliceState)) → Result Stop SliceState
     on n o = run (continueWith (looped n) (o .value)) s (o .at) .value
 
     looped-run : (n : ℕ) (x : SliceLoopState) (a : ℕ) → run (looped (suc n) x) s a .value ≡ on n (run (sliceStep g m x) s a)
-    looped-run n x a = ap (λ (o : Out (Result Stop SliceState)). o .value) (loop-suc (suc n) n (sliceStep g m) (ok d) x s a refl)
+    looped-run n x a = ap (λ (o : RunResult (Result Stop SliceState)). o .value) (loop-suc (suc n) n (sliceStep g m) (ok d) x s a refl)
 
     looped-stopped : {e : Stop} (n : ℕ) (x : SliceLoopState) (a : ℕ) → run (looped n x) s a .value ≡ error e → MacroblocksStop g m s e n x a
     unfolding loop run
@@ -79,7 +79,7 @@ module _ (g : Context) (m : Matrices) (s : List ℕ) where
             → ((y : SliceLoopState) (b : ℕ) → run (looped n y) s b .value ≡ error e → MacroblocksStop g m s e n y b) → MacroblocksStop g m s e (suc n) x a
         go (continue y) b q k again = later q (again y b k)
         go (finish v) b q k again =
-            here (step-stopped x a (ap (λ (o : Out (Step SliceLoopState (Result Stop SliceState))). o .value) q ∙ ap finish k))
+            here (step-stopped x a (ap (λ (o : RunResult (Step SliceLoopState (Result Stop SliceState))). o .value) q ∙ ap finish k))
 
     looped-stops : {e : Stop} {n : ℕ} {x : SliceLoopState} {a : ℕ} → MacroblocksStop g m s e n x a → run (looped n x) s a .value ≡ error e
     unfolding run
@@ -91,15 +91,15 @@ module _ (g : Context) (m : Matrices) (s : List ℕ) where
 
 module _ (g : Context) (m : Matrices) (number : ℕ) (w : SliceState) (s : List ℕ) (a : ℕ) where
   slice-run : run (slice g m number w) s a .value
-      ≡ run (loop many (sliceStep g m) (ok w) (sliceLoopState true (withSlice (sliceStart g number (scaleAt s a .value) (w .slice)) w))) s
+      ≡ run (loop streamFuel (sliceStep g m) (ok w) (sliceLoopState true (withSlice (sliceStart g number (scaleAt s a .value) (w .slice)) w))) s
       (extraAt s a .at) .value
   unfolding slice
   slice-run =
-      ap (λ (o : Out (Result Stop SliceState)). o .value) (run-bind (bits 5) _ s a ∙ run-bind extra _ s (scaleAt s a .at))
+      ap (λ (o : RunResult (Result Stop SliceState)). o .value) (run-bind (bits 5) _ s a ∙ run-bind extra _ s (scaleAt s a .at))
 
   -- RULES Q8, Q9
   pub slice-stopped : {e : Stop} → run (slice g m number w) s a .value ≡ error e → SliceStop g m number w s a e
-  slice-stopped h = looped-stopped g m s w many _ (extraAt s a .at) (sym slice-run ∙ h)
+  slice-stopped h = looped-stopped g m s w streamFuel _ (extraAt s a .at) (sym slice-run ∙ h)
 
   pub slice-stops : {e : Stop} → SliceStop g m number w s a e → run (slice g m number w) s a .value ≡ error e
   slice-stops k = slice-run ∙ looped-stops g m s w k

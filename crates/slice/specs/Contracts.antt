@@ -7,7 +7,7 @@ use lib.IntN.{ℤ, pos, _+ℤ_}
 use lib.Signed.{leZ}
 use Rattle.laws.specs.Loops.{Step, continue, finish}
 use Rattle.bits.specs.declared.reader.Reader.{Reader}
-use Rattle.bits.specs.Programs.{Prog, loop, many}
+use Rattle.bits.specs.Programs.{Prog, loop, streamFuel}
 use Rattle.picture_state.specs.declared.types.{Context.Context, Matrices.Matrices, Progress.Progress, Slice.Slice}
 use Rattle.picture_state.specs.State.{SliceState, sliceState}
 use Rattle.picture_state.specs.Result.{Result}
@@ -22,7 +22,7 @@ sliceStepOf false n w l = finish (resultOf n w l)
 
 -- the macroblocks of a slice; the result w₀ that the loop would give with its fuel spent does not matter
 abbrev pub macroblocks : Context → Matrices → Result Stop SliceState → SliceState → Prog (Result Stop SliceState)
-macroblocks g m w₀ w = loop many (sliceStep g m) w₀ (sliceLoopState true w)
+macroblocks g m w₀ w = loop streamFuel (sliceStep g m) w₀ (sliceLoopState true w)
 
 -- whether a slice goes on behind a macroblock, whatever coefficients and store there are
 pub record RefinesAfterMacroblock (g : Context) (s : List ℕ) (reader : Reader) (x : Slice) (n : ℕ) (more : Bool) : Type 0 where

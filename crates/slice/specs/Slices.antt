@@ -6,7 +6,7 @@ use lib.IntN.{pos, _+ℤ_, _-ℤ_}
 use lib.ListN.{replicate}
 use lib.Signed.{leZ}
 use Rattle.laws.specs.Loops.{Step, continue, finish}
-use Rattle.bits.specs.Programs.{Prog, done, bind, bits, skips, nonZero, loop, many, _>>=_, _>>_, if_then_else_}
+use Rattle.bits.specs.Programs.{Prog, done, bind, bits, skips, nonZero, loop, streamFuel, _>>=_, _>>_, if_then_else_}
 use Rattle.picture_state.specs.declared.types.{Context.Context, Matrices.Matrices, Slice.Slice}
 use Rattle.picture_state.specs.State.{SliceState, withSlice, zeroed}
 use Rattle.picture_state.specs.Result.{Result, ok, error}
@@ -23,7 +23,7 @@ extraStep x = do
 
 -- RULES 7.5 (11172-2, 2.4.2.6, extra_information_slice): until the bit is 0
 unfoldable pub extra : Prog (Unit {0})
-extra = loop many extraStep tt tt
+extra = loop streamFuel extraStep tt tt
 
 -- RULES 7.4, 7.6: the address has reached the last macroblock
 abbrev pub isLast : Context → SliceState → Bool
@@ -67,4 +67,4 @@ unfoldable pub slice : Context → Matrices → ℕ → SliceState → Prog (Res
 slice g m number w = do
   q ← bits 5
   extra
-  loop many (sliceStep g m) (ok w) (sliceLoopState true (withSlice (sliceStart g number q (w .slice)) w))
+  loop streamFuel (sliceStep g m) (ok w) (sliceLoopState true (withSlice (sliceStart g number q (w .slice)) w))

@@ -4,7 +4,7 @@ use mathlib.Core.Bool.{true}
 use mathlib.Core.List.{List}
 use Prim.Native.Nat.{ℕ, suc}
 use Rattle.laws.specs.Loops.{continue}
-use Rattle.bits.specs.Programs.{Out, run, bits, many}
+use Rattle.bits.specs.Programs.{RunResult, run, bits, streamFuel}
 use Rattle.picture_state.specs.declared.types.{Context.Context, Matrices.Matrices}
 use Rattle.picture_state.specs.State.{SliceState, withSlice}
 use Rattle.picture_state.specs.Stop.{Stop}
@@ -18,13 +18,13 @@ pub data MacroblocksStop (g : Context) (m : Matrices) (s : List ℕ) (e : Stop) 
       → MacroblocksStop g m s e (suc n) x a
 
 -- RULES 7.5: what a slice reads from the place a on, before its macroblocks
-abbrev pub scaleAt : List ℕ → ℕ → Out ℕ
+abbrev pub scaleAt : List ℕ → ℕ → RunResult ℕ
 scaleAt s a = run (bits 5) s a
 
-abbrev pub extraAt : List ℕ → ℕ → Out (Unit {0})
+abbrev pub extraAt : List ℕ → ℕ → RunResult (Unit {0})
 extraAt s a = run extra s (scaleAt s a .at)
 
 -- RULES 7.5, 7.6: a macroblock of the slice with this number stops
 abbrev pub SliceStop : Context → Matrices → ℕ → SliceState → List ℕ → ℕ → Stop → Type 0
 SliceStop g m number w s a e =
-    MacroblocksStop g m s e many (sliceLoopState true (withSlice (sliceStart g number (scaleAt s a .value) (w .slice)) w)) (extraAt s a .at)
+    MacroblocksStop g m s e streamFuel (sliceLoopState true (withSlice (sliceStart g number (scaleAt s a .value) (w .slice)) w)) (extraAt s a .at)

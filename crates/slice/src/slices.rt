@@ -10,18 +10,18 @@ use picture_state::types::Slice;
 ghost use mathlib.Core.Path.{_≡_};
 ghost use mathlib.Core.Bool.{true};
 ghost use Prim.Native.Nat.{_≤_};
-ghost use Rattle.bits.specs.Runs.{Inside, Reading};
-ghost use Rattle.codes.specs.Lent.{Lent};
+ghost use Rattle.bits.specs.Runs.{ReaderInBounds, RunsInBounds};
+ghost use Rattle.codes.specs.DecodingTables.{DecodingTables};
 ghost use Rattle.picture_state.specs.State.{sliceState};
 ghost use Rattle.slice.specs.Slices.{extra, sliceStart, slice};
 ghost use Rattle.picture_state.specs.Contracts.{matricesIn, StoreFits, ReadInvariant, RefinesInSlice};
 ghost use Rattle.slice.specs.Contracts.{macroblocks, RefinesAfterMacroblock, RefinesMacroblocks};
-ghost use Rattle.macroblock.specs.Contracts.{AddressAdds, IncrementInvariant};
+ghost use Rattle.macroblock.specs.Contracts.{AddressSumBound, IncrementInvariant};
 
 // RULES 7.5: while one bit read is 1, 8 bits are passed over.
 fn skip_extra(s: &[u8], reader: Reader) -> Reader
-    requires { ⌜ Inside (now s) reader ⌝ }
-    ensures { λ r. ⌜ Reading extra (now (s .entry)) reader tt r ⌝ }
+    requires { ⌜ ReaderInBounds (now s) reader ⌝ }
+    ensures { λ r. ⌜ RunsInBounds extra (now (s .entry)) reader tt r ⌝ }
 {
     let mut from = reader;
     loop {
@@ -54,9 +54,9 @@ fn slice_start(g: Context, number: usize, scale: u32, state: Slice) -> Slice
 
 // RULES 7.6: whether another macroblock follows. The slice ends at the last macroblock, or where the next 23 bits are all 0 or not there.
 fn goes_on(s: &[u8], reader: Reader, g: Context, state: Slice, stop: u32) -> bool
-    requires { ⌜ Inside (now s) reader ⌝ }
+    requires { ⌜ ReaderInBounds (now s) reader ⌝ }
     requires { ⌜ g .sizes .«mb_size» ≤ 65536 ⌝ }
-    requires { ⌜ AddressAdds (state .«macroblock_address») 1 ⌝ }
+    requires { ⌜ AddressSumBound (state .«macroblock_address») 1 ⌝ }
     ensures { λ r. ⌜ RefinesAfterMacroblock g (now (s .entry)) reader state stop r ⌝ }
 {
     if stop != 0 {
@@ -80,7 +80,7 @@ fn read_macroblocks(
     before: Slice,
 ) -> Progress
     requires { ⌜ IncrementInvariant g (now s) reader true before (now values) (now store) ⌝ }
-    requires { ⌜ Lent (now tables) ⌝ }
+    requires { ⌜ DecodingTables (now tables) ⌝ }
     ensures { λ r. ⌜
         RefinesMacroblocks (λ w₀. macroblocks g (matricesIn (now (tables .entry))) w₀ (sliceState before (now (values .entry)) (now (store .entry))))
         g (now (s .entry)) reader r (now (values .exit)) (now (store .exit))
@@ -118,7 +118,7 @@ pub fn read_slice(
 ) -> Progress
     requires { ⌜ ReadInvariant (now s) reader state (now values) ⌝ }
     requires { ⌜ StoreFits g (now store) ⌝ }
-    requires { ⌜ Lent (now tables) ⌝ }
+    requires { ⌜ DecodingTables (now tables) ⌝ }
     requires { ⌜ (1 ≤ number) × (number ≤ 175) ⌝ }
     ensures { λ r. ⌜
         RefinesInSlice (slice g (matricesIn (now (tables .entry))) number (sliceState state (now (values .entry)) (now (store .entry))))

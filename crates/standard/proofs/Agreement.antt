@@ -7,13 +7,13 @@ use Prim.Native.Nat.{ℕ, zero, suc, _<_}
 use native.Mathlib.Omega.{arith}
 use Rattle.laws.specs.Loops.{Step, continue, finish}
 use Rattle.bits.specs.Bits.{has, readAt}
-use Rattle.bits.specs.Programs.{Prog, Out, done, run, bind, loop, continueWith}
+use Rattle.bits.specs.Programs.{Prog, RunResult, done, run, bind, loop, continueWith}
 use Rattle.bits.specs.Programs as Programs
 use Rattle.bits.proofs.Programs.{run-bind}
 use Rattle.picture_state.specs.Result.{Result, ok, error, ifOk, bindResult, lift, fromResult, pure, forBelow}
 use Rattle.picture_state.specs.Stop.{Stop}
 use Rattle.picture_state.proofs.Runs.{run-lift}
-use Rattle.standard.specs.Standard.Words.{Forbidden, forbidden, conforms, shall, tableCode}
+use Rattle.standard.specs.Standard.Prelude.{Forbidden, forbidden, conforms, shall, tableCode}
 
 -- of what steps that read nothing give
 abbrev pub ResultMeets : {A B : Type 0} → (A → B → Type 0) → Result Forbidden A → Result Stop B → Type 0
@@ -50,13 +50,14 @@ module _ {A B : Type 0} {R : A → B → Type 0} {s : List ℕ} {a : ℕ} where
   a-step (error d) u h = record { is = tt }
 
   -- from what the two runs give
-  pub a-by : {p : Prog (Result Forbidden A)} {q : Prog (Result Stop B)} (o : Out (Result Forbidden A)) (u : Out (Result Stop B)) → run p s a ≡ o → run q s a ≡ u
+  pub a-by : {p : Prog (Result Forbidden A)} {q : Prog (Result Stop B)} (o : RunResult (Result Forbidden A)) (u : RunResult (Result Stop B)) → run p s a ≡ o
+      → run q s a ≡ u
       → Meets R (o .value) (o .at) (u .value) (u .at) → Agree R s a p q
   a-by o u d e h = record { is = rw (d, e) h }
 
   -- runs that are the same
   pub a-same : {p : Prog (Result Forbidden A)} {q r : Prog (Result Stop B)} → run q s a ≡ run r s a → Agree R s a p q → Agree R s a p r
-  a-same {p} e h = record { is = subst (λ (o : Out (Result Stop B)). Meets R (run p s a .value) (run p s a .at) (o .value) (o .at)) e (h .is) }
+  a-same {p} e h = record { is = subst (λ (o : RunResult (Result Stop B)). Meets R (run p s a .value) (run p s a .at) (o .value) (o .at)) e (h .is) }
 
 module _ {A B C D : Type 0} {R : A → B → Type 0} {Q : C → D → Type 0} {s : List ℕ} where
   pub a-bind : {a : ℕ} {p : Prog (Result Forbidden A)} {q : Prog (Result Stop B)} (f : A → Prog (Result Forbidden C)) (g : B → Prog (Result Stop D))
@@ -78,7 +79,7 @@ module _ {A C D : Type 0} {Q : C → D → Type 0} {s : List ℕ} {a : ℕ} wher
   pub a-lift : (p q : Prog A) (f : A → Prog (Result Forbidden C)) (g : A → Prog (Result Stop D)) → run p s a ≡ run q s a
       → Agree Q s (run p s a .at) (f (run p s a .value)) (g (run p s a .value)) → Agree Q s a (bindResult (lift p) f) (bindResult (lift q) g)
   a-lift p q f g e h =
-      a-by _ _ (run-lift p f s a) (run-lift q g s a ∙ ap (λ (o : Out A). run (g (o .value)) s (o .at)) (sym e)) (h .is)
+      a-by _ _ (run-lift p f s a) (run-lift q g s a ∙ ap (λ (o : RunResult A). run (g (o .value)) s (o .at)) (sym e)) (h .is)
 
 -- a rule of the standard
 module _ {C D : Type 0} {Q : C → D → Type 0} {s : List ℕ} {a : ℕ} where
@@ -158,17 +159,17 @@ module _ {S T A B : Type 0} (I : S → T → Type 0) (R : A → B → Type 0) (s
 -- ---- ours, step by step
 
 module _ {A B : Type 0} (p : Prog A) (k : A → Prog B) (s : List ℕ) (a : ℕ) where
-  pub lift-bind : _≡_ {A = Out (Result Stop B)} (run (lift (bind p k)) s a) (run (bindResult (lift p) (λ x. lift (k x))) s a)
+  pub lift-bind : _≡_ {A = RunResult (Result Stop B)} (run (lift (bind p k)) s a) (run (bindResult (lift p) (λ x. lift (k x))) s a)
   unfolding lift
   lift-bind =
-      run-bind (bind p k) _ s a ∙ ap (λ (o : Out B). run (done (ok (o .value))) s (o .at)) (run-bind p k s a)
+      run-bind (bind p k) _ s a ∙ ap (λ (o : RunResult B). run (done (ok (o .value))) s (o .at)) (run-bind p k s a)
       ∙ sym (run-bind (k (run p s a .value)) _ s (run p s a .at))
       ∙ sym (run-lift p (λ x. lift (k x)) s a)
 
 module _ {A B C : Type 0} (p : Prog A) (k : A → Prog B) (f : B → Prog (Result Stop C)) (s : List ℕ) (a : ℕ) where
   pub lift-bind-on : run (bindResult (lift (bind p k)) f) s a ≡ run (bindResult (lift p) (λ x. bindResult (lift (k x)) f)) s a
   lift-bind-on =
-      run-lift (bind p k) f s a ∙ ap (λ (o : Out B). run (f (o .value)) s (o .at)) (run-bind p k s a)
+      run-lift (bind p k) f s a ∙ ap (λ (o : RunResult B). run (f (o .value)) s (o .at)) (run-bind p k s a)
       ∙ sym (run-lift (k (run p s a .value)) f s (run p s a .at))
       ∙ sym (run-lift p (λ x. bindResult (lift (k x)) f) s a)
 

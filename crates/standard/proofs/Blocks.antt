@@ -18,10 +18,10 @@ use Rattle.bits.proofs.Gives.{g-bits}
 use Rattle.codes.specs.Matrices.{zigZag, downFrom, diagonals, premultiplierMatrix}
 use Rattle.codes.proofs.Values.{size-luminance-most, size-chrominance-most}
 use Rattle.coefficients.specs.declared.block.BlockEnd.{BlockEnd}
-use Rattle.coefficients.specs.declared.block.BlockEnd.the-variants.{Whole, Dropped, Outside}
-use Rattle.coefficients.specs.Dcs.{dcSize, dcDifference, dcInside, added}
+use Rattle.coefficients.specs.declared.block.BlockEnd.the-variants.{Complete, Dropped, DcOutOfRange}
+use Rattle.coefficients.specs.Dcs.{dcSize, dcDifference, dcInRange, added}
 use Rattle.coefficients.specs.Dequantise.{quantiser, dequantised}
-use Rattle.coefficients.specs.Syntax.{Pair, PairsEnd, pairsEnd, pairs, CodedBlock, coded, intraCoded, otherCoded, codedBlock}
+use Rattle.coefficients.specs.Syntax.{Pair, PairsEnd, pairsEnd, pairs, CodedBlock, coded, intraCoded, nonIntraCoded, codedBlock}
 use Rattle.coefficients.specs.Blocks as B
 use Rattle.coefficients.specs.Standard.{dctZZ0}
 use Rattle.coefficients.proofs.Standard.{dc-as-printed}
@@ -34,13 +34,13 @@ use Rattle.prediction.specs.Predict.{macroblockAt}
 use Rattle.prediction.specs.Planes.{planeOf, planeLength, planeStart}
 use Rattle.prediction.specs.Writers.{setConst, overwrite, addConst, addBlock, blockWidth, blockAddress}
 use Rattle.picture_state.specs.declared.types.{Context.Context, Matrices.Matrices}
-use Rattle.picture_state.specs.State.{SliceState, sliceState, predictorsAs, freshBlock}
+use Rattle.picture_state.specs.State.{SliceState, sliceState, withPredictors, freshBlock}
 use Rattle.picture_state.specs.Result.{Result, ok, error, ifOk, bindResult, lift, fromResult, pure}
 use Rattle.picture_state.specs.Stop.{Stop}
 use Rattle.picture_state.specs.Flags.{flag}
 use Rattle.blocks.specs.Blocks as O
 use Rattle.standard.specs.Standard as S
-use Rattle.standard.specs.Standard.Words.{Forbidden}
+use Rattle.standard.specs.Standard.Prelude.{Forbidden}
 use Rattle.standard.proofs.Agreement.{ResultIs, Agree, a-same, a-pure, a-lift, a-bind, a-shall, a-code, a-for, lift-bind, lift-bind-on}
 use Rattle.standard.proofs.Related.{Own, own, sliceOf, eights, Rule, coding}
 use Rattle.standard.specs.Rules.{times}
@@ -69,11 +69,11 @@ unfolding premultiplierMatrix
 times-zero = refl
 
 -- ours while the standard's is x
-abbrev filledOf : S.Filled → B.Filled
-filledOf x = B.filled (premultiplied (x .recon)) (x .n)
+abbrev filledOf : S.PartialBlock → B.BlockCoefficients
+filledOf x = B.blockCoefficients (premultiplied (x .recon)) (x .n)
 
 -- RULES 4.3: as long as no place but the first of the zig-zag order is used, all coefficients but that at place 0 are 0
-pub record Lone (x : S.Filled) : Type 0 where
+pub record Lone (x : S.PartialBlock) : Type 0 where
   pub zeros : x .n ≤ 1 → (k : ℕ) → 0 < k → getD (x .recon) k (pos 0) ≡ pos 0
 
 zeros-at : (n k : ℕ) → getD (replicate n (pos 0)) k (pos 0) ≡ pos 0
@@ -91,7 +91,7 @@ zig-zag-first : (n : ℕ) → n ≡ 0 → getD zigZag n 0 ≡ 0
 unfolding zigZag downFrom diagonals
 zig-zag-first n e = rw e
 
-lone-next : (x : S.Filled) (r : ℕ) (z : ℤ) → Lone x → Lone (record { recon = set (x .recon) (getD zigZag (x .n + r) 0) z; n = x .n + r + 1 })
+lone-next : (x : S.PartialBlock) (r : ℕ) (z : ℤ) → Lone x → Lone (record { recon = set (x .recon) (getD zigZag (x .n + r) 0) z; n = x .n + r + 1 })
 lone-next x r z l =
     record {
       zeros = λ h k p.
@@ -116,16 +116,16 @@ module _ (rule : Rule) (g : Context) (m : Matrices) (f b : S.Direction) (intra :
   abbrev their : S.Coding
   their = coding rule g m f b
 
-  abbrev placedOf : S.Filled → List Pair → B.Filled
-  placedOf x ps = B.allPlaced (quantiser intra scale) (O.matrixFor m intra) (filledOf x) ps
+  abbrev placedOf : S.PartialBlock → List Pair → B.BlockCoefficients
+  placedOf x ps = B.withPairs (quantiser intra scale) (O.matrixFor m intra) (filledOf x) ps
 
   -- what the standard makes of some pairs is what ours makes of them
-  record Placed (x : S.Filled) (ps : List Pair) (y : S.Filled) : Type 0 where
+  record Placed (x : S.PartialBlock) (ps : List Pair) (y : S.PartialBlock) : Type 0 where
     same : placedOf x ps ≡ filledOf y
     lone : Lone y
 
-  pairs-same : (x : S.Filled) (ps : List Pair) → Lone x → ResultIs (Placed x ps) (S.reconstructed their intra scale x ps)
-  unfolding S.reconstructed B.allPlaced
+  pairs-same : (x : S.PartialBlock) (ps : List Pair) → Lone x → ResultIs (Placed x ps) (S.reconstructed their intra scale x ps)
+  unfolding S.reconstructed B.withPairs
   pairs-same x [] l = record { same = refl; lone = l }
   pairs-same x (p ∷ ps) l =
       go (S.isLevel (p .level) && rule .rules .admitted intra (p .level) scale quant)
@@ -141,14 +141,14 @@ module _ (rule : Rule) (g : Context) (m : Matrices) (f b : S.Direction) (intra :
       theirs : ℤ
       theirs = rule .rules .dctRecon intra (p .level) scale quant
 
-      next : S.Filled
+      next : S.PartialBlock
       next = record { recon = set (x .recon) place theirs; n = x .n + p .run + 1 }
 
-      placed-same : theirs ≡ dequantised (quantiser intra scale) (p .level) quant → B.placed (quantiser intra scale) (O.matrixFor m intra) (filledOf x) p
+      placed-same : theirs ≡ dequantised (quantiser intra scale) (p .level) quant → B.withPair (quantiser intra scale) (O.matrixFor m intra) (filledOf x) p
           ≡ filledOf next
       placed-same e =
-          ap (λ (z : ℤ). B.filled (set (premultiplied (x .recon)) place (z *ℤ getD premultiplierMatrix place (pos 0))) (x .n + p .run + 1)) (sym e)
-          ∙ ap (λ (l : List ℤ). B.filled l (x .n + p .run + 1)) (sym (times-set (x .recon) premultiplierMatrix place theirs))
+          ap (λ (z : ℤ). B.blockCoefficients (set (premultiplied (x .recon)) place (z *ℤ getD premultiplierMatrix place (pos 0))) (x .n + p .run + 1)) (sym e)
+          ∙ ap (λ (l : List ℤ). B.blockCoefficients l (x .n + p .run + 1)) (sym (times-set (x .recon) premultiplierMatrix place theirs))
 
       go : (t : Bool) → (t ≡ true → theirs ≡ dequantised (quantiser intra scale) (p .level) quant)
           → ResultIs (Placed next ps) (S.reconstructed their intra scale next ps)
@@ -156,22 +156,24 @@ module _ (rule : Rule) (g : Context) (m : Matrices) (f b : S.Direction) (intra :
       go true k r =
           is-also (S.reconstructed their intra scale next ps) (λ y q.
           record {
-            same = ap (λ (z : B.Filled). B.allPlaced (quantiser intra scale) (O.matrixFor m intra) z ps) (placed-same (k refl))
+            same = ap (λ (z : B.BlockCoefficients). B.withPairs (quantiser intra scale) (O.matrixFor m intra) z ps) (placed-same (k refl))
                 ∙ q .same;
             lone = q .lone;
           }) r
       go false k r = tt
 
-  coefficients-same : (x : S.Filled) (p : PairsEnd) → Lone x → ResultIs (λ y. (p .end ≡ Whole) × Placed x (p .pairs) y) (S.coefficients their intra scale x p)
+  coefficients-same : (x : S.PartialBlock) (p : PairsEnd) → Lone x
+      → ResultIs (λ y. (p .end ≡ Complete) × Placed x (p .pairs) y) (S.coefficients their intra scale x p)
   coefficients-same x p l = go (p .end)
     where
-      all : Result Forbidden S.Filled
+      all : Result Forbidden S.PartialBlock
       all = S.reconstructed their intra scale x (p .pairs)
 
-      go : (e : BlockEnd) → ResultIs (λ y. (e ≡ Whole) × Placed x (p .pairs) y) (elim e [ Whole ↦ all | Dropped ↦ S.forbidden | Outside ↦ S.forbidden ])
-      go Whole = is-also all (λ y q. (refl, q)) (pairs-same x (p .pairs) l)
+      go : (e : BlockEnd) → ResultIs (λ y. (e ≡ Complete) × Placed x (p .pairs) y)
+          (elim e [ Complete ↦ all | Dropped ↦ S.forbidden | DcOutOfRange ↦ S.forbidden ])
+      go Complete = is-also all (λ y q. (refl, q)) (pairs-same x (p .pairs) l)
       go Dropped = tt
-      go Outside = tt
+      go DcOutOfRange = tt
 
 -- ---- the DC value
 
@@ -260,24 +262,26 @@ eight-add p z = eq-by ((8 ⊛ v p) ⊕ (8 ⊛ v z)) (8 ⊛ (v p ⊕ v z)) (omega
 eight-32 : (x : ℤ) → (pos 8 *ℤ x) *ℤ pos 32 ≡ x *ℤ pos 256
 eight-32 x = eq-by ((8 ⊛ v x) ⊗ lit 32) (v x ⊗ lit 256) (omega arith)
 
-eight-inside : (x : ℤ) → (leZ (negℤ (pos 2048)) (pos 8 *ℤ x) && leZ (pos 8 *ℤ x) (pos 2047)) ≡ true → dcInside x ≡ true
+eight-inside : (x : ℤ) → (leZ (negℤ (pos 2048)) (pos 8 *ℤ x) && leZ (pos 8 *ℤ x) (pos 2047)) ≡ true → dcInRange x ≡ true
 eight-inside x e =
     let b = both (leZ (negℤ (pos 2048)) (pos 8 *ℤ x)) (leZ (pos 8 *ℤ x) (pos 2047)) e in
     let l = le-yes (neg (lit 2048)) (8 ⊛ v x) (b .0) in
     let h = le-yes (8 ⊛ v x) (lit 2047) (b .1) in
     rw (yes-le (neg (lit 256)) (v x) (omega arith), yes-le (v x) (lit 255) (omega arith))
 
-begins : (x : ℤ) → B.filled (set (replicate 64 (pos 0)) 0 (x *ℤ pos 256)) 1 ≡ B.filled (premultiplied (set (replicate 64 (pos 0)) 0 (pos 8 *ℤ x))) 1
+begins : (x : ℤ) → B.blockCoefficients (set (replicate 64 (pos 0)) 0 (x *ℤ pos 256)) 1
+    ≡ B.blockCoefficients (premultiplied (set (replicate 64 (pos 0)) 0 (pos 8 *ℤ x))) 1
 unfolding premultiplierMatrix
 begins x =
-    ap (λ (l : List ℤ). B.filled l 1) (
+    ap (λ (l : List ℤ). B.blockCoefficients l 1) (
     ap (λ (z : ℤ). set (replicate 64 (pos 0)) 0 z) (sym (eight-32 x)) ∙ ap (λ (l : List ℤ). set l 0 (pos 8 *ℤ x *ℤ pos 32)) (sym times-zero)
     ∙ sym (times-set (replicate 64 (pos 0)) premultiplierMatrix 0 (pos 8 *ℤ x)))
 
 -- ---- the pels
 
 -- one number everywhere, or the transform: the standard's two cases are our four
-results-same : (intra : Bool) (scale : ℕ) (f : B.Filled) (di dw : ℕ) (d : List ℕ) → (f .n ≤ 1 → (k : ℕ) → 0 < k → getD (f .coefficients) k (pos 0) ≡ pos 0)
+results-same : (intra : Bool) (scale : ℕ) (f : B.BlockCoefficients) (di dw : ℕ) (d : List ℕ)
+    → (f .n ≤ 1 → (k : ℕ) → 0 < k → getD (f .coefficients) k (pos 0) ≡ pos 0)
     → cond intra (overwrite d di dw (idct (f .coefficients))) (addBlock d di dw (idct (f .coefficients))) ≡ O.results (quantiser intra scale) f di dw d
 unfolding O.results overwrite addBlock setConst addConst
 results-same intra scale f di dw d h = go intra (eqb (f .n) 1) (λ e. lone-dc c (λ k p q. h (omega (arith, eqb-true (f .n) 1 e)) k p))
@@ -302,7 +306,7 @@ results-same intra scale f di dw d h = go intra (eqb (f .n) 1) (λ e. lone-dc c 
         (λ y z p q. ap (λ (w : ℤ). clamp255 (pos (getD d (di + y * dw + z) 0) +ℤ w)) (getD-replicate 64 (y * 8 + z) x (pos 0) (omega arith)))
     go false false k = refl
 
-written-same : (rule : Rule) (g : Context) (m : Matrices) (f b : S.Direction) (intra : Bool) (scale i address : ℕ) (x : S.Filled) (l : List ℕ) → Lone x
+written-same : (rule : Rule) (g : Context) (m : Matrices) (f b : S.Direction) (intra : Bool) (scale i address : ℕ) (x : S.PartialBlock) (l : List ℕ) → Lone x
     → O.written g (quantiser intra scale) i address (filledOf x) l ≡ S.written (coding rule g m f b) intra i address x l
 unfolding O.written S.written
 written-same rule g m f b intra scale i address x l lone =
@@ -333,8 +337,8 @@ pub record Inter (g : S.Coding) (A : ℤ) (q : ℕ) (for back : S.Vector) (o : O
   pub past : x .past ≡ p
 
 -- ours of a whole block, while the standard's is y
-abbrev wholeOf : ℤ → S.Filled → B.BlockRead
-wholeOf predictor y = record { filled = filledOf y; predictor = predictor; end = Whole }
+abbrev wholeOf : ℤ → S.PartialBlock → B.BlockRead
+wholeOf predictor y = record { blockCoefficients = filledOf y; predictor = predictor; end = Complete }
 
 module _ (rule : Rule) (g : Context) (m : Matrices) (f b : S.Direction) (A : ℤ) (q : ℕ) (for back : S.Vector) (s : List ℕ) where
   abbrev pub G : S.Coding
@@ -345,16 +349,16 @@ module _ (rule : Rule) (g : Context) (m : Matrices) (f b : S.Direction) (A : ℤ
   ours o l = sliceState (sliceOf G A q for back o) freshBlock l
 
   -- behind block i the predictors are dcs, nothing is left over, and the pels are the standard's
-  block-ends : (intra : Bool) (i : ℕ) (o : Own) (predictor : ℤ) (dcs : List ℤ) (y : S.Filled) (l : List ℕ) (difference : ℤ) (r : B.BlockRead)
+  block-ends : (intra : Bool) (i : ℕ) (o : Own) (predictor : ℤ) (dcs : List ℤ) (y : S.PartialBlock) (l : List ℕ) (difference : ℤ) (r : B.BlockRead)
       → r ≡ wholeOf predictor y → Lone y
       → set (dcsOf o) (O.predictorOf i) predictor ≡ dcs
-      → O.blockEnd g (quantiser intra q) i (ours o l) difference r
-      ≡ ok (sliceState (predictorsAs dcs (sliceOf G A q for back o)) freshBlock (S.written G intra i (natAbs A) y l))
-  unfolding O.blockEnd B.blockDataAfter
+      → O.blockResult g (quantiser intra q) i (ours o l) difference r
+      ≡ ok (sliceState (withPredictors dcs (sliceOf G A q for back o)) freshBlock (S.written G intra i (natAbs A) y l))
+  unfolding O.blockResult B.blockDataAfter
   block-ends intra i o predictor dcs y l difference r e lone d =
       let pels = written-same rule g m f b intra q i (natAbs A) y l lone in
-      ap (O.blockEnd g (quantiser intra q) i (ours o l) difference) e
-      ∙ (λ j. ok (sliceState (predictorsAs (d j) (sliceOf G A q for back o)) freshBlock (pels j)))
+      ap (O.blockResult g (quantiser intra q) i (ours o l) difference) e
+      ∙ (λ j. ok (sliceState (withPredictors (d j) (sliceOf G A q for back o)) freshBlock (pels j)))
 
   -- intra block i; o has our predictors
   module _ (isFar : Bool) (i : ℕ) (h : i < 6) (x : S.Blocks) (o : Own) (before : leftOf isFar i (x .past) ≡ eights o) where
@@ -365,11 +369,11 @@ module _ (rule : Rule) (g : Context) (m : Matrices) (f b : S.Direction) (A : ℤ
     After = Intra isFar (suc i) G A q for back (o .forSet) (o .backSet)
 
     -- dct_recon with the DC value alone
-    abbrev dcFilled : ℤ → S.Filled
+    abbrev dcFilled : ℤ → S.PartialBlock
     dcFilled recon = record { recon = set (replicate 64 (pos 0)) 0 recon; n = 1 }
 
     -- the standard's steps behind the DC value
-    abbrev theirEnd : ℤ → S.Filled → Prog (Result Forbidden S.Blocks)
+    abbrev theirEnd : ℤ → S.PartialBlock → Prog (Result Forbidden S.Blocks)
     theirEnd recon y = pure (record { past = S.pastAs i recon (x .past); pels = S.written G true i (natAbs A) y (x .pels) })
 
     abbrev theirPairs : ℤ → Prog (Result Forbidden S.Blocks)
@@ -380,30 +384,30 @@ module _ (rule : Rule) (g : Context) (m : Matrices) (f b : S.Direction) (A : ℤ
     made c = B.reconstructed (quantiser true q) (m .«intra_quant_matrix») pred freshBlock c
 
     abbrev ourEnd : CodedBlock → Prog (Result Stop SliceState)
-    ourEnd c = fromResult (O.blockEnd g (quantiser true q) i (ours o (x .pels)) (c .difference) (made c))
+    ourEnd c = fromResult (O.blockResult g (quantiser true q) i (ours o (x .pels)) (c .difference) (made c))
 
     abbrev ourPairs : Bool → ℤ → Prog CodedBlock
-    ourPairs inside d = cond inside (bind (pairs 1) (λ p. done (coded d p))) (done (coded d (pairsEnd [] Outside)))
+    ourPairs inside d = cond inside (bind (pairs 1) (λ p. done (coded d p))) (done (coded d (pairsEnd [] DcOutOfRange)))
 
     -- the DC value is pred + d, and in its range
-    module _ (d : ℤ) (inside : dcInside (pred +ℤ d) ≡ true) where
+    module _ (d : ℤ) (inside : dcInRange (pred +ℤ d) ≡ true) where
       abbrev dc : ℤ
       dc = pred +ℤ d
 
       -- what the standard makes of the pairs p
-      abbrev Fills : PairsEnd → S.Filled → Type 0
-      Fills p y = (p .end ≡ Whole) × Placed rule g m f b true q (dcFilled (pos 8 *ℤ dc)) (p .pairs) y
+      abbrev Fills : PairsEnd → S.PartialBlock → Type 0
+      Fills p y = (p .end ≡ Complete) × Placed rule g m f b true q (dcFilled (pos 8 *ℤ dc)) (p .pairs) y
 
-      made-is : (p : PairsEnd) (y : S.Filled) → Fills p y → made (coded d p) ≡ wholeOf dc y
+      made-is : (p : PairsEnd) (y : S.PartialBlock) → Fills p y → made (coded d p) ≡ wholeOf dc y
       unfolding B.reconstructed
       made-is p y c =
-          let placed : B.Filled → B.Filled = λ z. B.allPlaced (quantiser true q) (m .«intra_quant_matrix») z (p .pairs) in
-          let read : Bool → B.BlockRead = λ t. cond (not t) (record { filled = B.filled freshBlock 0; predictor = pred; end = p .end })
-          (record { filled = placed (B.withDc dc freshBlock); predictor = dc; end = p .end }) in
-          let filled = ap placed (begins dc) ∙ c .1 .same in
-          ap read inside ∙ (λ j. record { filled = filled j; predictor = dc; end = c .0 j })
+          let placed : B.BlockCoefficients → B.BlockCoefficients = λ z. B.withPairs (quantiser true q) (m .«intra_quant_matrix») z (p .pairs) in
+          let read : Bool → B.BlockRead = λ t. cond (not t) (record { blockCoefficients = B.blockCoefficients freshBlock 0; predictor = pred; end = p .end })
+          (record { blockCoefficients = placed (B.withDc dc freshBlock); predictor = dc; end = p .end }) in
+          let blockCoefficients = ap placed (begins dc) ∙ c .1 .same in
+          ap read inside ∙ (λ j. record { blockCoefficients = blockCoefficients j; predictor = dc; end = c .0 j })
 
-      end-agrees : (p : PairsEnd) (y : S.Filled) (e : ℕ) → Fills p y → Agree After s e (theirEnd (pos 8 *ℤ dc) y) (ourEnd (coded d p))
+      end-agrees : (p : PairsEnd) (y : S.PartialBlock) (e : ℕ) → Fills p y → Agree After s e (theirEnd (pos 8 *ℤ dc) y) (ourEnd (coded d p))
       end-agrees p y e c =
           let n = ownAs i dc o in
           let t = component isFar (x .past) o dc i h before in
@@ -411,7 +415,7 @@ module _ (rule : Rule) (g : Context) (m : Matrices) (f b : S.Direction) (A : ℤ
           (sym (block-ends true i o dc (dcsOf n) y (x .pels) d (made (coded d p)) (made-is p y c) (c .1 .lone) (t .dcs))))
           (a-pure (record { y = n .y; cb = n .cb; cr = n .cr; is = refl; past = t .past }))
 
-      pairs-agree : (e : ℕ) → Agree After s e (theirPairs (pos 8 *ℤ dc)) (bindResult (lift (ourPairs (dcInside dc) d)) ourEnd)
+      pairs-agree : (e : ℕ) → Agree After s e (theirPairs (pos 8 *ℤ dc)) (bindResult (lift (ourPairs (dcInRange dc) d)) ourEnd)
       unfolding bindResult ifOk lift bind
       pairs-agree e =
           let from = dcFilled (pos 8 *ℤ dc) in
@@ -433,9 +437,9 @@ module _ (rule : Rule) (g : Context) (m : Matrices) (f b : S.Direction) (A : ℤ
     intra-agrees a =
         let theirs : ℤ → Prog (Result Forbidden S.Blocks) = λ recon.
         bindResult (S.shall (leZ (negℤ (pos 2048)) recon && leZ recon (pos 2047))) (λ z. theirPairs recon) in
-        a-same (sym (lift-bind-on (dcDifference (ltb i 4)) (λ d. ourPairs (dcInside (pred +ℤ d)) d) ourEnd s a)) (
+        a-same (sym (lift-bind-on (dcDifference (ltb i 4)) (λ d. ourPairs (dcInRange (pred +ℤ d)) d) ourEnd s a)) (
         a-bind _ _ (dc-agrees s i a) (λ zz d e c.
-        subst (λ (recon : ℤ). Agree After s e (theirs recon) (bindResult (lift (ourPairs (dcInside (pred +ℤ d)) d)) ourEnd)) (sym (recon-is zz d c))
+        subst (λ (recon : ℤ). Agree After s e (theirs recon) (bindResult (lift (ourPairs (dcInRange (pred +ℤ d)) d)) ourEnd)) (sym (recon-is zz d c))
         (a-shall _ _ (λ z. pairs-agree d (eight-inside (pred +ℤ d) z) e))))
 
   intra-block : (isFar fs bs : Bool) (i : ℕ) → i < 6 → (x : S.Blocks) (w : SliceState) (a : ℕ) → Intra isFar i G A q for back fs bs x w
@@ -446,22 +450,23 @@ module _ (rule : Rule) (g : Context) (m : Matrices) (f b : S.Direction) (A : ℤ
 
   inter-block : (o : Own) (p : S.Pasts) (i : ℕ) → i < 6 → (x : S.Blocks) (w : SliceState) (a : ℕ) → Inter G A q for back o p x w
       → Agree (Inter G A q for back o p) s a (S.nonIntraBlock G q (natAbs A) i x) (O.oneBlock g m false i w)
-  unfolding S.nonIntraBlock O.oneBlock codedBlock otherCoded B.reconstructed bindResult ifOk lift bind
+  unfolding S.nonIntraBlock O.oneBlock codedBlock nonIntraCoded B.reconstructed bindResult ifOk lift bind
   inter-block o past i h x w a r =
       let pred = getD (dcsOf o) (O.predictorOf i) (pos 0) in
       let Q = quantiser false q in
       let matrix = m .«non_intra_quant_matrix» in
       let E : CodedBlock → Prog (Result Stop SliceState) = λ c.
-      fromResult (O.blockEnd g Q i (ours o (x .pels)) (c .difference) (B.reconstructed Q matrix pred freshBlock c)) in
+      fromResult (O.blockResult g Q i (ours o (x .pels)) (c .difference) (B.reconstructed Q matrix pred freshBlock c)) in
       subst (λ (w : SliceState). Agree (Inter G A q for back o past) s a (S.nonIntraBlock G q (natAbs A) i x) (O.oneBlock g m false i w)) (sym (r .is)) (
       a-same (sym (lift-bind-on (pairs 0) (λ p. done (coded (pos 0) p)) E s a)) (
       a-lift (pairs 0) (pairs 0) _ _ refl (
       let p = run (pairs 0) s a .value in
-      let from : S.Filled = record { recon = replicate 64 (pos 0); n = 0 } in
+      let from : S.PartialBlock = record { recon = replicate 64 (pos 0); n = 0 } in
       a-way _ (S.coefficients G false q from p) _ (coefficients-same rule g m f b false q from p lone-begins) (λ y c.
-      let made : B.BlockRead = record { filled = B.allPlaced Q matrix (B.filled freshBlock 0) (p .pairs); predictor = pred; end = p .end } in
-      let filled = ap (λ (l : List ℤ). B.allPlaced Q matrix (B.filled l 0) (p .pairs)) (sym times-zero) ∙ c .1 .same in
-      let read : made ≡ wholeOf pred y = λ j. record { filled = filled j; predictor = pred; end = c .0 j } in
+      let made : B.BlockRead =
+      record { blockCoefficients = B.withPairs Q matrix (B.blockCoefficients freshBlock 0) (p .pairs); predictor = pred; end = p .end } in
+      let blockCoefficients = ap (λ (l : List ℤ). B.withPairs Q matrix (B.blockCoefficients l 0) (p .pairs)) (sym times-zero) ∙ c .1 .same in
+      let read : made ≡ wholeOf pred y = λ j. record { blockCoefficients = blockCoefficients j; predictor = pred; end = c .0 j } in
       a-same (ap (λ (w : Result Stop SliceState). run (fromResult w) s (run (pairs 0) s a .at))
       (sym (block-ends false i o pred (dcsOf o) y (x .pels) (pos 0) made read (c .1 .lone) (kept-dcs o i h))))
       (a-pure (record { is = refl; past = r .past }))))))

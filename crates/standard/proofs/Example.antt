@@ -30,7 +30,7 @@ use Rattle.picture_state.specs.Result.{Result, ok, error, andThen, ifOk, bindRe
 use Rattle.macroblock_head.specs.Heads.{macroblockType}
 use Rattle.slice.specs.Slices.{extraStep, extra}
 use Rattle.standard.specs.Standard as S
-use Rattle.standard.specs.Standard.Words.{Forbidden, conforms}
+use Rattle.standard.specs.Standard.Prelude.{Forbidden, conforms}
 use Rattle.standard.specs.Rules.{rust, printed}
 
 abbrev context : ℕ → Context

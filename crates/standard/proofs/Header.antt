@@ -12,7 +12,7 @@ use Rattle.picture_state.specs.Result.{Result, ok, ifOk, bindResult, lift, pure
 use Rattle.picture_state.specs.Stop.{Stop}
 use Rattle.picture.specs.Pictures as P
 use Rattle.standard.specs.Standard as S
-use Rattle.standard.specs.Standard.Words.{Forbidden}
+use Rattle.standard.specs.Standard.Prelude.{Forbidden}
 use Rattle.standard.proofs.Agreement.{Meets, Agree, a-same, a-pure, a-bind, a-shall, lift-bind}
 use Rattle.standard.proofs.Related.{motionOf}
 use Rattle.standard.proofs.Slice.{Begun}
@@ -43,7 +43,7 @@ module _ (s : List ℕ) where
 
   -- one direction: its f code is not 0, and our motion has its flag and vector
   record Directed (d : S.Direction) (x : P.Direction) : Type 0 where
-    code : P.isZero x ≡ false
+    code : P.hasZeroFCode x ≡ false
     motion : (m : Motion) → P.motionBy x m ≡ motionOf d (m .«is_set») (record { right = m .h; down = m .v })
 
   direction-agrees : (a : ℕ) → Agree Directed s a S.direction (lift (P.direction true))
@@ -74,7 +74,7 @@ module _ (s : List ℕ) where
       directed x f h = record { code = h; motion = λ m. rw h refl }
 
   -- what a header that the standard admits leaves of the picture p
-  pub record Headed (p : Picture) (h : S.Header) (x : P.PictureHeader) : Type 0 where
+  pub record HeadRead (p : Picture) (h : S.Header) (x : P.PictureHeader) : Type 0 where
     pub decoded : P.isDecoded x ≡ true
     pub type : x .«picture_coding_type» ≡ h .«picture_coding_type»
     pub begun : Begun (h .forward) (h .backward) (P.withPictureHeader x p .slice)
@@ -87,8 +87,8 @@ module _ (s : List ℕ) where
     abbrev ends : ℕ → S.Direction → S.Direction → Prog (Result Forbidden S.Header)
     ends type f b = bindResult (S.nextbits 1) (λ x. bindResult (S.shall (eqb x 0)) (λ z. pure (found-header type f b)))
 
-    ends-agree : {type : ℕ} {f b : S.Direction} {x : P.PictureHeader} {e : ℕ} → Headed p (found-header type f b) x
-        → Agree (Headed p) s e (ends type f b) (pure x)
+    ends-agree : {type : ℕ} {f b : S.Direction} {x : P.PictureHeader} {e : ℕ} → HeadRead p (found-header type f b) x
+        → Agree (HeadRead p) s e (ends type f b) (pure x)
     ends-agree {type} {f} {b} {x} {e} r = nextbits-their 1 e (λ y. bindResult (S.shall (eqb y 0)) (λ z. pure (found-header type f b)))
         (λ y. a-shall (eqb y 0) (λ z. pure (found-header type f b)) (λ z. a-pure r))
 
@@ -111,12 +111,12 @@ module _ (s : List ℕ) where
       made type f b = record { «temporal_reference» = t; «picture_coding_type» = type; «vbv_delay» = d; forward = f; backward = b }
 
       abbrev behind : ℕ → P.Direction → Prog P.PictureHeader
-      behind type f = bind (P.direction (eqb type 3 && not (P.isZero f))) (λ b. done (made type f b))
+      behind type f = bind (P.direction (eqb type 3 && not (P.hasZeroFCode f))) (λ b. done (made type f b))
 
       abbrev ours : ℕ → Prog P.PictureHeader
       ours type = bind (P.direction (eqb type 2 || eqb type 3)) (behind type)
 
-      i-header : (e : ℕ) → Agree (Headed p) s e (directions 1) (lift (ours 1))
+      i-header : (e : ℕ) → Agree (HeadRead p) s e (directions 1) (lift (ours 1))
       unfolding bindResult ifOk bind lift P.direction
       i-header e =
           ends-agree (record {
@@ -125,7 +125,7 @@ module _ (s : List ℕ) where
             begun = record { forSet = b .forSet; backSet = b .backSet; for = b .for; back = b .back; forward = b .forward; backward = b .backward };
           })
 
-      p-ends : (f : S.Direction) (y : P.Direction) (e : ℕ) → Directed f y → Agree (Headed p) s e (bindResult (pure db) (ends 2 f)) (lift (behind 2 y))
+      p-ends : (f : S.Direction) (y : P.Direction) (e : ℕ) → Directed f y → Agree (HeadRead p) s e (bindResult (pure db) (ends 2 f)) (lift (behind 2 y))
       unfolding bindResult ifOk bind lift P.direction
       p-ends f y e k =
           ends-agree (record {
@@ -141,10 +141,10 @@ module _ (s : List ℕ) where
             };
           })
 
-      p-header : (e : ℕ) → Agree (Headed p) s e (directions 2) (lift (ours 2))
+      p-header : (e : ℕ) → Agree (HeadRead p) s e (directions 2) (lift (ours 2))
       p-header e = a-same (sym (lift-bind (P.direction true) (behind 2) s e)) (a-bind _ _ (direction-agrees e) (λ f y e k. p-ends f y e k))
 
-      b-ends : (f g : S.Direction) (y z : P.Direction) (e : ℕ) → Directed f y → Directed g z → Agree (Headed p) s e (ends 3 f g) (lift (done (made 3 y z)))
+      b-ends : (f g : S.Direction) (y z : P.Direction) (e : ℕ) → Directed f y → Directed g z → Agree (HeadRead p) s e (ends 3 f g) (lift (done (made 3 y z)))
       unfolding bind lift
       b-ends f g y z e k l =
           ends-agree (record {
@@ -160,7 +160,7 @@ module _ (s : List ℕ) where
             };
           })
 
-      b-header : (e : ℕ) → Agree (Headed p) s e (directions 3) (lift (ours 3))
+      b-header : (e : ℕ) → Agree (HeadRead p) s e (directions 3) (lift (ours 3))
       b-header e =
           a-same (sym (lift-bind (P.direction true) (behind 3) s e)) (a-bind _ _ (direction-agrees e) (λ f y e k.
           let K : Bool → Prog P.PictureHeader = λ t. bind (P.direction (not t)) (λ b. done (made 3 y b)) in
@@ -168,12 +168,12 @@ module _ (s : List ℕ) where
           a-same (sym (lift-bind (P.direction true) (λ b. done (made 3 y b)) s e)) (
           a-bind _ _ (direction-agrees e) (λ g z e l. b-ends f g y z e k l)))))
 
-    pub header-agrees : (a : ℕ) → Agree (Headed p) s a (S.header df db) (lift P.pictureHeader)
+    pub header-agrees : (a : ℕ) → Agree (HeadRead p) s a (S.header df db) (lift P.pictureHeader)
     unfolding S.header P.pictureHeader
     header-agrees a =
         a-same (sym (lift-bind (bits 10) (λ t. bind (bits 3) (typed t)) s a)) (a-bind _ _ (field-bits 10 a) (λ x t e i.
         a-same (sym (lift-bind (bits 3) (typed t) s e)) (a-bind _ _ (field-bits 3 e) (λ type type′ e i.
-        subst (λ (u : ℕ). Agree (Headed p) s e (delayed type) (lift (typed t u))) i (
+        subst (λ (u : ℕ). Agree (HeadRead p) s e (delayed type) (lift (typed t u))) i (
         a-same (sym (lift-bind (bits 16) (λ d. ours t d type) s e)) (a-bind _ _ (field-bits 16 e) (λ x d e i.
         a-shall _ _ (λ h. by-type t d type e (eqb type 1) refl (eqb type 2) refl (eqb type 3) refl h))))))))
       where
@@ -184,7 +184,7 @@ module _ (s : List ℕ) where
         typed t type = bind (bits 16) (λ d. ours t d type)
 
         Fits : ℕ → ℕ → ℕ → ℕ → Type 0
-        Fits t d e type = Agree (Headed p) s e (directions type) (lift (ours t d type))
+        Fits t d e type = Agree (HeadRead p) s e (directions type) (lift (ours t d type))
 
         by-type : (t d type e : ℕ) (x : Bool) → eqb type 1 ≡ x → (y : Bool) → eqb type 2 ≡ y → (z : Bool) → eqb type 3 ≡ z → (x || y || z) ≡ true
             → Fits t d e type

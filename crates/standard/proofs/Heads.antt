@@ -17,13 +17,13 @@ use Rattle.motion.proofs.Correction.{corrected-in}
 use Rattle.motion.proofs.OneStep.{displacement-most, step-is}
 use Rattle.motion.proofs.Standard.{standard-step}
 use Rattle.picture_state.specs.declared.types.{Motion.Motion, Slice.Slice}
-use Rattle.picture_state.specs.State.{scaleAs, motionsAs, dcReset}
+use Rattle.picture_state.specs.State.{withScale, withMotions, dcReset}
 use Rattle.picture_state.specs.Result.{Result, ifOk, bindResult, lift, pure}
 use Rattle.picture_state.specs.Stop.{Stop}
 use Rattle.macroblock_head.specs.Heads as O
 use Rattle.picture_state.specs.Flags.{flag}
 use Rattle.standard.specs.Standard as S
-use Rattle.standard.specs.Standard.Words.{Forbidden}
+use Rattle.standard.specs.Standard.Prelude.{Forbidden}
 use Rattle.standard.proofs.Agreement.{Agree, a-same, a-pure, a-lift, a-bind, a-shall, a-code, a-as, lift-bind, lift-bind-on}
 use Rattle.standard.proofs.Related.{In, motionOf, Own, own, sliceOf}
 
@@ -79,16 +79,16 @@ module _ {s : List ℕ} where
       go false = a-pure (i, refl, λ z. refl)
 
   scale-agrees : (t : ℕ) (y : Slice) (a : ℕ)
-      → Agree (λ q z. z ≡ scaleAs q y) s a (cond (flag t 16) S.quantizerScale (pure (y .«quantizer_scale»))) (lift (O.scale t y))
+      → Agree (λ q z. z ≡ withScale q y) s a (cond (flag t 16) S.quantizerScale (pure (y .«quantizer_scale»))) (lift (O.scale t y))
   unfolding O.scale lift bind
   scale-agrees t y a = go (flag t 16)
     where
-      go : (b : Bool) → Agree (λ q z. z ≡ scaleAs q y) s a (cond b S.quantizerScale (pure (y .«quantizer_scale»)))
-          (lift (cond b (bind (bits 5) (λ q. done (scaleAs q y))) (done y)))
+      go : (b : Bool) → Agree (λ q z. z ≡ withScale q y) s a (cond b S.quantizerScale (pure (y .«quantizer_scale»)))
+          (lift (cond b (bind (bits 5) (λ q. done (withScale q y))) (done y)))
       go true =
           let q = run (bits 5) s a .value in
-          a-same (sym (lift-bind (bits 5) (λ q. done (scaleAs q y)) s a)) (
-          a-lift (bits 5) (bits 5) (λ q. bindResult (S.shall (not (eqb q 0))) (λ u. pure q)) (λ q. pure (scaleAs q y)) refl (
+          a-same (sym (lift-bind (bits 5) (λ q. done (withScale q y)) s a)) (
+          a-lift (bits 5) (bits 5) (λ q. bindResult (S.shall (not (eqb q 0))) (λ u. pure q)) (λ q. pure (withScale q y)) refl (
           a-shall (not (eqb q 0)) (λ u. pure q) (λ z. a-pure refl)))
       go false = a-pure refl
 
@@ -115,19 +115,19 @@ module _ {C D : Type 0} {Q : C → D → Type 0} {s : List ℕ} (g : S.Coding) (
       let rest : Bool → Slice → Prog Slice = λ b z. cond b (done (O.vectorsReset z)) (O.vectors (g .context .«picture_type») (dcReset z)) in
       a-same (sym (lift-bind-on (O.scale t x) (rest (flag t 1)) G s a)) (
       a-bind _ _ (scale-agrees t x a) (λ q z e w.
-      let u = scaleAs q x in
+      let u = withScale q x in
       let F′ = O.forward (g .context .«picture_type») (u .«motion_forward») in
       let B′ = O.backward (u .«motion_backward») in
       subst (λ (z : Slice). Agree Q s e (bindResult (S.forVector g t f) (λ f. bindResult (S.backVector g t b₀) (F q f)))
       (bindResult (lift (rest (flag t 1) z)) G))
       (sym w) (
       a-same (ap (λ (b : Bool). run (bindResult (lift (rest b u)) G) s e) (sym h)) (
-      a-same (sym (lift-bind-on F′ (λ f. bind B′ (λ b. done (motionsAs f b (dcReset u)))) G s e)) (
+      a-same (sym (lift-bind-on F′ (λ f. bind B′ (λ b. done (withMotions f b (dcReset u)))) G s e)) (
       a-bind _ _ (forward-agrees g t f e i) (λ f m e c.
-      a-same (sym (lift-bind-on B′ (λ b. done (motionsAs m b (dcReset u))) G s e)) (
+      a-same (sym (lift-bind-on B′ (λ b. done (withMotions m b (dcReset u))) G s e)) (
       a-bind _ _ (backward-agrees g t b₀ e j) (λ b n e d.
-      subst (λ (m : Motion). Agree Q s e (F q f b) (G (motionsAs m n (dcReset u)))) (sym (c .1)) (
-      subst (λ (n : Motion). Agree Q s e (F q f b) (G (motionsAs (motionOf (g .forward) (flag t 8) f) n (dcReset u)))) (sym (d .1)) (
+      subst (λ (m : Motion). Agree Q s e (F q f b) (G (withMotions m n (dcReset u)))) (sym (c .1)) (
+      subst (λ (n : Motion). Agree Q s e (F q f b) (G (withMotions (motionOf (g .forward) (flag t 8) f) n (dcReset u)))) (sym (d .1)) (
       k q f b e (c .0) (d .0) (c .2) (d .2)))))))))))
 
   -- intra: the standard keeps its vectors, and will not use them; ours are 0
@@ -144,7 +144,7 @@ module _ {C D : Type 0} {Q : C → D → Type 0} {s : List ℕ} (g : S.Coding) (
       subst (λ (z : Slice). Agree Q s e (bindResult (S.forVector g t f) (λ f. bindResult (S.backVector g t b₀) (F q f)))
       (bindResult (lift (rest (flag t 1) z)) G))
       (sym w) (
-      a-same (ap (λ (b : Bool). run (bindResult (lift (rest b (scaleAs q x))) G) s e) (sym h)) (go q e (eqb (g .context .«picture_type») 2)))))
+      a-same (ap (λ (b : Bool). run (bindResult (lift (rest b (withScale q x))) G) s e) (sym h)) (go q e (eqb (g .context .«picture_type») 2)))))
     where
       go : (q e : ℕ) (p : Bool) → Agree Q s e
           (bindResult (cond (flag t 8) (S.vector (g .forward) f) (cond p (pure S.zero-vector) (pure f)))

@@ -11,7 +11,7 @@ use Rattle.laws.specs.Loops.{Step, continue, finish}
 use Rattle.laws.proofs.Tests.{both}
 use Rattle.bits.specs.Bounds.{longestStream}
 use Rattle.bits.specs.Bits.{has, readAt}
-use Rattle.bits.specs.Programs.{Prog, Out, done, skip, run, bind, loop, continueWith, many}
+use Rattle.bits.specs.Programs.{Prog, RunResult, done, skip, run, bind, loop, continueWith, streamFuel}
 use Rattle.bits.proofs.Programs.{run-bind, next-has}
 use Rattle.bits.proofs.Rules.{loop-suc}
 use Rattle.codes.specs.Codes.{macroblockAddressIncrement}
@@ -21,7 +21,7 @@ use Rattle.picture_state.specs.Result.{Result, ok, ifOk, bindResult, lift, pure
 use Rattle.picture_state.specs.Stop.{Stop}
 use Rattle.macroblock_head.specs.Increments as O
 use Rattle.standard.specs.Standard as S
-use Rattle.standard.specs.Standard.Words.{Forbidden}
+use Rattle.standard.specs.Standard.Prelude.{Forbidden}
 use Rattle.macroblock_head.proofs.Fuel.{increment-fuel}
 use Rattle.standard.proofs.Agreement.{Meets, Agree, a-by, a-same}
 use Rattle.picture_state.proofs.Runs.{run-lift}
@@ -65,7 +65,7 @@ module _ (s : List ℕ) where
       → run (bindResult (bind p k) f) s a ≡ run (bindResult (k (run p s a .value)) f) s (run p s a .at)
   unfolding bindResult
   bind-bind p k f a =
-      run-bind (bind p k) (ifOk f) s a ∙ ap (λ (o : Out (Result Forbidden _)). run (ifOk f (o .value)) s (o .at)) (run-bind p k s a)
+      run-bind (bind p k) (ifOk f) s a ∙ ap (λ (o : RunResult (Result Forbidden _)). run (ifOk f (o .value)) s (o .at)) (run-bind p k s a)
       ∙ sym (run-bind (k (run p s a .value)) (ifOk f) s (run p s a .at))
 
   abbrev ours : ℕ → ℕ → Prog (Result Stop ℕ)
@@ -75,8 +75,8 @@ module _ (s : List ℕ) where
   unfolding lift
   on-by n m x y a e h r =
       run-bind (loop n O.incrementStep 0 x) _ s a
-      ∙ ap (λ (o : Out ℕ). run (done (ok (o .value))) s (o .at)) (loop-suc n m O.incrementStep 0 x s a h
-      ∙ ap (λ (o : Out (Step ℕ ℕ)). run (continueWith (loop m O.incrementStep 0) (o .value)) s (o .at)) r)
+      ∙ ap (λ (o : RunResult ℕ). run (done (ok (o .value))) s (o .at)) (loop-suc n m O.incrementStep 0 x s a h
+      ∙ ap (λ (o : RunResult (Step ℕ ℕ)). run (continueWith (loop m O.incrementStep 0) (o .value)) s (o .at)) r)
       ∙ sym (run-bind (loop m O.incrementStep 0 y) _ s e)
 
   end-by : (n m x v a e : ℕ) → n ≡ suc m → run (O.incrementStep x) s a ≡ record { value = finish v; at = e } → run (ours n x) s a
@@ -84,8 +84,8 @@ module _ (s : List ℕ) where
   unfolding lift run
   end-by n m x v a e h r =
       run-bind (loop n O.incrementStep 0 x) _ s a
-      ∙ ap (λ (o : Out ℕ). run (done (ok (o .value))) s (o .at)) (loop-suc n m O.incrementStep 0 x s a h
-      ∙ ap (λ (o : Out (Step ℕ ℕ)). run (continueWith (loop m O.incrementStep 0) (o .value)) s (o .at)) r)
+      ∙ ap (λ (o : RunResult ℕ). run (done (ok (o .value))) s (o .at)) (loop-suc n m O.incrementStep 0 x s a h
+      ∙ ap (λ (o : RunResult (Step ℕ ℕ)). run (continueWith (loop m O.incrementStep 0) (o .value)) s (o .at)) r)
 
   module _ (word : ℕ) (f : ℕ → ℕ) where
     -- the standard's turn by what it looks at
@@ -109,7 +109,7 @@ module _ (s : List ℕ) where
     unfolding S.whileStep run
     their-none x a h = ap (λ (h : Bool). run (looked h (eqb (readAt s a 11) word) x) s a) h
 
-    rest : {C : Type 0} → (ℕ → Prog (Result Forbidden C)) → (n : ℕ) → Out (Step ℕ (Result Forbidden ℕ)) → Out (Result Forbidden C)
+    rest : {C : Type 0} → (ℕ → Prog (Result Forbidden C)) → (n : ℕ) → RunResult (Step ℕ (Result Forbidden ℕ)) → RunResult (Result Forbidden C)
     rest F n o = run (bindResult (continueWith (loop n their S.forbidden) (o .value)) F) s (o .at)
 
   module _ {C : Type 0} {R : C → ℕ → Type 0} (word : ℕ) (f : ℕ → ℕ) (P : ℕ → Type 0) (kept : (x : ℕ) → P x → P (f x))
@@ -159,7 +159,7 @@ module _ (s : List ℕ) where
   abbrev final : ℕ → Prog (Result Forbidden ℕ)
   final x = bindResult (lift macroblockAddressIncrement) (λ c. bindResult (S.shall (leb 1 c && leb c 33)) (λ u. pure (x + c)))
 
-  ended : (x c e : ℕ) (b : Bool) → Out (Result Forbidden ℕ)
+  ended : (x c e : ℕ) (b : Bool) → RunResult (Result Forbidden ℕ)
   ended x c e b = run (bindResult (S.shall b) (λ u. pure (x + c))) s e
 
   last-code : (m x a : ℕ) → 1 ≤ m → Agree Increment s a (final x) (ours s m x)
@@ -178,16 +178,16 @@ module _ (s : List ℕ) where
           (refl, record { same = refl; some = omega (arith, small c h .2) })
       go false h = tt
 
-  both-loops : (m a : ℕ) → 2 * many < m → Agree Increment s a S.increment (ours s m 0)
+  both-loops : (m a : ℕ) → 2 * streamFuel < m → Agree Increment s a S.increment (ours s m 0)
   unfolding S.increment S.while
   both-loops m a l =
-      whiles s 15 (λ x. x) (λ x. x ≡ 0) (λ x z. z) (λ x a z h e. drops s a h x z e) _ many m 0 a (omega arith) refl (λ y e i z j.
-      rw z (whiles s 8 (λ x. x + 33) (λ x. Unit {0}) (λ x u. tt) (λ x a u h e. adds s a h x e) final many i 0 e (omega arith) tt
+      whiles s 15 (λ x. x) (λ x. x ≡ 0) (λ x z. z) (λ x a z h e. drops s a h x z e) _ streamFuel m 0 a (omega arith) refl (λ y e i z j.
+      rw z (whiles s 8 (λ x. x + 33) (λ x. Unit {0}) (λ x u. tt) (λ x a u h e. adds s a h x e) final streamFuel i 0 e (omega arith) tt
       (λ y e k u h. last-code k y e (omega arith))))
 
-  plains : (p q : Prog ℕ) (a : ℕ) → run p s a ≡ run q s a → _≡_ {A = Out (Result Stop ℕ)} (run (lift p) s a) (run (lift q) s a)
+  plains : (p q : Prog ℕ) (a : ℕ) → run p s a ≡ run q s a → _≡_ {A = RunResult (Result Stop ℕ)} (run (lift p) s a) (run (lift q) s a)
   unfolding lift
-  plains p q a e = run-bind p _ s a ∙ ap (λ (o : Out ℕ). run (done (ok (o .value))) s (o .at)) e ∙ sym (run-bind q _ s a)
+  plains p q a e = run-bind p _ s a ∙ ap (λ (o : RunResult ℕ). run (done (ok (o .value))) s (o .at)) e ∙ sym (run-bind q _ s a)
 
   pub increment-agrees : length s ≤ longestStream → (a : ℕ) → Agree Increment s a S.increment (lift O.increment)
-  increment-agrees l a = a-same (plains _ _ a (increment-fuel s l (3 * many) (omega arith) 0 a)) (both-loops (3 * many) a (omega arith))
+  increment-agrees l a = a-same (plains _ _ a (increment-fuel s l (3 * streamFuel) (omega arith) 0 a)) (both-loops (3 * streamFuel) a (omega arith))

@@ -26,7 +26,7 @@ use Rattle.macroblock_head.specs.Predictions as P
 use Rattle.blocks.specs.Blocks as O
 use Rattle.macroblock.specs.Macroblocks as M
 use Rattle.standard.specs.Standard as S
-use Rattle.standard.specs.Standard.Words.{Forbidden}
+use Rattle.standard.specs.Standard.Prelude.{Forbidden}
 use Rattle.picture_state.proofs.Runs.{run-lift}
 use Rattle.standard.proofs.Agreement.{Agree, a-by, a-pure, a-step, a-lift, a-bind, a-shall, a-after}
 use Rattle.standard.proofs.Related.{In, Own, own, sliceOf, eights, pastStart, forNext, backNext, Related, Rule, coding}
@@ -90,7 +90,7 @@ module _ (rule : Rule) (g : Context) (m : Matrices) (df db : S.Direction) (s : L
   theirRest intra pattern q for back =
       bindResult (fromResult (cond intra (ok l) (S.predicted G t (natAbs A) for back l))) (λ p.
       bindResult (cond pattern S.codedBlockPattern (pure 0)) (λ cbp.
-      bindResult (S.blocks G intra (S.far A x) cbp q (natAbs A) (record { past = x .past; pels = p })) (λ b. pure (after intra q for back b))))
+      bindResult (S.blocks G intra (S.noIntraJustBefore A x) cbp q (natAbs A) (record { past = x .past; pels = p })) (λ b. pure (after intra q for back b))))
 
   abbrev oursRest : Bool → Bool → Slice → Prog (Result Stop SliceState)
   oursRest intra pattern y =
@@ -104,8 +104,8 @@ module _ (rule : Rule) (g : Context) (m : Matrices) (df db : S.Direction) (s : L
   unfolding bindResult ifOk bind lift
   intra-rest q f b a y cb cr h1 h8 p =
       a-after (after true q f b)
-      (intra-blocks rule g m df db A q S.zero-vector S.zero-vector s (S.far A x) (flag t 8) (flag t 4) 0 _ _ a
-      (record { y = y; cb = cb; cr = cr; is = refl; past = left-six (S.far A x) (x .past) ∙ p })) (λ z w r.
+      (intra-blocks rule g m df db A q S.zero-vector S.zero-vector s (S.noIntraJustBefore A x) (flag t 8) (flag t 4) 0 _ _ a
+      (record { y = y; cb = cb; cr = cr; is = refl; past = left-six (S.noIntraJustBefore A x) (x .past) ∙ p })) (λ z w r.
       related G (after true q f b z) w (own (flag t 8) (flag t 4) (r .y) (r .cb) (r .cr)) S.zero-vector S.zero-vector (for-0 (eqb (g .«picture_type») 2))
       (rw h1 (back-0 (eqb (g .«picture_type») 3))) (zero-in df) (zero-in db) (r .is) refl refl
       (rw (no-lt (lit 1) (v A ⊕ lit 1 ⊖ v A) (omega arith)) (r .past)) (yes-le (v A) (v A) (omega arith)))
@@ -130,7 +130,7 @@ module _ (rule : Rule) (g : Context) (m : Matrices) (df db : S.Direction) (s : L
       a-bind _ _ (patterns (flag t 2) e) (λ cbp c e z.
       subst (λ (c : ℕ). Agree (Related G false) s e (theirBlocks p cbp) (ourBlocks p c)) z (
       a-after (after false q f b)
-      (inter-blocks rule g m df db A q f b s (S.far A x) (reset t) (x .past) cbp _ _ e (record { is = refl; past = refl })) (λ z w r.
+      (inter-blocks rule g m df db A q f b s (S.noIntraJustBefore A x) (reset t) (x .past) cbp _ _ e (record { is = refl; past = refl })) (λ z w r.
       related G (after false q f b z) w (reset t) f b (for-is (eqb (g .«picture_type») 2) kf (flag t 8) refl) (back-is (eqb (g .«picture_type») 3) refl)
       i j (r .is) refl refl
       (rw (yes-lt (lit 1) (v (x .«previous_macroblock_address») ⊕ lit n ⊕ lit 1 ⊖ v (x .«past_intra_address»))
@@ -139,7 +139,8 @@ module _ (rule : Rule) (g : Context) (m : Matrices) (df db : S.Direction) (s : L
       (omega (arith, le-yes (v (x .«past_intra_address»)) (v (x .«previous_macroblock_address»)) order))))))))
     where
       theirBlocks : List ℕ → ℕ → Prog (Result Forbidden S.Variables)
-      theirBlocks p cbp = bindResult (S.blocks G false (S.far A x) cbp q (natAbs A) (record { past = x .past; pels = p })) (λ b′. pure (after false q f b b′))
+      theirBlocks p cbp = bindResult (S.blocks G false (S.noIntraJustBefore A x) cbp q (natAbs A) (record { past = x .past; pels = p }))
+          (λ b′. pure (after false q f b b′))
 
       afterPrediction : List ℕ → Prog (Result Forbidden S.Variables)
       afterPrediction p = bindResult (cond (flag t 2) S.codedBlockPattern (pure 0)) (theirBlocks p)

@@ -10,12 +10,12 @@ use Rattle.bits.specs.Bounds.{longestStream}
 use Rattle.bits.specs.Programs.{Prog, run, bind, eqZ}
 use Rattle.bits.proofs.Programs.{run-bind}
 use Rattle.picture_state.specs.declared.types.{Sizes.Sizes, Matrices.Matrices, Stores.Stores, Picture.Picture}
-use Rattle.picture_state.specs.State.{storesAs, freshBlock}
+use Rattle.picture_state.specs.State.{withStores, freshBlock}
 use Rattle.picture_state.specs.Result.{Result, error, bindResult, pure}
 use Rattle.picture_state.specs.Stop.{Stop}
 use Rattle.picture.specs.Pictures as P
 use Rattle.standard.specs.Standard as S
-use Rattle.standard.specs.Standard.Words.{Forbidden}
+use Rattle.standard.specs.Standard.Prelude.{Forbidden}
 use Rattle.standard.proofs.Agreement.{Agree, a-same, a-pure, a-bind, a-after, left-forbidden}
 use Rattle.picture_state.proofs.Runs.{run-lift}
 use Rattle.standard.proofs.Related.{Rule, coding}
@@ -52,11 +52,12 @@ module _ (rule : Rule) (s : List ℕ) (long : length s ≤ longestStream) (z : S
       t = q .stores
 
       q′ : Picture
-      q′ = storesAs (P.before t) q
+      q′ = withStores (P.rolesWhileReading t) q
 
-      go : (x : Bool) → Agree RefinesDecoded s e (theirs f b (q .«picture_type») (cond x t (P.before t)) (cond x t (P.after t)) (y .store))
+      go : (x : Bool) → Agree RefinesDecoded s e
+          (theirs f b (q .«picture_type») (cond x t (P.rolesWhileReading t)) (cond x t (P.rolesAfterReading t)) (y .store))
           (cond x (P.slices (P.contextOf z q) m y)
-          (bindResult (P.slices (P.contextOf z q′) m (P.withPicture q′ y)) (λ f. pure (P.withPicture (storesAs (P.after t) (f .picture)) f))))
+          (bindResult (P.slices (P.contextOf z q′) m (P.withPicture q′ y)) (λ f. pure (P.withPicture (withStores (P.rolesAfterReading t) (f .picture)) f))))
       go true =
           a-after _ (slices-agree rule (P.contextOf z q) m f b s long (q .«picture_type») t y e begun none refl refl)
           (λ l k r. record {
@@ -68,7 +69,7 @@ module _ (rule : Rule) (s : List ℕ) (long : length s ≤ longestStream) (z : S
             code = r .code;
           })
       go false =
-          a-bind _ _ (slices-agree rule (P.contextOf z q′) m f b s long (q .«picture_type») (P.before t) (P.withPicture q′ y) e begun none refl refl)
+          a-bind _ _ (slices-agree rule (P.contextOf z q′) m f b s long (q .«picture_type») (P.rolesWhileReading t) (P.withPicture q′ y) e begun none refl refl)
           (λ l k e r. a-pure (record {
             pels = r .shown .pels;
             stores = refl;

@@ -18,16 +18,17 @@ use Rattle.prediction.specs.declared.planes.Plane.{Plane}
 use Rattle.prediction.specs.declared.planes.Plane.the-variants.{Y, Cr, Cb}
 use Rattle.prediction.specs.declared.predict.Predicted.{Predicted}
 use Rattle.prediction.specs.declared.predict.Predicted.the-variants.{Done, Refused}
-use Rattle.prediction.specs.Predict.{BlockInPlane, blockOf, macroblockAt, width, height, bytes, address, fetch, predicted, chroma, inHalves}
-use Rattle.prediction.specs.Planes.{PlaneAfter, ofPlane, blockSize, macroblocks, planeStart, follow, thenPlane, ofStores, predictedPlanes}
+use Rattle.prediction.specs.Predict.{BlockInPlane, blockPositionOf, macroblockAt, width, height, bytes, address, predictionSource, predicted, chroma, inHalves}
+use Rattle.prediction.specs.Planes.{PlaneAfter, ofPlane, blockSize, macroblocks, planeStart, predictFromSource, andThenPlane, predictPlaneFromStore}
+use Rattle.prediction.specs.Planes.{predictedPlanes}
 use Rattle.prediction.specs.Samples.{storedSample}
-use Rattle.prediction.specs.Standard.{whole, chrominance, pel, interpolated, InPicture}
+use Rattle.prediction.specs.Standard.{wholeSamples, chrominance, pel, interpolated, InPicture}
 use Rattle.prediction.proofs.Standard as L
 use Rattle.picture_state.specs.Result.{Result, ok, error, andThen}
 use Rattle.picture_state.specs.Stop.{Stop}
 use Rattle.macroblock_head.specs.Predictions as P
 use Rattle.standard.specs.Standard as S
-use Rattle.standard.specs.Standard.Words.{Forbidden}
+use Rattle.standard.specs.Standard.Prelude.{Forbidden}
 use Rattle.standard.proofs.Agreement.{ResultMeets}
 use Rattle.standard.proofs.Related.{motionOf}
 
@@ -42,14 +43,14 @@ also-meets Q (error d) u f k h m = tt
 
 -- a refusal ends the prediction and leaves with 9
 refused-next : (n : ℕ) (o : PlaneAfter) (f : List ℕ → PlaneAfter)
-    → P.unlessRefused n (thenPlane o f) ≡ andThen (P.unlessRefused n o) (λ l. P.unlessRefused n (f l))
-unfolding P.unlessRefused thenPlane andThen
+    → P.unlessRefused n (andThenPlane o f) ≡ andThen (P.unlessRefused n o) (λ l. P.unlessRefused n (f l))
+unfolding P.unlessRefused andThenPlane andThen
 refused-next n o f = go (o .answer)
   where
     answered : Predicted → PlaneAfter
     answered a = record { plane = o .plane; h = o .h; v = o .v; store = o .store; answer = a }
 
-    go : (a : Predicted) → P.unlessRefused n (thenPlane (answered a) f) ≡ andThen (P.unlessRefused n (answered a)) (λ l. P.unlessRefused n (f l))
+    go : (a : Predicted) → P.unlessRefused n (andThenPlane (answered a) f) ≡ andThen (P.unlessRefused n (answered a)) (λ l. P.unlessRefused n (f l))
     go Done = refl
     go Refused = refl
 
@@ -99,8 +100,8 @@ module _ (p : BlockPosition) (size : (p .size ≡ 8) ⊎ (p .size ≡ 16)) (righ
 
   inside : InPicture p right down
   inside =
-      let rows = both (leZ (pos 0) (pos (p .row * p .size) +ℤ whole down)) _ (parts .1) in
-      let columns = both (leZ (pos 0) (pos (p .column * p .size) +ℤ whole right)) _ (parts .2) in
+      let rows = both (leZ (pos 0) (pos (p .row * p .size) +ℤ wholeSamples down)) _ (parts .1) in
+      let columns = both (leZ (pos 0) (pos (p .column * p .size) +ℤ wholeSamples right)) _ (parts .2) in
       record { top = le-is _ _ (rows .0); bottom = le-is _ _ (rows .1); left = le-is _ _ (columns .0); right = le-is _ _ (columns .1) }
 
   pels-same : (s d : List ℕ) (average : Bool)
@@ -113,12 +114,13 @@ module _ (p : BlockPosition) (size : (p .size ≡ 8) ⊎ (p .size ≡ 16)) (righ
 
 -- one plane
 plane-meets : (g : S.Coding) (n : ℕ) (m : Macroblock) (k : ℕ) (average : Bool) (q : Plane) (right down : ℤ) (l : List ℕ)
-    → ResultMeets _≡_ (S.predictedPlane g m k average q right down l) (P.unlessRefused n (ofStores m k (g .context .stores .cur) average q right down l))
-unfolding S.predictedPlane P.unlessRefused follow
+    → ResultMeets _≡_ (S.predictedPlane g m k average q right down l)
+    (P.unlessRefused n (predictPlaneFromStore m k (g .context .stores .cur) average q right down l))
+unfolding S.predictedPlane P.unlessRefused predictFromSource
 plane-meets g n m k average q right down l = go (S.inPicture p right down) refl
   where
     p : BlockPosition
-    p = blockOf m (blockSize q)
+    p = blockPositionOf m (blockSize q)
 
     from : ℕ
     from = planeStart k q (macroblocks m)
@@ -128,7 +130,7 @@ plane-meets g n m k average q right down l = go (S.inPicture p right down) refl
 
     go : (t : Bool) → S.inPicture p right down ≡ t
         → ResultMeets _≡_ (cond t (ok (putMid to (bytes p) l (S.pels p (midOf from (bytes p) l) (midOf to (bytes p) l) right down average))) S.forbidden)
-        (P.unlessRefused n (ofPlane q right down (follow (fetch p right down) p from to right down average l)))
+        (P.unlessRefused n (ofPlane q right down (predictFromSource (predictionSource p right down) p from to right down average l)))
     go true e =
         rw (L.is-copied (placed p (size-of q) right down e) right down (inside p (size-of q) right down e))
         (ap (putMid to (bytes p) l) (sym (pels-same p (size-of q) right down e (midOf from (bytes p) l) (midOf to (bytes p) l) average)))
@@ -143,12 +145,12 @@ from-meets g address k d set x average l =
     let right = inHalves (d .«full_pel_vector») (x .right) in
     let down = inHalves (d .«full_pel_vector») (x .down) in
     let plane = plane-meets g address m k average in
-    let ours = ofStores m k (g .context .stores .cur) average in
+    let ours = predictPlaneFromStore m k (g .context .stores .cur) average in
     subst (ResultMeets _≡_ (S.predictedFrom g address k d x average l))
-    (sym (refused-next address (ours Y right down l) (λ s. thenPlane (ours Cr (chroma right) (chroma down) s) (ours Cb (chroma right) (chroma down))))) (
+    (sym (refused-next address (ours Y right down l) (λ s. andThenPlane (ours Cr (chroma right) (chroma down) s) (ours Cb (chroma right) (chroma down))))) (
     also-meets _≡_ (S.predictedPlane g m k average Y right down l) (P.unlessRefused address (ours Y right down l)) _ _ (plane Y right down l) (λ a b e.
     subst (λ (b : List ℕ). ResultMeets _≡_ (rest g m k average right down a)
-    (P.unlessRefused address (thenPlane (ours Cr (chroma right) (chroma down) b) (ours Cb (chroma right) (chroma down))))) e (
+    (P.unlessRefused address (andThenPlane (ours Cr (chroma right) (chroma down) b) (ours Cb (chroma right) (chroma down))))) e (
     subst (ResultMeets _≡_ (rest g m k average right down a))
     (sym (refused-next address (ours Cr (chroma right) (chroma down) a) (ours Cb (chroma right) (chroma down)))) (
     rw (L.chrominance-is right, L.chrominance-is down)

@@ -13,7 +13,7 @@ use Rattle.picture_state.specs.declared.types.{Context.Context, Matrices.Matric
 use Rattle.picture_state.specs.State.{SliceState, sliceState, freshBlock}
 use Rattle.picture_state.specs.Flags.{flag}
 use Rattle.standard.specs.Standard as S
-use Rattle.standard.specs.Standard.{Direction, Vector, Coding, Pasts, pasts, Variables, far}
+use Rattle.standard.specs.Standard.{Direction, Vector, Coding, Pasts, pasts, Variables, noIntraJustBefore}
 use Rattle.standard.specs.Rules as R
 
 -- the components are in the range of their f code
@@ -52,7 +52,7 @@ eights o = pasts (pos 8 *ℤ o .y) (pos 8 *ℤ o .cb) (pos 8 *ℤ o .cr)
 
 -- 2.4.4.1: the pasts as an intra macroblock at this address uses them
 abbrev pub pastStart : ℤ → Variables → Pasts
-pastStart address v = cond (far address v) (pasts (pos 1024) (pos 1024) (pos 1024)) (v .past)
+pastStart address v = cond (noIntraJustBefore address v) (pasts (pos 1024) (pos 1024) (pos 1024)) (v .past)
 
 -- the vectors that the next macroblock starts from
 abbrev pub forNext : Coding → Bool → Variables → Vector

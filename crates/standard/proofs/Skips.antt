@@ -17,7 +17,7 @@ use Rattle.macroblock_head.specs.Predictions as P
 use Rattle.macroblock.specs.Macroblocks as M
 use Rattle.picture_state.specs.Flags.{flag}
 use Rattle.standard.specs.Standard as S
-use Rattle.standard.specs.Standard.Words.{Forbidden}
+use Rattle.standard.specs.Standard.Prelude.{Forbidden}
 use Rattle.standard.proofs.Agreement.{ResultMeets}
 use Rattle.standard.proofs.Related.{In, motionOf, Own, own, sliceOf, eights, pastStart, forNext, backNext, Related}
 use Rattle.standard.proofs.Heads.{zero-in}
@@ -100,7 +100,7 @@ pub record Ready (g : S.Coding) (first : Bool) (n t : ℕ) (x : S.Variables) (l 
 
 -- 2.4.4.1: behind a skipped macroblock, and in the first macroblock of a slice, the pasts are 128 * 8
 far-by : (first : Bool) (x : S.Variables) (n : ℕ) → cond first ltZ leZ (x .«past_intra_address») (x .«previous_macroblock_address») ≡ true
-    → cond first 1 2 ≤ n → S.far (x .«previous_macroblock_address» +ℤ pos n) x ≡ true
+    → cond first 1 2 ≤ n → S.noIntraJustBefore (x .«previous_macroblock_address» +ℤ pos n) x ≡ true
 far-by true x n h l =
     yes-lt (lit 1) (v (x .«previous_macroblock_address») ⊕ lit n ⊖ v (x .«past_intra_address»)) (omega (arith, lt-yes (v (x .«past_intra_address»)) (v _) h))
 far-by false x n h l =

@@ -12,7 +12,7 @@ use Rattle.laws.specs.Loops.{Step, continue, finish}
 use Rattle.laws.proofs.Ints.{v, lit, _⊕_, _⊖_, yes-lt, yes-le, le-yes, lt-yes}
 use Rattle.bits.specs.Bounds.{longestStream}
 use Rattle.bits.specs.Bits.{has, readAt}
-use Rattle.bits.specs.Programs.{Prog, Out, done, run, bind, bits, nonZero, many}
+use Rattle.bits.specs.Programs.{Prog, RunResult, done, run, bind, bits, nonZero, streamFuel}
 use Rattle.bits.proofs.Programs.{run-bind}
 use Rattle.picture_state.specs.declared.types.{Context.Context, Matrices.Matrices, Slice.Slice}
 use Rattle.picture_state.specs.State.{SliceState, withSlice, freshBlock}
@@ -21,7 +21,7 @@ use Rattle.picture_state.specs.Stop.{Stop}
 use Rattle.macroblock.specs.Macroblocks as M
 use Rattle.slice.specs.Slices as O
 use Rattle.standard.specs.Standard as S
-use Rattle.standard.specs.Standard.Words.{Forbidden}
+use Rattle.standard.specs.Standard.Prelude.{Forbidden}
 use Rattle.standard.proofs.Agreement.{Meets, StepMeets, Agree, a-by, a-loop}
 use Rattle.picture_state.proofs.Runs.{run-lift}
 use Rattle.standard.proofs.Related.{motionOf, own, Related, Rule, coding}
@@ -46,7 +46,7 @@ module _ (rule : Rule) (g : Context) (m : Matrices) (df db : S.Direction) (s : L
   abbrev C : S.Coding
   C = coding rule g m df db
 
-  abbrev Turns : Out (Step S.SliceLoopState (Result Forbidden S.Variables)) → Out (Step O.SliceLoopState (Result Stop SliceState)) → Type 0
+  abbrev Turns : RunResult (Step S.SliceLoopState (Result Forbidden S.Variables)) → RunResult (Step O.SliceLoopState (Result Stop SliceState)) → Type 0
   Turns o u = StepMeets (Between C) (Related C false) (o .value) (o .at) (u .value) (u .at)
 
   -- the end of a slice
@@ -94,7 +94,7 @@ module _ (rule : Rule) (g : Context) (m : Matrices) (df db : S.Direction) (s : L
         go true p = at-last p (has s e 23) (eqb (readAt s e 23) 0) isMore refl
         go false p = before-last (has s e 23) (eqb (readAt s e 23) 0) isMore
 
-  left : (d : Forbidden) (e : ℕ) (u : Out (Step O.SliceLoopState (Result Stop SliceState))) → Turns (run (S.afterMacroblock C (error d)) s e) u
+  left : (d : Forbidden) (e : ℕ) (u : RunResult (Step O.SliceLoopState (Result Stop SliceState))) → Turns (run (S.afterMacroblock C (error d)) s e) u
   unfolding S.afterMacroblock run
   left d e u = tt
 
@@ -164,5 +164,5 @@ module _ (rule : Rule) (g : Context) (m : Matrices) (df db : S.Direction) (s : L
       let e = run O.extra s (o .at) in
       let q = o .value in
       scale-then _ _ a (a-by _ _ (run-lift O.extra _ s (o .at)) (run-bind O.extra _ s (o .at))
-      (a-loop (Between C) (Related C false) s (S.sliceStep C) (O.sliceStep g m) (ok w) step-meets many _ _ (e .at)
+      (a-loop (Between C) (Related C false) s (S.sliceStep C) (O.sliceStep g m) (ok w) step-meets streamFuel _ _ (e .at)
       (record { first = refl; same = start-related position q w b none }) .is))

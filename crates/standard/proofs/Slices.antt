@@ -12,16 +12,16 @@ use Rattle.laws.specs.Loops.{Step, continue, finish}
 use Rattle.laws.proofs.Ints.{v, lit, _⊕_, le-yes, le-no, lt-yes, lt-no}
 use Rattle.bits.specs.Bounds.{longestStream}
 use Rattle.bits.specs.Bits.{found}
-use Rattle.bits.specs.Programs.{Out, done, run, bind, many, eqZ}
+use Rattle.bits.specs.Programs.{RunResult, done, run, bind, streamFuel, eqZ}
 use Rattle.bits.proofs.Programs.{run-bind}
 use Rattle.picture_state.specs.declared.types.{Context.Context, Matrices.Matrices, Stores.Stores, Picture.Picture}
-use Rattle.picture_state.specs.State.{SliceState, sliceState, startCodeAs, sliceAs, freshBlock}
+use Rattle.picture_state.specs.State.{SliceState, sliceState, withStartCode, withPictureSlice, freshBlock}
 use Rattle.picture_state.specs.Result.{Result, ok, error}
 use Rattle.picture_state.specs.Stop.{Stop}
 use Rattle.slice.specs.Slices as O
 use Rattle.picture.specs.Pictures as P
 use Rattle.standard.specs.Standard as S
-use Rattle.standard.specs.Standard.Words.{Forbidden}
+use Rattle.standard.specs.Standard.Prelude.{Forbidden}
 use Rattle.standard.proofs.Agreement.{Meets, StepMeets, Agree, a-loop}
 use Rattle.standard.proofs.Related.{forNext, backNext, Related, Rule, coding}
 use Rattle.standard.proofs.Slice.{Begun, slice-agrees}
@@ -65,7 +65,7 @@ module _ (rule : Rule) (g : Context) (m : Matrices) (df db : S.Direction) (s : L
     pub same : y .begun ≡ x .begun
     pub shown : Shown (x .pels) (y .pictureState)
 
-  abbrev Turns : Out (Step S.SlicesLoopState (Result Forbidden (List ℕ))) → Out (Step P.SlicesLoopState (Result Stop P.PictureState)) → Type 0
+  abbrev Turns : RunResult (Step S.SlicesLoopState (Result Forbidden (List ℕ))) → RunResult (Step P.SlicesLoopState (Result Stop P.PictureState)) → Type 0
   Turns o u = StepMeets Kept Ended (o .value) (o .at) (u .value) (u .at)
 
   past-meets : (p : Picture) → p .«picture_type» ≡ ty → p .stores ≡ st → eqZ (p .«start_code») (pos 0) ≡ false
@@ -84,7 +84,7 @@ module _ (rule : Rule) (g : Context) (m : Matrices) (df db : S.Direction) (s : L
       address = ap (λ (w : SliceState). leZ (pos n) (w .slice .«macroblock_address» +ℤ pos 1)) (r .is)
 
       after : P.PictureState
-      after = P.pictureState (sliceAs (w .slice) p) (w .«block_data») (w .store)
+      after = P.pictureState (withPictureSlice (w .slice) p) (w .«block_data») (w .store)
 
       shown : Shown (x .pels) after
       shown = record {
@@ -111,7 +111,7 @@ module _ (rule : Rule) (g : Context) (m : Matrices) (df db : S.Direction) (s : L
           let z : ⊥ = omega arith in
           absurd z
 
-  left : (d : Forbidden) (e : ℕ) (u : Out (Step P.SlicesLoopState (Result Stop P.PictureState))) → Turns (run (S.afterSlice C (error d)) s e) u
+  left : (d : Forbidden) (e : ℕ) (u : RunResult (Step P.SlicesLoopState (Result Stop P.PictureState))) → Turns (run (S.afterSlice C (error d)) s e) u
   unfolding S.afterSlice run
   left d e u = tt
 
@@ -144,7 +144,7 @@ module _ (rule : Rule) (g : Context) (m : Matrices) (df db : S.Direction) (s : L
       e = found s a .at
 
       p : Picture
-      p = startCodeAs c (y .pictureState .picture)
+      p = withStartCode c (y .pictureState .picture)
 
       w : SliceState
       w = sliceState (p .slice) (y .pictureState .«block_data») (y .pictureState .store)
@@ -170,5 +170,5 @@ module _ (rule : Rule) (g : Context) (m : Matrices) (df db : S.Direction) (s : L
       → f .picture .stores ≡ st
       → Agree Ended s a (S.slices C (f .store)) (P.slices g m f)
   unfolding S.slices P.slices
-  slices-agree f a b none pt ps = a-loop Kept Ended s (S.slicesStep C) (P.slicesStep g m) (ok f) turn-meets many _ (P.slicesLoopState false f) a
+  slices-agree f a b none pt ps = a-loop Kept Ended s (S.slicesStep C) (P.slicesStep g m) (ok f) turn-meets streamFuel _ (P.slicesLoopState false f) a
       (record { same = refl; shown = record { pels = refl; begun = b; left = none; type = pt; stores = ps } })

@@ -14,18 +14,18 @@ use Rattle.laws.specs.Loops.{continue, finish}
 use Rattle.laws.proofs.Lists.{length-mid, length-rows, put-before, put-after}
 use Rattle.laws.proofs.Tests.{by-case}
 use Rattle.bits.specs.Bits.{has, readAt}
-use Rattle.bits.specs.Programs.{Prog, done, run, nextStartCode, many, eqZ}
+use Rattle.bits.specs.Programs.{Prog, done, run, nextStartCode, streamFuel, eqZ}
 use Rattle.bits.proofs.Gives.{Gives, OnStep, g-done, g-bind, g-if, g-for, g-loop, g-any}
 use Rattle.prediction.specs.declared.position.{Macroblock.Macroblock, BlockPosition.BlockPosition}
 use Rattle.prediction.specs.declared.planes.Plane.{Plane}
 use Rattle.prediction.specs.declared.planes.Plane.the-variants.{Y, Cr, Cb}
-use Rattle.prediction.specs.Predict.{macroblockAt, blockOf, bytes, address, width}
+use Rattle.prediction.specs.Predict.{macroblockAt, blockPositionOf, bytes, address, width}
 use Rattle.prediction.specs.Planes.{blockSize, macroblocks, planeOf, planeLength, planeStart}
 use Rattle.prediction.specs.Writers.{overwrite, addBlock, blockAddress, blockWidth}
 use Rattle.picture_state.specs.declared.types.{Stores.Stores, Sizes.Sizes, Matrices.Matrices}
 use Rattle.picture_state.specs.Result.{Result, ok, error, andThen, ifOk, bindResult, forBelow}
 use Rattle.standard.specs.Standard as S
-use Rattle.standard.specs.Standard.Words.{Forbidden}
+use Rattle.standard.specs.Standard.Prelude.{Forbidden}
 use Rattle.standard.proofs.Agreement.{ResultIs}
 
 -- ---- rules
@@ -119,7 +119,7 @@ module _ (g : S.Coding) (l : List ℕ) (three : g .context .stores .cur * (384 *
 
   -- ---- prediction
 
-  bytes-are : (m : Macroblock) (q : Plane) → bytes (blockOf m (blockSize q)) ≡ planeLength q (macroblocks m)
+  bytes-are : (m : Macroblock) (q : Plane) → bytes (blockPositionOf m (blockSize q)) ≡ planeLength q (macroblocks m)
   bytes-are m Y = omega arith
   bytes-are m Cr = omega arith
   bytes-are m Cb = omega arith
@@ -129,7 +129,7 @@ module _ (g : S.Coding) (l : List ℕ) (three : g .context .stores .cur * (384 *
   unfolding S.predictedPlane
   plane-spared a k average q right down x h =
       let m = macroblockAt (g .context .sizes .«mb_width») (g .context .sizes .«mb_height») a in
-      let p = blockOf m (blockSize q) in
+      let p = blockPositionOf m (blockSize q) in
       let to = planeStart cur q (macroblocks m) in
       let stores : cur * (384 * n) ≡ cur * (384 * macroblocks m) = ap (λ (k : ℕ). cur * (384 * k)) area in
       let store : 384 * n ≡ 384 * macroblocks m = ap (λ (k : ℕ). 384 * k) area in
@@ -170,7 +170,7 @@ module _ (g : S.Coding) (l : List ℕ) (three : g .context .stores .cur * (384 *
 
   -- ---- blocks
 
-  written-spared : (intra : Bool) (i a : ℕ) (f : S.Filled) (x : List ℕ) → Same x → Same (S.written g intra i a f x)
+  written-spared : (intra : Bool) (i a : ℕ) (f : S.PartialBlock) (x : List ℕ) → Same x → Same (S.written g intra i a f x)
   unfolding S.written
   written-spared intra i a f x h =
       let m = macroblockAt (g .context .sizes .«mb_width») (g .context .sizes .«mb_height») a in
@@ -238,7 +238,7 @@ module _ (g : S.Coding) (l : List ℕ) (three : g .context .stores .cur * (384 *
     unfolding S.slice S.sliceStep
     slice-spared position x h =
         g-then _ _ (λ q. g-then _ _ (λ u.
-        g-loop (λ (x : S.SliceLoopState). Variables (x .variables)) many (S.sliceStep g) S.forbidden
+        g-loop (λ (x : S.SliceLoopState). Variables (x .variables)) streamFuel (S.sliceStep g) S.forbidden
         (λ y i. g-bind (S.afterMacroblock g) (macroblock-spared (y .first) (y .variables) i) past-spared) tt _ h))
 
     past-slice-spared : (w : Result Forbidden S.Variables) → ResultIs Variables w → Gives s (OnStep Slices (ResultIs Same)) (S.afterSlice g w)
@@ -255,7 +255,7 @@ module _ (g : S.Coding) (l : List ℕ) (three : g .context .stores .cur * (384 *
 
     slices-spared : Gives s (ResultIs Same) (S.slices g l)
     unfolding S.slices
-    slices-spared = g-loop Slices many (S.slicesStep g) S.forbidden step-spared tt _ (record { long = refl; same = λ i o. refl })
+    slices-spared = g-loop Slices streamFuel (S.slicesStep g) S.forbidden step-spared tt _ (record { long = refl; same = λ i o. refl })
 
 -- ---- a picture
 

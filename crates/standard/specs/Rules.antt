@@ -2,7 +2,7 @@
 use Rattle.codes.specs.Matrices.{premultiplierMatrix}
 use Rattle.coefficients.specs.{Dequantise.quantiser, Dequantise.dequantised, Standard.dctRecon, Standard.sameRecon}
 use Rattle.transform.specs.Idct.{idct}
-use Rattle.standard.specs.Standard.{Words.true, Words.List, Words.[], Words._∷_, Words.ℤ, Words.pos, Words._*ℤ_, State.Rules}
+use Rattle.standard.specs.Standard.{Prelude.true, Prelude.List, Prelude.[], Prelude._∷_, Prelude.ℤ, Prelude.pos, Prelude._*ℤ_, State.Rules}
 
 -- RULES 4.1: dct_recon times the premultiplier, place by place
 abbrev pub times : List ℤ → List ℤ → List ℤ

@@ -1,10 +1,10 @@
 -- ISO/IEC 11172-2 from the picture down, in the standard's names: here macroblock(), slice() and picture(), 2.4.2.5 to 2.4.2.7 with 2.4.3.4 to 2.4.3.6. Where a
 -- stream breaks a rule that a decoder relies on, a run ends with `forbidden`. Written without the page; docs/STANDARD.md says what is not literal.
-pub mod Words
+pub mod Prelude
 pub mod State
 pub mod Prediction
 pub mod Block
-unfoldable pub use Words.*
+unfoldable pub use Prelude.*
 unfoldable pub use State.*
 unfoldable pub use Prediction.*
 unfoldable pub use Block.*
@@ -47,7 +47,7 @@ codedMacroblock g first n last v l = do
   back ← backVector g t (backStart g first last v)
   p ← fromResult (if «macroblock_intra» t then ok l else predicted g t (natAbs address) for back l)
   cbp ← if «macroblock_pattern» t then codedBlockPattern else pure 0
-  b ← blocks g («macroblock_intra» t) (far address v) cbp scale (natAbs address) (record { past = v .past; pels = p })
+  b ← blocks g («macroblock_intra» t) (noIntraJustBefore address v) cbp scale (natAbs address) (record { past = v .past; pels = p })
   pure (record {
     «previous_macroblock_address» = address;
     «past_intra_address» = if «macroblock_intra» t then address else v .«past_intra_address»;
@@ -80,7 +80,7 @@ isMore g v = ltZ (v .«previous_macroblock_address» +ℤ pos 1) (pos (g .contex
 -- 2.4.2.6: do macroblock() while (nextbits() != '000 0000 0000 0000 0000 0000')
 unfoldable pub afterMacroblock : Coding → Result Forbidden Variables → Prog (Step SliceLoopState (Result Forbidden Variables))
 afterMacroblock g (error e) = done (finish (error e))
-afterMacroblock g (ok v) = look 23 λ h x.
+afterMacroblock g (ok v) = peekBits 23 λ h x.
     if not h then done (finish forbidden)
     else if eqb x 0 then done (finish (ok v))
     else if isMore g v then done (continue (record { first = false; variables = v })) else done (finish forbidden)
@@ -106,7 +106,7 @@ unfoldable pub slice : Coding → ℕ → List ℕ → Prog (Result Forbidden Va
 slice g position l = do
   q ← quantizerScale
   lift extra
-  loop many (sliceStep g) forbidden (record { first = true; variables = sliceStart g position q l })
+  loop streamFuel (sliceStep g) forbidden (record { first = true; variables = sliceStart g position q l })
 
 -- 2.4.2.5, 2.4.3.4: full_pel_.._vector, .._f_code; .._r_size = .._f_code - 1, and 0 is forbidden
 unfoldable pub direction : Prog (Result Forbidden Direction)
@@ -153,7 +153,7 @@ slicesStep g x = bind nextStartCode λ c.
     && not (x .begun) then done (continue (record { begun = false; pels = x .pels })) else done (finish forbidden)
 
 unfoldable pub slices : Coding → List ℕ → Prog (Result Forbidden (List ℕ))
-slices g l = loop many (slicesStep g) forbidden (record { begun = false; pels = l })
+slices g l = loop streamFuel (slicesStep g) forbidden (record { begun = false; pels = l })
 
 -- 2.4.4: the store `bwd` has the last I or P picture decoded, `fwd` the one before it. A P picture is predicted from the last, a B picture from both
 abbrev pub references : ℕ → Stores → Stores

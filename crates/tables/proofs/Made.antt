@@ -18,7 +18,7 @@ use Rattle.laws.proofs.Ints.{up, dn, v, lit, _⊕_, Dif, back, reread, fits-by,
 use Rattle.laws.proofs.Bytes.{cast-unsigned}
 use Rattle.laws.proofs.Nums.{Num, num, rd}
 use Rattle.laws.proofs.Tables.{anywhere}
-use Rattle.codes.specs.Lent.{lentValue, joinedEntry, all, Lent, macroblockCodes, blockCodes, fixedTables, tablesWith, matrixOf, isByte}
+use Rattle.codes.specs.DecodingTables.{biasedValue, mergedEntry, all, DecodingTables, macroblockCodes, blockCodes, fixedTables, tablesWith, matrixOf, isByte}
 use Rattle.codes.specs.Matrices.{zigZag, downFrom, diagonals, intraQuantMatrix, nonIntraQuantMatrix, premultiplierMatrix}
 use Rattle.codes.specs.Tables.{macroblockAddressIncrementIndex, macroblockAddressIncrementValue, macroblockTypeIntraIndex, macroblockTypeIntraValue}
 use Rattle.codes.specs.Tables.{macroblockTypePredictiveIndex, macroblockTypePredictiveValue, macroblockTypeBIndex, macroblockTypeBValue}
@@ -26,7 +26,7 @@ use Rattle.codes.specs.Tables.{codeBlockPatternIndex, codeBlockPatternValue, mo
 use Rattle.codes.specs.Tables.{dctSizeLuminanceIndex, dctSizeLuminanceValue, dctSizeChrominanceIndex, dctSizeChrominanceValue, dctCoeffIndex, dctCoeffValue}
 use Rattle.codes.proofs.Entries.{natural, above}
 use Rattle.codes.proofs.Joined.{all-at, Short}
-use Rattle.codes.specs.Lent.{intraMatrixAt, otherMatrixAt, tablesLength}
+use Rattle.codes.specs.DecodingTables.{intraMatrixAt, nonIntraMatrixAt, tablesLength}
 
 -- ---- entries as they are laid
 
@@ -69,16 +69,16 @@ module _ (x : ℤ) (s : Short x) where
   pub raised-cast : let y = reread w32 (reread w32 x +ℤ pos 1024) in T (nonNeg y) × Fits w32 (natAbs y)
   raised-cast = cast-by (back raised-fits (read ⊕ lit 1024)) (omega (arith, s .least)) (omega (arith, s .most))
 
-  pub raised-is : natAbs (reread w32 (reread w32 x +ℤ pos 1024)) % 65536 ≡ lentValue x
+  pub raised-is : natAbs (reread w32 (reread w32 x +ℤ pos 1024)) % 65536 ≡ biasedValue x
   raised-is =
       ap (λ (n : ℕ). n % 65536)
       (cast-is (back raised-fits (read ⊕ lit 1024)) (omega (arith, s .least)) ∙ sym (cast-is (v x ⊕ lit 1024) (omega (arith, s .least))))
 
 -- an entry has room in 16 bits
-pub entry-most : (i x : ℤ) → natAbs i ≤ 255 → joinedEntry i x ≤ 65535
+pub entry-most : (i x : ℤ) → natAbs i ≤ 255 → mergedEntry i x ≤ 65535
 entry-most i x h = go (leZ i (pos 0))
   where
-    go : (b : Bool) → cond b (lentValue x) (natAbs i) ≤ 65535
+    go : (b : Bool) → cond b (biasedValue x) (natAbs i) ≤ 65535
     go true = omega arith
     go false = omega arith
 
@@ -131,30 +131,30 @@ paste-after d at s n i v l h =
 
 -- a loop that copies both matrices, one behind the other, has copied k entries of each
 abbrev pub Both : List ℕ → List ℕ → List ℕ → ℕ → List ℕ → Type 0
-Both before intra other k = Pasted (paste before intraMatrixAt intra k) otherMatrixAt other k
+Both before intra other k = Pasted (paste before intraMatrixAt intra k) nonIntraMatrixAt other k
 
 module _ (before intra other : List ℕ) (h : (length before ≡ tablesLength) × ((length intra ≡ 64) × (length other ≡ 64))) where
   pub none-both : Both before intra other 0 before
-  none-both = subst (λ (t : List ℕ). Pasted t otherMatrixAt other 0 before) (paste-zero before intraMatrixAt intra) (none-pasted (omega arith))
+  none-both = subst (λ (t : List ℕ). Pasted t nonIntraMatrixAt other 0 before) (paste-zero before intraMatrixAt intra) (none-pasted (omega arith))
 
   pub both-on : {k : ℕ} {now : List ℕ} → Both before intra other k now → k < 64
-      → Both before intra other (k + 1) (set (set now (intraMatrixAt + k) (getD intra k 0)) (otherMatrixAt + k) (getD other k 0))
+      → Both before intra other (k + 1) (set (set now (intraMatrixAt + k) (getD intra k 0)) (nonIntraMatrixAt + k) (getD other k 0))
   both-on {k} {now} p q =
       let x = getD intra k 0 in
       let m = paste before intraMatrixAt intra k in
       let first : Pasted before intraMatrixAt intra (k + 1) (set m (intraMatrixAt + k) x) =
       pasted-on (pasted (omega arith) (omega arith) refl) (omega arith) refl in
-      let second : Pasted (set m (intraMatrixAt + k) x) otherMatrixAt other k (set now (intraMatrixAt + k) x) =
+      let second : Pasted (set m (intraMatrixAt + k) x) nonIntraMatrixAt other k (set now (intraMatrixAt + k) x) =
       pasted (p .most) (omega (arith, first .long))
       (ap (λ (t : List ℕ). set t (intraMatrixAt + k) x) (p .is)
-      ∙ paste-after m otherMatrixAt other k (intraMatrixAt + k) x (omega arith) (omega (arith, p .inside))) in
-      subst (λ (t : List ℕ). Pasted t otherMatrixAt other (k + 1) (set (set now (intraMatrixAt + k) x) (otherMatrixAt + k) (getD other k 0))) (first .is)
+      ∙ paste-after m nonIntraMatrixAt other k (intraMatrixAt + k) x (omega arith) (omega (arith, p .inside))) in
+      subst (λ (t : List ℕ). Pasted t nonIntraMatrixAt other (k + 1) (set (set now (intraMatrixAt + k) x) (nonIntraMatrixAt + k) (getD other k 0))) (first .is)
       (pasted-on second (omega arith) refl)
 
-  pub all-both : {k : ℕ} {now : List ℕ} → Both before intra other k now → 64 ≤ k → now ≡ paste (paste before intraMatrixAt intra 64) otherMatrixAt other 64
+  pub all-both : {k : ℕ} {now : List ℕ} → Both before intra other k now → 64 ≤ k → now ≡ paste (paste before intraMatrixAt intra 64) nonIntraMatrixAt other 64
   all-both {k} p q =
       let all : k ≡ 64 = omega (arith, p .most) in
-      p .is ∙ ap (λ (i : ℕ). paste (paste before intraMatrixAt intra i) otherMatrixAt other i) all
+      p .is ∙ ap (λ (i : ℕ). paste (paste before intraMatrixAt intra i) nonIntraMatrixAt other i) all
 
 -- a table behind another
 paste-on : (t a b : List ℕ) (at n m : ℕ) → length a ≡ n → m ≤ length b → at + n + m ≤ length t
@@ -245,7 +245,7 @@ module _ (intra other : List ℕ) (i : Bytes64 intra) (o : Bytes64 other) where
       let e : k ≡ length fixedTables + (k - intraMatrixAt) = omega (arith, fixed-length) in
       ap (λ (n : ℕ). getD (fixedTables ++ (intra ++ other)) n 0) e ∙ getD-append-add fixedTables (intra ++ other) (k - intraMatrixAt) 0
 
-  pub lent-with : Lent (tablesWith intra other)
+  pub lent-with : DecodingTables (tablesWith intra other)
   lent-with =
       rw split
       (record {
@@ -260,8 +260,8 @@ module _ (intra other : List ℕ) (i : Bytes64 intra) (o : Bytes64 other) where
       ∙ ap (take 64) (drop-at fixedTables (intra ++ other) intraMatrixAt fixed-length)
       ∙ take-at intra other 64 (i .long)
   matrix-with false =
-      let front : length (fixedTables ++ intra) ≡ otherMatrixAt = omega (arith, length-append fixedTables intra, fixed-length, i .long) in
-      ap (take 64) (drop-at (fixedTables ++ intra) other otherMatrixAt front) ∙ take-all 64 other (omega (arith, o .long))
+      let front : length (fixedTables ++ intra) ≡ nonIntraMatrixAt = omega (arith, length-append fixedTables intra, fixed-length, i .long) in
+      ap (take 64) (drop-at (fixedTables ++ intra) other nonIntraMatrixAt front) ∙ take-all 64 other (omega (arith, o .long))
 
 -- RULES 2.7: the default matrices, and the tables with them
 pub intra-bytes : Bytes64 intraQuantMatrix
@@ -272,5 +272,5 @@ pub non-intra-bytes : Bytes64 nonIntraQuantMatrix
 unfolding nonIntraQuantMatrix
 non-intra-bytes = record { long = refl; bytes = λ k. ltb→lt _ 256 (anywhere (λ x. ltb x 256) nonIntraQuantMatrix 0 tt tt k) }
 
-pub lent-default : Lent (tablesWith intraQuantMatrix nonIntraQuantMatrix)
+pub lent-default : DecodingTables (tablesWith intraQuantMatrix nonIntraQuantMatrix)
 lent-default = lent-with intraQuantMatrix nonIntraQuantMatrix intra-bytes non-intra-bytes

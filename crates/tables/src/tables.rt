@@ -23,10 +23,10 @@ use codes::lent::INCREMENT;
 use codes::lent::INTRA_MATRIX;
 use codes::lent::LENGTH;
 use codes::lent::LUMINANCE;
-use codes::lent::ORDER;
-use codes::lent::OTHER_MATRIX;
+use codes::lent::NON_INTRA_MATRIX;
 use codes::lent::PATTERN;
 use codes::lent::PREMULTIPLIERS;
+use codes::lent::SCAN;
 use codes::lent::TYPE_B;
 use codes::lent::TYPE_I;
 use codes::lent::TYPE_P;
@@ -41,7 +41,8 @@ ghost use lib.Dec.{T};
 ghost use lib.IntN.{natAbs};
 ghost use lib.ListN.{length, drop};
 ghost use lib.Seq.{paste};
-ghost use Rattle.codes.specs.Lent.{joined, all, near, isByte, short, macroblockCodes, blockCodes, tablesWith, intraMatrixAt, otherMatrixAt, tablesLength};
+ghost use Rattle.codes.specs.DecodingTables.{mergedTable, all, absBelow256, isByte, isTableValue, macroblockCodes, blockCodes, tablesWith, intraMatrixAt};
+ghost use Rattle.codes.specs.DecodingTables.{nonIntraMatrixAt, tablesLength};
 
 fn put(tables: &mut [u16], at: usize, table: &[i32])
     requires { ⌜ at + length (now table) ≤ length (now tables) ⌝ }
@@ -60,9 +61,9 @@ fn put(tables: &mut [u16], at: usize, table: &[i32])
 fn put_codes(tables: &mut [u16], at: usize, index: &[i32], value: &[i32], first: usize, last: usize)
     requires { ⌜ (first ≤ last) × (last ≤ length (now index)) × (length (now value) ≡ length (now index)) ⌝ }
     requires { ⌜ at + length (now index) ≤ length (now tables) ⌝ }
-    requires { ⌜ T (all near (now index)) × T (all short (now value)) ⌝ }
+    requires { ⌜ T (all absBelow256 (now index)) × T (all isTableValue (now value)) ⌝ }
     ensures { λ _. ⌜ now (tables .exit)
-        ≡ paste (now (tables .entry)) (at + first) (drop first (joined (now (index .entry)) (now (value .entry)))) (last - first) ⌝ }
+        ≡ paste (now (tables .entry)) (at + first) (drop first (mergedTable (now (index .entry)) (now (value .entry)))) (last - first) ⌝ }
 {
     let mut k = first;
     while k < last {
@@ -91,14 +92,14 @@ fn put_matrices(tables: &mut Tables, intra_matrix: &[u8], other_matrix: &[u8])
     requires { ⌜ length (now tables) ≡ tablesLength ⌝ }
     requires { ⌜ (length (now «intra_matrix») ≡ 64) × (length (now «other_matrix») ≡ 64) ⌝ }
     ensures { λ _. ⌜ now (tables .exit)
-        ≡ paste (paste (now (tables .entry)) intraMatrixAt (now («intra_matrix» .entry)) 64) otherMatrixAt (now («other_matrix» .entry)) 64 ⌝ }
+        ≡ paste (paste (now (tables .entry)) intraMatrixAt (now («intra_matrix» .entry)) 64) nonIntraMatrixAt (now («other_matrix» .entry)) 64 ⌝ }
 {
     let mut k: usize = 0;
     while k < 64 {
         let intra = intra_matrix[k] as u16;
         let other = other_matrix[k] as u16;
         tables[INTRA_MATRIX + k] = intra;
-        tables[OTHER_MATRIX + k] = other;
+        tables[NON_INTRA_MATRIX + k] = other;
         k += 1;
     }
 }
@@ -159,7 +160,7 @@ fn put_block_codes(t: &mut Tables)
     put_codes(t, COEFFICIENT, index, value, 168, 192);
     put_codes(t, COEFFICIENT, index, value, 192, 216);
     put_codes(t, COEFFICIENT, index, value, 216, 224);
-    put_bytes(t, ORDER, &ZIG_ZAG);
+    put_bytes(t, SCAN, &ZIG_ZAG);
     put(t, PREMULTIPLIERS, &PREMULTIPLIER_MATRIX);
 }
 

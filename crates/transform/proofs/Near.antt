@@ -14,7 +14,7 @@ use Rattle.laws.proofs.Tables as Tables
 use Rattle.transform.specs.Steps.{Expression, input, _⊕_, _⊖_, neg, _⊗_, nearest, over256, value, outputs, output}
 use Rattle.transform.specs.Butterfly.{nth, butterfly}
 use Rattle.transform.specs.Idct.{at, lane, columns, rows, idct, dcOnly}
-use Rattle.transform.specs.Exact.{exact, exactColumn, exactResult, distance, NearExact, DcOnlyNearExact}
+use Rattle.transform.specs.Exact.{exact, exactColumn, exactResult, errorBound, NearExact, DcOnlyNearExact}
 use Rattle.transform.proofs.Eights.{nth-eight}
 use Rattle.transform.proofs.Blocks.{block-at}
 use Rattle.transform.proofs.LoneDc.{lone-dc}
@@ -86,21 +86,22 @@ module _ (l : List ℤ) where
       subst (λ (z : ℤ). Within 256 384 z (exactColumn l k y))
       (sym (nth-eight (λ j. at (columns l) (y * 8 + j * 1)) k q ∙ ap (at (columns l)) r ∙ between y k p q)) (column-near k y p)
 
-  result-near : (y x : ℕ) → y < 8 → x < 8 → Within 16777216 distance (at (idct l) (y * 8 + x)) (exactResult l y x)
+  result-near : (y x : ℕ) → y < 8 → x < 8 → Within 16777216 errorBound (at (idct l) (y * 8 + x)) (exactResult l y x)
   unfolding idct rows butterfly
   result-near y x p q =
       let r : (y * 8 + x) % 8 ≡ x = omega arith in
       let u : (y * 8 + x) / 8 ≡ y = omega arith in
       let s = nth (lane (columns l) (y * 8) 1) in
-      subst (λ (z : ℤ). Within 16777216 distance z (exactResult l y x))
+      subst (λ (z : ℤ). Within 16777216 errorBound z (exactResult l y x))
       (sym
       (block-at (λ i j. over256 (nth (butterfly (lane (columns l) (i * 8) 1)) j)) (y * 8 + x) (omega arith)
       ∙ ap₂ (λ (i j : ℕ). over256 (nth (butterfly (lane (columns l) (i * 8) 1)) j)) u r
       ∙ ap over256 (nth-eight (λ k. value s (output k)) x q)))
-      (weaken (leb→le (128 * 65536 + 2468352) distance tt) (round (outputs-near 1 256 384 2468352 s (λ k. exactColumn l k y) (λ k i. row-near y k p i) tt x q)))
+      (weaken (leb→le (128 * 65536 + 2468352) errorBound tt)
+      (round (outputs-near 1 256 384 2468352 s (λ k. exactColumn l k y) (λ k i. row-near y k p i) tt x q)))
 
--- no farther than `distance` is less than 1
-one-less : (n : ℕ) → n ≤ distance → n < 16777216
+-- no farther than `errorBound` is less than 1
+one-less : (n : ℕ) → n ≤ errorBound → n < 16777216
 one-less n h = omega arith
 
 pub idct-near : (l : List ℤ) → NearExact l
@@ -111,9 +112,9 @@ idct-near l = record {
 }
 
 module _ (l : List ℤ) (zeros : (k : ℕ) → 0 < k → k < 64 → at l k ≡ pos 0) where
-  short-near : (y x : ℕ) → y < 8 → x < 8 → natAbs (dcOnly (at l 0) *ℤ pos 16777216 -ℤ exactResult l y x) ≤ distance
+  short-near : (y x : ℕ) → y < 8 → x < 8 → natAbs (dcOnly (at l 0) *ℤ pos 16777216 -ℤ exactResult l y x) ≤ errorBound
   short-near y x p q =
-      subst (λ (z : ℤ). natAbs (z *ℤ pos 16777216 -ℤ exactResult l y x) ≤ distance)
+      subst (λ (z : ℤ). natAbs (z *ℤ pos 16777216 -ℤ exactResult l y x) ≤ errorBound)
       (ap (λ (b : List ℤ). at b (y * 8 + x)) (lone-dc l zeros) ∙ getD-replicate 64 (y * 8 + x) (dcOnly (at l 0)) (pos 0) (omega arith))
       (idct-near l .most y x p q)
 

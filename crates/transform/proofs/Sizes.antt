@@ -15,7 +15,7 @@ use Rattle.transform.specs.declared.butterfly.Eight.{Eight}
 use Rattle.transform.specs.Butterfly.{nth, butterfly}
 use Rattle.transform.specs.Steps.{over256, outputs}
 use Rattle.transform.specs.Idct.{at, lane, columns, rows, idct}
-use Rattle.laws.specs.Sizes.{AtMost, Narrow}
+use Rattle.laws.specs.Sizes.{AtMost, ResultsInBounds}
 use Rattle.transform.specs.Bounds.{BetweenPasses, inputSize, outputSize}
 use Rattle.transform.proofs.Eights.{nth-eight}
 use Rattle.transform.proofs.Blocks.{block-at}
@@ -97,7 +97,7 @@ module _ (l : List ℤ) (h : BetweenPasses l) where
       let e : (y * 8 + k * 1) % 8 ≡ k = omega arith in
       subst (λ (n : ℕ). natAbs (at l (y * 8 + k * 1)) ≤ inputSize n) e (h .entry (y * 8 + k * 1) (omega arith)))
 
-  narrow : Narrow (rows l)
+  narrow : ResultsInBounds (rows l)
   unfolding rows
   narrow =
       record {
@@ -110,6 +110,6 @@ module _ (l : List ℤ) (h : BetweenPasses l) where
       }
 
 -- RULES 4.4: the results of coefficients within 2048 × premultiplier
-pub idct-narrow : (l : List ℤ) → Bounded l → Narrow (idct l)
+pub idct-narrow : (l : List ℤ) → Bounded l → ResultsInBounds (idct l)
 unfolding idct
 idct-narrow l h = narrow (columns l) (middle l h)

@@ -25,15 +25,15 @@ abbrev pub exactResult : List ℤ → ℕ → ℕ → ℤ
 exactResult l y x = exact 2 (λ k. exactColumn l k y) (nearest (output x))
 
 -- how far apart the two can be, over 256 ^ 3: 21205 / 32768, the sum of what all roundings on the way can add
-abbrev pub distance : ℕ
-distance = 10856960
+abbrev pub errorBound : ℕ
+errorBound = 10856960
 
 -- each result of the transform is no farther from the exact one, so less than 1 away
 pub record NearExact (l : List ℤ) : Type 0 where
-  pub most : (y x : ℕ) → y < 8 → x < 8 → natAbs (at (idct l) (y * 8 + x) *ℤ pos 16777216 -ℤ exactResult l y x) ≤ distance
+  pub most : (y x : ℕ) → y < 8 → x < 8 → natAbs (at (idct l) (y * 8 + x) *ℤ pos 16777216 -ℤ exactResult l y x) ≤ errorBound
   pub less : (y x : ℕ) → y < 8 → x < 8 → natAbs (at (idct l) (y * 8 + x) *ℤ pos 16777216 -ℤ exactResult l y x) < 16777216
 
 -- the same of the short way for a block that has no coefficient but that at place 0
 pub record DcOnlyNearExact (l : List ℤ) : Type 0 where
-  pub most : (y x : ℕ) → y < 8 → x < 8 → natAbs (dcOnly (at l 0) *ℤ pos 16777216 -ℤ exactResult l y x) ≤ distance
+  pub most : (y x : ℕ) → y < 8 → x < 8 → natAbs (dcOnly (at l 0) *ℤ pos 16777216 -ℤ exactResult l y x) ≤ errorBound
   pub less : (y x : ℕ) → y < 8 → x < 8 → natAbs (dcOnly (at l 0) *ℤ pos 16777216 -ℤ exactResult l y x) < 16777216

@@ -10,7 +10,7 @@ ghost use Rattle.laws.specs.Stores.{storeRows};
 ghost use Rattle.codes.specs.Matrices.{Bounded};
 ghost use Rattle.transform.specs.Butterfly.{nth};
 ghost use Rattle.transform.specs.Idct.{at, lane, columns, rows, idct, dcOnly};
-ghost use Rattle.laws.specs.Sizes.{Narrow};
+ghost use Rattle.laws.specs.Sizes.{ResultsInBounds};
 ghost use Rattle.transform.specs.Bounds.{BetweenPasses};
 
 // Number k of the eight from start on, step apart.
@@ -100,7 +100,7 @@ fn has_length(block: [i32; 64])
 pub fn idct(block: &mut [i32; 64])
     requires { ⌜ Bounded (now block) ⌝ }
     ensures is { λ _. ⌜ now (block .exit) ≡ idct (now (block .entry)) ⌝ }
-    ensures narrow { λ _. ⌜ Narrow (now (block .exit)) ⌝ }
+    ensures narrow { λ _. ⌜ ResultsInBounds (now (block .exit)) ⌝ }
 {
     let b = *block;
     has_length(b);

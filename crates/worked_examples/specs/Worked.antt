@@ -3,7 +3,7 @@ use mathlib.Core.Bool.{true}
 use mathlib.Core.List.{List, [], _∷_}
 use Prim.Native.Nat.{ℕ}
 use lib.IntN.{ℤ, pos, negℤ, _+ℤ_}
-use Rattle.motion.specs.Displacement.{displace, corrected}
+use Rattle.motion.specs.Displacement.{displacementFrom, corrected}
 use Rattle.coefficients.specs.Dcs.{added}
 use Rattle.coefficients.specs.Dequantise.{quantiser, dequantised}
 use Rattle.prediction.specs.Predict.{chroma}
@@ -22,7 +22,7 @@ pub data RuleInput : Type 0 where
 
 -- what the definitions of the contracts make of it
 unfoldable pub evaluated : RuleInput → ℤ
-evaluated (vector f component code residual) = corrected f (component +ℤ displace f code residual)
+evaluated (vector f component code residual) = corrected f (component +ℤ displacementFrom f code residual)
 evaluated (moved f component displacement) = corrected f (component +ℤ displacement)
 evaluated (average a b c d) = pos (average4 a b c d)
 evaluated (chromaHalf component) = chroma component

@@ -1,16 +1,17 @@
 -- 2.4.2.8, 2.4.3.7, 2.4.4.1, 2.4.4.2: block(i). dct_coeff_first, dct_coeff_next and end_of_block are read by `pairs` of crates/coefficients.
 use Rattle.codes.specs.Matrices.{zigZag}
-use Rattle.coefficients.specs.declared.block.BlockEnd.the-variants.{Whole, Dropped, Outside}
+use Rattle.coefficients.specs.declared.block.BlockEnd.the-variants.{Complete, Dropped, DcOutOfRange}
 use Rattle.coefficients.specs.{Dcs.dcSize, Standard.dctZZ0, Syntax.Pair, Syntax.PairsEnd, Syntax.pairs}
 use Rattle.prediction.specs.{Planes.planeOf, Planes.planeLength, Writers.overwrite, Writers.addBlock, Writers.blockWidth, Writers.blockAddress}
 use Rattle.blocks.specs.Blocks.{matrixFor}
-use Rattle.standard.specs.Standard.Words.{Bool, true, false, _&&_, _||_, List, [], _∷_, ℕ, _+_, _-_, _^_, eqb, ltb, leb, ℤ, pos, negℤ, natAbs, _+ℤ_}
-use Rattle.standard.specs.Standard.Words.{_-ℤ_, _*ℤ_, getD, set, replicate, ltZ, leZ, midOf, putMid, Prog, bits, if_then_else_, macroblockAt, planeStart}
-use Rattle.standard.specs.Standard.Words.{Result, ok, lift, fromResult, pure, forBelow, _>>=_, _>>_, flag, Forbidden, forbidden, shall, tableCode}
+use Rattle.standard.specs.Standard.Prelude.{Bool, true, false, _&&_, _||_, List, [], _∷_, ℕ, _+_, _-_, _^_, eqb, ltb, leb, ℤ, pos, negℤ, natAbs, _+ℤ_}
+use Rattle.standard.specs.Standard.Prelude.{_-ℤ_, _*ℤ_, getD, set, replicate, ltZ, leZ, midOf, putMid, Prog, bits, if_then_else_, macroblockAt}
+use Rattle.standard.specs.Standard.Prelude.{planeStart}
+use Rattle.standard.specs.Standard.Prelude.{Result, ok, lift, fromResult, pure, forBelow, _>>=_, _>>_, flag, Forbidden, forbidden, shall, tableCode}
 use Rattle.standard.specs.Standard.State.{Coding, Pasts, pasts, Variables}
 
 -- dct_recon so far, row by row, and how many places of the zig-zag order are used
-pub record Filled : Type 0 where
+pub record PartialBlock : Type 0 where
   pub recon : List ℤ
   pub n : ℕ
 
@@ -19,7 +20,7 @@ abbrev pub isLevel : ℤ → Bool
 isLevel level = leb 1 (natAbs level) && leb (natAbs level) 255
 
 -- 2.4.3.7: i = i + run + 1; dct_zz[i] = level. 2.4.4.1, 2.4.4.2: dct_recon[m][n], where scan[m][n] is i
-unfoldable pub reconstructed : Coding → Bool → ℕ → Filled → List Pair → Result Forbidden Filled
+unfoldable pub reconstructed : Coding → Bool → ℕ → PartialBlock → List Pair → Result Forbidden PartialBlock
 reconstructed g intra scale f [] = ok f
 reconstructed g intra scale f (p ∷ ps) =
     let position = getD zigZag (f .n + p .run) 0 in
@@ -29,8 +30,8 @@ reconstructed g intra scale f (p ∷ ps) =
     else forbidden
 
 -- up to end_of_block, within the 64 places
-abbrev pub coefficients : Coding → Bool → ℕ → Filled → PairsEnd → Result Forbidden Filled
-coefficients g intra scale f p = elim (p .end) [ Whole ↦ reconstructed g intra scale f (p .pairs) | Dropped ↦ forbidden | Outside ↦ forbidden ]
+abbrev pub coefficients : Coding → Bool → ℕ → PartialBlock → PairsEnd → Result Forbidden PartialBlock
+coefficients g intra scale f p = elim (p .end) [ Complete ↦ reconstructed g intra scale f (p .pairs) | Dropped ↦ forbidden | DcOutOfRange ↦ forbidden ]
 
 -- Table B.5: how many bits the longest code of dct_dc_size_luminance or dct_dc_size_chrominance has; what is 1 in all of them is no code
 abbrev pub longestSize : Bool → ℕ
@@ -52,8 +53,8 @@ abbrev pub pastAs : ℕ → ℤ → Pasts → Pasts
 pastAs i x p = if ltb i 4 then pasts x (p .cb) (p .cr) else if eqb i 4 then pasts (p .y) x (p .cr) else pasts (p .y) (p .cb) x
 
 -- 2.4.4.1: macroblock_address - past_intra_address > 1
-abbrev pub far : ℤ → Variables → Bool
-far address v = ltZ (pos 1) (address -ℤ v .«past_intra_address»)
+abbrev pub noIntraJustBefore : ℤ → Variables → Bool
+noIntraJustBefore address v = ltZ (pos 1) (address -ℤ v .«past_intra_address»)
 
 -- 2.4.4.1: what is added to dct_zz[0] * 8: the past of block i, but 128 * 8 for block 0, for Cb and for Cr where the last intra macroblock is far
 abbrev pub dcPredictor : Bool → ℕ → Pasts → ℤ
@@ -65,7 +66,7 @@ pub record Blocks : Type 0 where
   pub pels : List ℕ
 
 -- 2.4.4.1, 2.4.4.2: the pels of block i in its plane become the transformed values, or these are added to them; clipped to 0 to 255
-unfoldable pub written : Coding → Bool → ℕ → ℕ → Filled → List ℕ → List ℕ
+unfoldable pub written : Coding → Bool → ℕ → ℕ → PartialBlock → List ℕ → List ℕ
 written g intra i address f l =
     let m = macroblockAt (g .context .sizes .«mb_width») (g .context .sizes .«mb_height») address in
     let start = planeStart (g .context .stores .cur) (planeOf i) (g .context .sizes .«mb_size») in

@@ -3,11 +3,12 @@ use Rattle.laws.specs.Stores.{storeRows}
 use Rattle.motion.specs.Standard.{standardVector}
 use Rattle.prediction.specs.{declared.position.Macroblock.Macroblock, declared.position.BlockPosition.BlockPosition, declared.planes.Plane.Plane}
 use Rattle.prediction.specs.declared.planes.Plane.the-variants.{Y, Cr, Cb}
-use Rattle.prediction.specs.Predict.{blockOf, width, height, bytes, address, inHalves}
-use Rattle.prediction.specs.{Planes.blockSize, Planes.macroblocks, Standard.whole, Standard.half, Standard.chrominance, Standard.pel, Standard.interpolated}
-use Rattle.standard.specs.Standard.Words.{Bool, true, false, not, _&&_, _||_, List, ℕ, zero, suc, _+_, _-_, _*_, eqb, ltb, leb, ℤ, pos, natAbs}
-use Rattle.standard.specs.Standard.Words.{_+ℤ_, getD, leZ, midOf, putMid, Prog, if_then_else_, macroblockAt, planeStart, Result, ok, andThen}
-use Rattle.standard.specs.Standard.Words.{pure, _>>=_, _>>_, Forbidden, forbidden, tableCode}
+use Rattle.prediction.specs.Predict.{blockPositionOf, width, height, bytes, address, inHalves}
+use Rattle.prediction.specs.{Planes.blockSize, Planes.macroblocks, Standard.wholeSamples, Standard.halfSample, Standard.chrominance, Standard.pel}
+use Rattle.prediction.specs.{Standard.interpolated}
+use Rattle.standard.specs.Standard.Prelude.{Bool, true, false, not, _&&_, _||_, List, ℕ, zero, suc, _+_, _-_, _*_, eqb, ltb, leb, ℤ, pos, natAbs}
+use Rattle.standard.specs.Standard.Prelude.{_+ℤ_, getD, leZ, midOf, putMid, Prog, if_then_else_, macroblockAt, planeStart, Result, ok, andThen}
+use Rattle.standard.specs.Standard.Prelude.{pure, _>>=_, _>>_, Forbidden, forbidden, tableCode}
 use Rattle.standard.specs.Standard.State.{Vector, zero-vector, Direction, Coding, Variables}
 use Rattle.standard.specs.Standard.State.{«macroblock_motion_forward», «macroblock_motion_backward», «macroblock_intra»}
 
@@ -43,7 +44,7 @@ backVector g t prev = if «macroblock_motion_backward» t then vector (g .backwa
 -- the n samples at `from`, moved by a component in half samples, are among the first `size`
 abbrev pub inside : ℕ → ℕ → ℤ → ℕ → Bool
 inside from n recon size =
-    leZ (pos 0) (pos from +ℤ whole recon) && leZ (pos from +ℤ whole recon +ℤ pos n +ℤ half recon) (pos size)
+    leZ (pos 0) (pos from +ℤ wholeSamples recon) && leZ (pos from +ℤ wholeSamples recon +ℤ pos n +ℤ halfSample recon) (pos size)
 
 -- 2.4.3.6: no reference outside the picture, which has at most 256 macroblocks a side
 abbrev pub inPicture : BlockPosition → ℤ → ℤ → Bool
@@ -61,7 +62,7 @@ pels p s d right down average =
 -- one plane of the picture, from that of the store number k
 unfoldable pub predictedPlane : Coding → Macroblock → ℕ → Bool → Plane → ℤ → ℤ → List ℕ → Result Forbidden (List ℕ)
 predictedPlane g m k average q right down l =
-    let p = blockOf m (blockSize q) in
+    let p = blockPositionOf m (blockSize q) in
     let from = planeStart k q (macroblocks m) in
     let to = planeStart (g .context .stores .cur) q (macroblocks m) in
     if inPicture p right down then ok (putMid to (bytes p) l (pels p (midOf from (bytes p) l) (midOf to (bytes p) l) right down average)) else forbidden

@@ -1,6 +1,6 @@
 -- What a picture's slices are given, the variables of the decoding process (2.4.4), and macroblock_type.
 use Rattle.codes.specs.Standard.{Code, macroblockTypeIntraCodes, macroblockTypePredictiveCodes, macroblockTypeBCodes}
-use Rattle.standard.specs.Standard.Words.{Bool, false, _||_, List, [], _∷_, ℕ, eqb, ℤ, pos, if_then_else_, Context, Matrices, flag}
+use Rattle.standard.specs.Standard.Prelude.{Bool, false, _||_, List, [], _∷_, ℕ, eqb, ℤ, pos, if_then_else_, Context, Matrices, flag}
 
 -- 2.4.4.2: a vector in the units of the stream: recon_right_.., recon_down_..
 pub record Vector : Type 0 where

@@ -9,7 +9,7 @@ use lib.IntN.{pos}
 use lib.ListN.{getD}
 use mir.Syntax.{w32}
 use mir.Val.{toZ, ofZ}
-use Rattle.coefficients.specs.Dcs.{dcInside}
+use Rattle.coefficients.specs.Dcs.{dcInRange}
 use Rattle.coefficients.specs.Blocks.{blockReadOf}
 use Rattle.coefficients.proofs.Kept.{Kept}
 use Rattle.blocks.specs.Blocks.{predictorOf, quantiserOf}
@@ -31,7 +31,7 @@ read c = c .before .before .before .before .before .before
 abbrev ended : tie.After-write-block → tie.At-match-keys2
 ended c = c .before .before .before .before .before
 
-abbrev written : tie.After-predicted → tie.After-write-block
+abbrev written : tie.After-with-dc-predictor → tie.After-write-block
 written c = c .before .before .before .before
 
 quantiser-is : (c : tie.After-predictor-of) → let a = entry c .args in
@@ -39,7 +39,7 @@ quantiser-is : (c : tie.After-predictor-of) → let a = entry c .args in
 quantiser-is c = c .before .before .quantiser-of .ensures
 
 -- the predictor, as the code reads it
-inside : (c : tie.After-predictor-of) → dcInside (getD (entry c .args .state .«dc_predictor») (c .predictor-of .result) (pos 0)) ≡ true
+inside : (c : tie.After-predictor-of) → dcInRange (getD (entry c .args .state .«dc_predictor») (c .predictor-of .result) (pos 0)) ≡ true
 inside c =
     let s = entry c in
     s .pre .0 .reads .slice .predictors (c .predictor-of .result) (omega (arith, c .predictor-of .ensures, s .pre .1 .1))
@@ -76,8 +76,8 @@ write-block-requires c κs =
     let k = entry (predictor x) .pre .0 in
     (k .storeFits, (rw (address-read (k .reads .slice)) (k .here), read-kept x .bounded))
 
-predicted-requires : tie.Need-predicted-requires
-predicted-requires c κs = entry (predictor (read (c .before .before .before .before))) .pre .1 .1
+with-dc-predictor-requires : tie.Need-with-dc-predictor-requires
+with-dc-predictor-requires c κs = entry (predictor (read (c .before .before .before .before))) .pre .1 .1
 
 returns-2 : tie.Need-returns-2
 returns-2 c =
@@ -88,10 +88,10 @@ returns-2 c =
     let e = rw (address-read (s .pre .0 .reads .slice)) at (w .write-block .ensures) in
     block-on (a .coded .context) (now (a .tables)) (a .coded .intra) (a .number) (a .state) (now (a .values)) (now (a .store)) (s .pre .0) (s .pre .1 .1)
     (quantiser-is (predictor x)) (predictor-is (predictor x)) (x .read-block .ensures) (ended w .match .keys2) (e .0) (e .1)
-    (rw (inside-read _ (read-kept x .predictor)) at (c .predicted .ensures)) (w .write-block .kept .0)
+    (rw (inside-read _ (read-kept x .predictor)) at (c .with-dc-predictor .ensures)) (w .write-block .kept .0)
 
 pub one-block-spec : {M : Type 1} → statement M
 one-block-spec =
     tie.close
     (tie.spec (λ c κs. search needs) (λ c κs. search needs) (λ c. search needs) (λ c. search needs) read-block-requires (λ c. search needs)
-    returns write-block-requires predicted-requires (λ c. search needs) returns-2)
+    returns write-block-requires with-dc-predictor-requires (λ c. search needs) returns-2)

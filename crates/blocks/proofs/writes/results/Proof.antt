@@ -9,7 +9,7 @@ use mir.Syntax.{w32}
 use mir.Val.{toZ, ofZ}
 use mir.Facts.{toZ-ofZ}
 use Rattle.codes.specs.Matrices.{premultiplierMatrix}
-use Rattle.coefficients.specs.Blocks.{filled}
+use Rattle.coefficients.specs.Blocks.{blockCoefficients}
 use Rattle.transform.specs.Idct.{dcOnly}
 use Rattle.blocks.proofs.Results.{first-intra, first-other, all-intra, all-other}
 use Rattle.blocks.proofs.writes.results.Statement.{statement}
@@ -39,7 +39,7 @@ first-is c =
 returns : tie.Need-returns
 returns c =
     let f = if-one c .before in let a = f .before .before .before .before .args in
-    first-intra (a .q) (filled (now (a .values)) (a .n)) (a .di) (a .dw) (now (a .d)) (f .before .before .if1 .taken) (first-is f)
+    first-intra (a .q) (blockCoefficients (now (a .values)) (a .n)) (a .di) (a .dw) (now (a .d)) (f .before .before .if1 .taken) (first-is f)
     (if-one c .if2 .taken) (c .before .before .before .clamp-u8 .ensures) (c .before .before .block-set-const .ensures)
 
 block-set-add-const-requires : tie.Need-block-set-add-const-requires
@@ -51,19 +51,19 @@ block-set-add-const-requires c κs =
 returns-2 : tie.Need-returns-2
 returns-2 c =
     let o = c .before .before .before .before in let f = o .before in let a = f .before .before .before .before .args in
-    first-other (a .q) (filled (now (a .values)) (a .n)) (a .di) (a .dw) (now (a .d)) (f .before .before .if1 .taken) (first-is f)
+    first-other (a .q) (blockCoefficients (now (a .values)) (a .n)) (a .di) (a .dw) (now (a .d)) (f .before .before .if1 .taken) (first-is f)
     (o .if2 .left) (c .before .before .block-set-add-const .ensures)
 
 returns-3 : tie.Need-returns-3
 returns-3 c =
     let i = if-all c .before in let a = i .before .before .before .before .args in
-    all-intra (a .q) (filled (now (a .values)) (a .n)) (a .di) (a .dw) (now (a .d)) (i .before .before .if1 .left) (i .idct .ensures .0)
+    all-intra (a .q) (blockCoefficients (now (a .values)) (a .n)) (a .di) (a .dw) (now (a .d)) (i .before .before .if1 .left) (i .idct .ensures .0)
     (if-all c .if3 .taken) (c .before .before .block-set-overwrite .ensures)
 
 returns-4 : tie.Need-returns-4
 returns-4 c =
     let i = if-added c .before in let a = i .before .before .before .before .args in
-    all-other (a .q) (filled (now (a .values)) (a .n)) (a .di) (a .dw) (now (a .d)) (i .before .before .if1 .left) (i .idct .ensures .0)
+    all-other (a .q) (blockCoefficients (now (a .values)) (a .n)) (a .di) (a .dw) (now (a .d)) (i .before .before .if1 .left) (i .idct .ensures .0)
     (if-added c .if3 .left) (c .before .before .block-set-add .ensures)
 
 pub results-spec : {M : Type 1} → statement M

@@ -3,7 +3,7 @@ use denote.Ref.{now}
 use mir.Facts.{toZ-ofZ}
 use borrow.Author.Needs.{needs}
 use lib.IntN.{natAbs}
-use Rattle.coefficients.specs.Blocks.{filled, blockDataAfter}
+use Rattle.coefficients.specs.Blocks.{blockCoefficients, blockDataAfter}
 use Rattle.blocks.specs.Contracts.{storeAfter}
 use Rattle.blocks.proofs.BlockEnds.{not-whole}
 use Rattle.blocks.proofs.writes.write_block.Statement.{statement}
@@ -26,7 +26,7 @@ returns c =
 returns-2 : tie.Need-returns-2
 returns-2 c =
     let a = c .before .before .args in
-    not-whole (a .g) (a .q) (a .number) (natAbs (a .address)) (filled (now (a .values)) (a .r .n)) (a .r .predictor) (a .r .end) (now (a .store))
+    not-whole (a .g) (a .q) (a .number) (natAbs (a .address)) (blockCoefficients (now (a .values)) (a .r .n)) (a .r .predictor) (a .r .end) (now (a .store))
     (c .match .keys2)
 
 pub write-block-spec : {M : Type 1} → statement M

@@ -6,7 +6,7 @@ use denote.Ref.{now}
 use mir.Facts.{toZ-ofZ}
 use borrow.Author.Needs.{needs}
 use lib.IntN.{ℤ, natAbs}
-use Rattle.coefficients.specs.Blocks.{filled}
+use Rattle.coefficients.specs.Blocks.{blockCoefficients}
 use Rattle.prediction.specs.Planes.{planeOf, planeLength, planeStart}
 use Rattle.prediction.specs.Predict.{macroblockAt}
 use Rattle.picture_state.proofs.Ready.{size-most}
@@ -82,7 +82,7 @@ returns c =
     let s = entry p in
     in-store (s .pre .0) _ (s .args .number) (natAbs (s .args .address)) (m-is (p .before .before .before))
     (start-is p) (length-is p) (placed c .block-width .ensures .0)
-    (placed c .before .block-address .ensures .0) (s .args .q) (filled (now (s .args .values)) (s .args .n)) (c .before .before .results .ensures)
+    (placed c .before .block-address .ensures .0) (s .args .q) (blockCoefficients (now (s .args .values)) (s .args .n)) (c .before .before .results .ensures)
 
 pub write-results-spec : {M : Type 1} → statement M
 write-results-spec =

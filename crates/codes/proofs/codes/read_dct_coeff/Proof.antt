@@ -32,13 +32,13 @@ returns c =
     further-code (begun x .pre .0) (coefficient-agrees _ _ (two x) (x .next-eight .ensures) refl) (places .coefficient) (begun x .pre .1)
     (c .before .advanced-by .ensures) (c .read-natural-from .ensures) (coefficient-further _ (omega (arith, c .before .before .if2 .taken)))
 
-look-requires : tie.Need-look-dct-coeff-requires
+look-requires : tie.Need-lookup-dct-coeff-requires
 look-requires c κs = below _ _ (c .before .next-eight .ensures)
 
 returns-2 : tie.Need-returns-2
 returns-2 c =
     let x = c .before .before .before in
-    let e = c .before .look-dct-coeff .ensures in
+    let e = c .before .lookup-dct-coeff .ensures in
     let some = coefficient-ends _ (below _ _ (x .next-eight .ensures)) (c .before .before .if2 .left) in
     looked-code (begun x .pre .0) (coefficient-agrees _ _ (two x) (x .next-eight .ensures) e) (rw e some) (c .found .ensures .0) (c .found .ensures .1)
 

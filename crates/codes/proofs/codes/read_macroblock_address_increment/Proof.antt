@@ -7,7 +7,7 @@ use lib.ListN.{length}
 use native.Mathlib.Omega.{arith}
 use denote.Ref.{now}
 use Rattle.bits.specs.Runs.{positionOf}
-use Rattle.codes.specs.Look.{walkedEight}
+use Rattle.codes.specs.ByteLookup.{walkByte}
 use Rattle.codes.specs.Tables.{macroblockAddressIncrementIndex}
 use Rattle.codes.proofs.Looked.{increment-one, increment-agrees, increment-further, increment-ends, below, looked-code, further-code, further-asks}
 use Rattle.codes.proofs.Parts.{places, natural-table, natural-code}
@@ -34,7 +34,7 @@ returns c =
     let x = c .before .before .before .before in
     further-code (begun x .pre .0) (increment-agrees _ _ (two x) (x .next-eight .ensures) refl) (places .increment) (begun x .pre .1)
     (c .before .advanced-by .ensures) (c .read-natural-from .ensures)
-    (ap (walkedEight macroblockAddressIncrementIndex) (c .before .before .if3 .taken) ∙ increment-one)
+    (ap (walkByte macroblockAddressIncrementIndex) (c .before .before .if3 .taken) ∙ increment-one)
 
 further-requires-2 : tie.Need-read-natural-from-requires-2
 further-requires-2 c κs =
@@ -48,13 +48,13 @@ returns-2 c =
     (c .before .advanced-by2 .ensures) (c .read-natural-from2 .ensures)
     (increment-further _ (c .before .before .if4 .taken) (c .before .before .before .before .if2 .taken))
 
-look-requires : tie.Need-look-macroblock-address-increment-requires
+look-requires : tie.Need-lookup-macroblock-address-increment-requires
 look-requires c κs = below _ _ (c .before .next-eight .ensures)
 
 returns-3 : tie.Need-returns-3
 returns-3 c =
     let x = c .before .before .before in
-    let e = c .before .look-macroblock-address-increment .ensures in
+    let e = c .before .lookup-macroblock-address-increment .ensures in
     let k = x .next-eight .result in
     let rest : (k ≡ 1 → ⊥) × (2 < k → 6 ≤ k)
     = ⊎-elim (λ w. (w .1 .left, λ h. omega (arith, w .2 .left))) (λ w. (λ q. omega (arith, w .left), λ h. w .left)) (c .before .before .if2 .came) in

@@ -4,7 +4,7 @@ use borrow.Author.Needs.{needs}
 use Prim.Native.Nat.{ℕ}
 use lib.ListN.{take, drop}
 use Rattle.codes.specs.Codes.{motion}
-use Rattle.codes.specs.Lent.{Lent, Joined}
+use Rattle.codes.specs.DecodingTables.{DecodingTables, IsMergedTable}
 use Rattle.codes.specs.Tables.{motionIndex, motionValue}
 use Rattle.codes.proofs.Good.{good-motion}
 use Rattle.codes.proofs.Joined.{joined-leading}
@@ -12,7 +12,7 @@ use Rattle.codes.proofs.Parts.{places, lent-part}
 use Rattle.codes.proofs.codes.read_motion.Statement.{statement}
 use Rattle.codes.proofs.codes.read_motion.Tie as tie
 
-here : {t : List ℕ} → Lent t → Joined motionIndex motionValue (take 68 (drop 246 t))
+here : {t : List ℕ} → DecodingTables t → IsMergedTable motionIndex motionValue (take 68 (drop 246 t))
 unfolding motionIndex motionValue
 here l = record { is = lent-part l 246 68 (omega arith) (places .vector); places = tt; values = tt }
 

@@ -10,10 +10,10 @@ use lib.IntN.{ℤ, pos, natAbs}
 use lib.Signed.{leZ}
 use denote.Ref.{now}
 use Rattle.laws.proofs.Ints.{lit, no-le}
-use Rattle.bits.specs.Runs.{Inside}
+use Rattle.bits.specs.Runs.{ReaderInBounds}
 use Rattle.bits.proofs.Gives.{given-by, g-bits}
 use Rattle.bits.proofs.Rules.{Loops, loop-start, loop-on, loop-end, r-call, r-yes, r-no, r-done, reading}
-use Rattle.codes.specs.Lent.{indexOf, indices}
+use Rattle.codes.specs.DecodingTables.{indexOf, indices}
 use Rattle.codes.specs.Walk.{walkStep}
 use Rattle.codes.proofs.Lists.{map-at, length-map}
 use Rattle.codes.proofs.walk.walk_from.Statement.{statement}
@@ -29,7 +29,7 @@ index-on t k h = map-at indexOf t 0 k ∙ ap (λ (b : Bool). cond b (pos 0) (pos
 
 abbrev Inv-loop : tie.InvT-loop
 Inv-loop s table pair from₀ at₀ from at =
-    Inside s from × (at + 1 < length table)
+    ReaderInBounds s from × (at + 1 < length table)
     × Loops (length (indices table)) (walkStep (indices table)) 0 pair s from₀ at from (length table - 1 - at)
 
 abbrev μ-loop : tie.MeasureT-loop

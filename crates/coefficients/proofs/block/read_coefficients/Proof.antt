@@ -8,14 +8,14 @@ use denote.Ref.{now}
 use mir.Facts.{toZ-ofZ}
 use mir.Syntax.{w32}
 use Rattle.laws.proofs.Nums.{num, rd}
-use Rattle.bits.specs.Runs.{Runs, Inside}
+use Rattle.bits.specs.Runs.{Runs, ReaderInBounds}
 use Rattle.bits.proofs.Gives.{given-by}
 use Rattle.bits.proofs.Rules.{reading}
-use Rattle.codes.specs.Lent.{matrixOf}
+use Rattle.codes.specs.DecodingTables.{matrixOf}
 use Rattle.codes.proofs.Bounds.{zig-zag-inside}
 use Rattle.coefficients.specs.declared.coefficient.Coefficient.{Coefficient}
 use Rattle.coefficients.specs.declared.coefficient.Coefficient.the-variants.{RunLevel}
-use Rattle.coefficients.specs.Blocks.{filled}
+use Rattle.coefficients.specs.Blocks.{blockCoefficients}
 use Rattle.coefficients.specs.Coefficients.{coefficient}
 use Rattle.coefficients.proofs.Placing.{AtPair, pair-start, pair-on, pair-whole, pair-dropped}
 use Rattle.coefficients.proofs.Sizes.{coefficient-small}
@@ -24,7 +24,7 @@ use Rattle.coefficients.proofs.block.read_coefficients.Tie as tie
 
 abbrev Inv-loop : tie.InvT-loop
 Inv-loop s tables values₀ q first from₀ n₀ values from n =
-    Inside s from × AtPair q (matrixOf tables (q .intra)) (filled values₀ first) s from₀ (filled values n) from
+    ReaderInBounds s from × AtPair q (matrixOf tables (q .intra)) (blockCoefficients values₀ first) s from₀ (blockCoefficients values n) from
 
 abbrev μ-loop : tie.MeasureT-loop
 μ-loop s tables values₀ q first from₀ n₀ values from n = 64 - n
@@ -73,8 +73,8 @@ returns-2 c =
     let k = c .before in
     reading (begun k .pre .0) (pair-dropped (at-loop k .loop .inv .1) (pair-read k) (c .if1 .taken))
 
-inside : (c : tie.After-position-of Inv-loop μ-loop) → c .position-of .result < 64
-inside c = rw (c .position-of .ensures) (zig-zag-inside _)
+inside : (c : tie.After-zig-zag-position Inv-loop μ-loop) → c .zig-zag-position .result < 64
+inside c = rw (c .zig-zag-position .ensures) (zig-zag-inside _)
 
 premultiplied-requires : tie.Need-premultiplied-requires Inv-loop μ-loop
 premultiplied-requires c κs =
@@ -91,7 +91,7 @@ loop-again c =
     let k = p .before .before in
     let a = begun k .args in
     let e = toZ-ofZ {w = w32} (sfits-of (c .premultiplied .ok)) ∙ (rw (rd w32 (num {s = level k} (small k .1)) tt .is) at (c .premultiplied .ensures)) in
-    rw (e, p .position-of .ensures) (
+    rw (e, p .zig-zag-position .ensures) (
       read k .read-coefficient .ensures .inside,
       pair-on (at-loop k .loop .inv .1) (pair-read k) (p .before .if1 .left),
     )

@@ -10,7 +10,7 @@ use mir.Syntax.{w32}
 use Rattle.laws.proofs.Exprs.{Exp, var, cst, _⊹_, _×̇_, Input, signed, need, value}
 use Rattle.bits.proofs.Gives.{given-by}
 use Rattle.bits.proofs.Rules.{reading}
-use Rattle.coefficients.specs.Dcs.{dcInside}
+use Rattle.coefficients.specs.Dcs.{dcInRange}
 use Rattle.coefficients.proofs.Placing.{dc-outside, after-dc}
 use Rattle.coefficients.proofs.Sizes.{difference-small, inside-small}
 use Rattle.coefficients.proofs.block.read_intra_block.Statement.{statement}
@@ -36,13 +36,13 @@ abbrev first : Exp
 first = sum ×̇ cst 256
 
 -- the difference, where its value is judged
-abbrev difference : tie.After-dc-inside → tie.After-read-dc-difference
+abbrev difference : tie.After-dc-in-range → tie.After-read-dc-difference
 difference c = c .before .before .before .before
 
 -- question 8, of the DC value
-inside : (c : tie.After-dc-inside) → let d = difference c in
-    c .dc-inside .result ≡ dcInside (begun d .args .predictor +ℤ d .read-dc-difference .result .value)
-inside c = c .dc-inside .ensures ∙ ap dcInside (value (ρ (difference c)) sum tt)
+inside : (c : tie.After-dc-in-range) → let d = difference c in
+    c .dc-in-range .result ≡ dcInRange (begun d .args .predictor +ℤ d .read-dc-difference .result .value)
+inside c = c .dc-in-range .ensures ∙ ap dcInRange (value (ρ (difference c)) sum tt)
 
 returns : tie.Need-returns
 returns c =

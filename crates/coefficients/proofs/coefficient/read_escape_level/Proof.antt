@@ -4,7 +4,7 @@ use native.Mathlib.Omega.{arith}
 use borrow.Author.Tests.{eq-eqb, ne-eqb, lt-ltb, le-ltb}
 use mir.Syntax.{w32}
 use Rattle.laws.proofs.Exprs.{Exp, var, cst, _∸_, Input, natural, need, value, eval-fits}
-use Rattle.bits.specs.Programs.{reads}
+use Rattle.bits.specs.Programs.{readAtMost32}
 use Rattle.bits.specs.Runs.{Runs}
 use Rattle.bits.specs.declared.reader.Reader.{Reader}
 use Rattle.bits.proofs.Gives.{given-by, g-reads}
@@ -21,7 +21,7 @@ abbrev less : Exp
 less = var 0 ∸ cst 256
 
 -- eight bits that were read
-eight : {s : List ℕ} {from to : Reader} {v : ℕ} → Runs (reads 8) s from v to → v ≤ 255
+eight : {s : List ℕ} {from to : Reader} {v : ℕ} → Runs (readAtMost32 8) s from v to → v ≤ 255
 eight r = omega (arith, given-by (g-reads 8) r)
 
 read-requires : tie.Need-read-requires

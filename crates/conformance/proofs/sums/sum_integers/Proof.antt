@@ -20,7 +20,8 @@ loop-again : tie.Need-loop-again Inv-loop μ-loop
 unfolding summed
 loop-again c =
     let l = c .before .before .before .before in
-    let z = held-is (getD (now (l .before .args .integers)) (l .loop .i) (pos 0)) (c .before .held .ensures) (sfits-of (c .before .before .z .given)) in
+    let z = held-is (getD (now (l .before .args .integers)) (l .loop .i) (pos 0)) (c .before .twos-complement .ensures)
+    (sfits-of (c .before .before .z .given)) in
     wording-one (pos 0) (l .loop .inv) (c .before .before .before .loop-test .taken) (c .mixed .ensures .0 ∙ ap (mixed (l .loop .sum)) z)
     (c .mixed .ensures .1)
 

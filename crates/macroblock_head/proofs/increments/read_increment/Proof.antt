@@ -1,11 +1,11 @@
 use borrow.Author.Tests.{not-true, not-false}
 use Rattle.bits.specs.Runs.{bitsLeft}
-use Rattle.macroblock_head.proofs.Sums.{AtCode, at-code, sum-most, goes-on, at-code-on, code-end}
+use Rattle.macroblock_head.proofs.Sums.{AtSequenceCode, at-code, sum-most, goes-on, at-code-on, code-end}
 use Rattle.macroblock_head.proofs.increments.read_increment.Statement.{statement}
 use Rattle.macroblock_head.proofs.increments.read_increment.Tie as tie
 
 abbrev Inv-loop : tie.InvT-loop
-Inv-loop s tables from₀ sum₀ from sum = AtCode s from₀ from sum
+Inv-loop s tables from₀ sum₀ from sum = AtSequenceCode s from₀ from sum
 
 abbrev μ-loop : tie.MeasureT-loop
 μ-loop s tables from₀ sum₀ from sum = bitsLeft s from

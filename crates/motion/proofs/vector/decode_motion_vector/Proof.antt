@@ -9,7 +9,7 @@ use mir.Val.{SFits}
 use denote.Ref.{now}
 use borrow.Author.Needs.{needs, sfits-of}
 use Rattle.laws.proofs.Ints.{reread, v, lit, neg, _⊕_, le-of, lt-of, abs-by, abs-of, fits-by}
-use Rattle.bits.specs.Runs.{Reading}
+use Rattle.bits.specs.Runs.{RunsInBounds}
 use Rattle.bits.proofs.Gives.{given-by}
 use Rattle.bits.proofs.Rules.{r-call, r-done, reading}
 use Rattle.motion.specs.Displacement.{corrected}
@@ -71,7 +71,7 @@ moved c =
 
 -- so it is what a step gives
 stepped : (x : tie.After-read-displacement) {z : ℤ} → z ≡ corrected (f x) (a x +ℤ d x)
-    → Reading (motionVector (s x .args .r) (a x)) (now (s x .args .s)) (s x .args .reader) z (x .read-displacement .result .reader)
+    → RunsInBounds (motionVector (s x .args .r) (a x)) (now (s x .args .s)) (s x .args .reader) z (x .read-displacement .result .reader)
 unfolding motionVector
 stepped x is = rw is (reading (s x .pre .0) (r-call _ (x .read-displacement .ensures .runs) r-done))
 

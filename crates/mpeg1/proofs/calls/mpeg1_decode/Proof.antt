@@ -9,7 +9,7 @@ use lib.ListN.{length}
 use Rattle.playback.specs.declared.outcome.Outcome.{Outcome}
 use Rattle.decoder.specs.Answers.{decodeErrorCode}
 use Rattle.memory.specs.Memory.{Memory, memory, over, isRecord}
-use Rattle.mpeg1.specs.Calls.{pictureCount, decodesIn}
+use Rattle.mpeg1.specs.Calls.{pictureCount, hostDecode}
 use Rattle.mpeg1.proofs.Answers.{decodes-1, decodes-2, decodes-short, told, decodes}
 use Rattle.mpeg1.proofs.calls.mpeg1_decode.Statement.{statement}
 use Rattle.mpeg1.proofs.calls.mpeg1_decode.Tie as tie
@@ -83,7 +83,7 @@ module _ (c : tie.After-slice-known9) where
 
   gives : {a : Outcome} → gave .decode-record .result ≡ a
       → told a (gave .decode-record .last .1 .0) memory-left (now (start .args .picture)) (now (start .args .time))
-      ≡ decodesIn (now (start .args .stream)) (now (start .args .store)) (lent start) (now (start .args .picture)) (now (start .args .time))
+      ≡ hostDecode (now (start .args .stream)) (now (start .args .store)) (lent start) (now (start .args .picture)) (now (start .args .time))
   gives e = rw (← e) (decodes _ _ _ _ _ (roomy (ready .before) .before .if1 .left) (is ready) room (gave .decode-record .ensures))
 
 -- the outcome is a number

@@ -3,7 +3,7 @@ use borrow.Author.Needs.{needs}
 use borrow.Author.Tests.{not-true, not-false}
 use denote.Ref.{now}
 use Rattle.header.specs.Possible.{possibleSequence}
-use Rattle.mpeg1.specs.Views.{sequenceSeen}
+use Rattle.mpeg1.specs.Views.{sequenceUnchecked}
 use Rattle.mpeg1.proofs.Seen.{few, none-seen, seen-short, seen-flag, seen-impossible, seen-is}
 use Rattle.mpeg1.proofs.views.seen.Statement.{statement}
 use Rattle.mpeg1.proofs.views.seen.Tie as tie
@@ -25,11 +25,12 @@ returns-2 c =
     none-seen n (c .fresh-sequence2 .ensures) (seen-flag n (e .if1 .left) (c .before .if2 .taken))
 
 -- what was read, and the answer to the question
-read : (c : tie.After-possible-sequence) → let s = entry (asked c .before .before) in c .before .sequence-in .result ≡ sequenceSeen (now (s .args .numbers))
+read : (c : tie.After-possible-sequence) → let s =
+    entry (asked c .before .before) in c .before .sequence-in .result ≡ sequenceUnchecked (now (s .args .numbers))
 read c = c .before .sequence-in .ensures
 
 test : (c : tie.After-possible-sequence)
-    → let s = entry (asked c .before .before) in c .possible-sequence .result ≡ possibleSequence (sequenceSeen (now (s .args .numbers)))
+    → let s = entry (asked c .before .before) in c .possible-sequence .result ≡ possibleSequence (sequenceUnchecked (now (s .args .numbers)))
 test c = c .possible-sequence .ensures ∙ ap possibleSequence (read c)
 
 returns-3 : tie.Need-returns-3

@@ -2,11 +2,11 @@ use mathlib.Core.Path.{_≡_, refl}
 use mathlib.Core.Bool.{Bool, true, false, cond, _&&_}
 use Prim.Native.Nat.{ℕ}
 use lib.Dec.{eqb}
-use Rattle.picture.specs.Pictures.{absent, present, isZero}
+use Rattle.picture.specs.Pictures.{absent, present, hasZeroFCode}
 use Rattle.picture.proofs.headers.is_zero.Statement.{statement}
 use Rattle.picture.proofs.headers.is_zero.Tie as tie
 
-zero-of : (b full : Bool) (f : ℕ) → (b && eqb f 0) ≡ isZero (cond b (present full f) absent)
+zero-of : (b full : Bool) (f : ℕ) → (b && eqb f 0) ≡ hasZeroFCode (cond b (present full f) absent)
 zero-of true full f = refl
 zero-of false full f = refl
 

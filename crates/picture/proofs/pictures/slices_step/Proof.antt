@@ -9,7 +9,7 @@ use Rattle.picture_state.proofs.Ready.{size-most}
 use Rattle.picture.specs.Pictures.{isSlice}
 use Rattle.picture_state.specs.Contracts.{matricesIn}
 use Rattle.slice.proofs.SliceLoop.{adds-one}
-use Rattle.picture.proofs.PictureLoop.{code-read, slice-cast, slice-number, turned-slice, turned-other}
+use Rattle.picture.proofs.PictureLoop.{code-read, slice-cast, slice-number, refines-slice, refines-other}
 use Rattle.picture.proofs.pictures.slices_step.Statement.{statement}
 use Rattle.picture.proofs.pictures.slices_step.Tie as tie
 
@@ -62,7 +62,7 @@ returns c =
     let a = s .args in
     let f = n .next-start-code .ensures in
     rw (c .after-slice .ensures, code-is n)
-    (turned-slice (s .pre .0) (s .pre .1 .0) (matricesIn (now (a .tables))) (a .begun) (f .0) (f .1) (sym (tested o) ∙ w .before .before .before .if1 .taken)
+    (refines-slice (s .pre .0) (s .pre .1 .0) (matricesIn (now (a .tables))) (a .begun) (f .0) (f .1) (sym (tested o) ∙ w .before .before .before .if1 .taken)
     (w .read-slice .result) (rw (code-is n) at (w .read-slice .ensures)))
 
 returns-2 : tie.Need-returns-2
@@ -73,7 +73,7 @@ returns-2 c =
     let a = s .args in
     let f = n .next-start-code .ensures in
     rw (code-is n)
-    (turned-other (s .pre .0) (s .pre .1 .0) (matricesIn (now (a .tables))) (a .begun) (f .0) (f .1) (sym (tested o) ∙ c .before .if1 .left)
+    (refines-other (s .pre .0) (s .pre .1 .0) (matricesIn (now (a .tables))) (a .begun) (f .0) (f .1) (sym (tested o) ∙ c .before .if1 .left)
     (c .passes-over .result) (rw (code-is n) at (c .passes-over .ensures)))
 
 pub slices-step-spec : {M : Type 1} → statement M

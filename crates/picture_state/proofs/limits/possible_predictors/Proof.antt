@@ -11,12 +11,12 @@ returns c =
     let b = c .before .before in
     let a = b .before .before in
     rw (
-      a .dc-inside .ensures,
-      b .dc-inside2 .ensures,
-      c .dc-inside3 .ensures,
-      toZ-ofZ {w = w32} (sfits-of (a .before .dc-inside-arg .given)),
-      toZ-ofZ {w = w32} (sfits-of (b .before .dc-inside-arg2 .given)),
-      toZ-ofZ {w = w32} (sfits-of (c .before .dc-inside-arg3 .given)),
+      a .dc-in-range .ensures,
+      b .dc-in-range2 .ensures,
+      c .dc-in-range3 .ensures,
+      toZ-ofZ {w = w32} (sfits-of (a .before .dc-in-range-arg .given)),
+      toZ-ofZ {w = w32} (sfits-of (b .before .dc-in-range-arg2 .given)),
+      toZ-ofZ {w = w32} (sfits-of (c .before .dc-in-range-arg3 .given)),
     )
 
 pub possible-predictors-spec : {M : Type 1} → statement M

@@ -39,8 +39,8 @@ module _ (o : tie.After-half-sample2) where
   target : entry .args .to + address (entry .args .p) ≤ length (now (entry .args .store))
   target = let s = entry in omega (arith, block-in (s .pre .0), s .pre .1 .0)
 
-predict-apart-requires : tie.Need-predict-apart-requires
-predict-apart-requires c κs =
+predict-disjoint-requires : tie.Need-predict-disjoint-requires
+predict-disjoint-requires c κs =
     let o = c .before in
     let s = entry o in
     let a = s .args in
@@ -56,11 +56,11 @@ returns c =
     let s = entry o in
     let a = s .args in
     apart-copied (s .pre .0) (now (a .store)) (a .from) (a .to) (a .at) (a .h) (a .v) (width-is o) (address-is o) (right-is o) (below-is o)
-    (s .pre .1 .0 .0) (s .pre .1 .0 .1) (s .pre .1 .1 .1) (a .interpolate) (r .predict-apart .ensures)
+    (s .pre .1 .0 .0) (s .pre .1 .0 .1) (s .pre .1 .1 .1) (a .interpolate) (r .predict-disjoint .ensures)
 
 pub copy-block-spec : {M : Type 1} → statement M
 copy-block-spec =
     tie.close
     (tie.spec (λ c κs. search needs) (λ c κs. search needs) (λ c κs. search needs) (λ c κs. search needs)
-    (λ c. omega (arith, source (c .before))) (λ c. omega (arith, target (c .before), address-is (c .before))) predict-apart-requires
+    (λ c. omega (arith, source (c .before))) (λ c. omega (arith, target (c .before), address-is (c .before))) predict-disjoint-requires
     (λ c. search needs) returns)

@@ -8,30 +8,31 @@ use borrow.Rule.Slice.PartMut.{midOf, putMid}
 use denote.Ref.{now}
 use lib.IntN.{ℤ}
 use mir.Facts.{toZ-ofZ}
-use Rattle.prediction.specs.declared.position.Fetch.{Fetch}
-use Rattle.prediction.specs.Planes.{After, follow}
-use Rattle.prediction.specs.Predict.{bytes, fetch, predicted}
+use Rattle.prediction.specs.declared.position.PredictionSource.{PredictionSource}
+use Rattle.prediction.specs.Planes.{PredictionOutcome, predictFromSource}
+use Rattle.prediction.specs.Predict.{bytes, predictionSource, predicted}
 use Rattle.prediction.proofs.Fetches.{copied-in}
 use Rattle.prediction.proofs.predict.predict_plane.Statement.{statement}
 use Rattle.prediction.proofs.predict.predict_plane.Tie as tie
 
-abbrev entry : tie.After-fetch-of → tie.Start
+abbrev entry : tie.After-prediction-source → tie.Start
 entry c = c .before .before
 
 -- where the fetch is known, once it is a copy
-abbrev fetched : tie.After-at → tie.After-fetch-of
+abbrev fetched : tie.After-at → tie.After-prediction-source
 fetched g = g .before .before
 
-fetch-is : (c : tie.After-fetch-of) → let a = entry c .args in c .fetch-of .result ≡ fetch (a .p) (a .h) (a .v)
-fetch-is c = let s = entry c in c .fetch-of .ensures ∙ ap₂ (fetch (s .args .p)) (toZ-ofZ (s .fits .h)) (toZ-ofZ (s .fits .v))
+fetch-is : (c : tie.After-prediction-source) → let a = entry c .args in c .prediction-source .result ≡ predictionSource (a .p) (a .h) (a .v)
+fetch-is c = let s = entry c in c .prediction-source .ensures ∙ ap₂ (predictionSource (s .args .p)) (toZ-ofZ (s .fits .h)) (toZ-ofZ (s .fits .v))
 
-abbrev did : tie.Start → Fetch → After
-did s w = follow w (s .args .p) (s .args .from) (s .args .to) (s .args .h) (s .args .v) (s .args .interpolate) (now (s .args .store))
+abbrev did : tie.Start → PredictionSource → PredictionOutcome
+did s w = predictFromSource w (s .args .p) (s .args .from) (s .args .to) (s .args .h) (s .args .v) (s .args .interpolate) (now (s .args .store))
 
 -- what is done by the fetch that was found is what is to be done
-answered : (c : tie.After-fetch-of) {w : Fetch} → w ≡ c .fetch-of .result → let s = entry c in
-    let o = did s (fetch (s .args .p) (s .args .h) (s .args .v)) in (did s w .answer ≡ o .answer) × (did s w .store ≡ o .store)
-answered c e = let s = entry c in (ap (λ (w : Fetch). did s w .answer) (e ∙ fetch-is c), ap (λ (w : Fetch). did s w .store) (e ∙ fetch-is c))
+answered : (c : tie.After-prediction-source) {w : PredictionSource} → w ≡ c .prediction-source .result → let s = entry c in
+    let o = did s (predictionSource (s .args .p) (s .args .h) (s .args .v)) in (did s w .answer ≡ o .answer) × (did s w .store ≡ o .store)
+answered c e = let s =
+    entry c in (ap (λ (w : PredictionSource). did s w .answer) (e ∙ fetch-is c), ap (λ (w : PredictionSource). did s w .store) (e ∙ fetch-is c))
 
 copy-block-requires : tie.Need-copy-block-requires
 copy-block-requires c κs =
@@ -42,11 +43,11 @@ copy-block-requires c κs =
     (s .pre .0, ((s .pre .1 .1 .0, s .pre .1 .1 .1), (s .pre .1 .1 .2, rw (toZ-ofZ (s .fits .h), toZ-ofZ (s .fits .v)) far)))
 
 returns : tie.Need-returns
-unfolding follow
+unfolding predictFromSource
 returns c = answered (c .before .before) (sym (c .enum-told .given .1))
 
 returns-2 : tie.Need-returns-2
-unfolding follow
+unfolding predictFromSource
 returns-2 c = answered (c .before .before) (sym (c .enum-told2 .given .1))
 
 -- the store with the block copied, for a vector
@@ -62,7 +63,7 @@ abbrev copied : tie.After-slice-known2 → tie.After-copy-block
 copied c = c .before .before
 
 returns-3 : tie.Need-returns-3
-unfolding follow
+unfolding predictFromSource
 returns-3 c =
     let g = copied c .before .before .before in
     let s = entry (fetched g) in

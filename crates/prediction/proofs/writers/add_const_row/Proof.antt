@@ -10,7 +10,7 @@ use mir.Syntax.{w32}
 use Rattle.laws.specs.Signed.{clamp255}
 use Rattle.laws.specs.Stores.{storeRow}
 use Rattle.laws.proofs.Ints.{reread}
-use Rattle.prediction.proofs.Lines.{eight-row}
+use Rattle.prediction.proofs.RowsWritten.{eight-row}
 use Rattle.prediction.proofs.writers.add_const_row.Statement.{statement}
 use Rattle.prediction.proofs.writers.add_const_row.Tie as tie
 

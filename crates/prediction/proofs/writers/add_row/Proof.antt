@@ -3,14 +3,14 @@ use Prim.Native.Nat.{ℕ, _+_, _≤_, _<_}
 use native.Mathlib.Omega.{arith}
 use denote.Ref.{now}
 use lib.ListN.{length}
-use Rattle.laws.specs.Sizes.{Narrow}
-use Rattle.prediction.proofs.Lines.{eight-row}
+use Rattle.laws.specs.Sizes.{ResultsInBounds}
+use Rattle.prediction.proofs.RowsWritten.{eight-row}
 use Rattle.prediction.proofs.writers.add_row.Statement.{statement}
 use Rattle.prediction.proofs.writers.add_row.Tie as tie
 
 -- what the byte k asks
 asked : (s : tie.Start) {k : ℕ} → k < 8
-    → ((s .args .at + 8 ≤ length (now (s .args .d))) × (s .args .from + 8 ≤ 64) × (k < 8)) × Narrow (now (s .args .s))
+    → ((s .args .at + 8 ≤ length (now (s .args .d))) × (s .args .from + 8 ≤ 64) × (k < 8)) × ResultsInBounds (now (s .args .s))
 asked s h = ((s .pre .0, s .pre .1 .0, h), s .pre .1 .1)
 
 returns : tie.Need-returns

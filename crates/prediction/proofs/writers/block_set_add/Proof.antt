@@ -5,12 +5,12 @@ use lib.IntN.{pos, _+ℤ_}
 use lib.ListN.{getD}
 use Rattle.laws.specs.Signed.{clamp255}
 use Rattle.prediction.specs.Writers.{addBlock}
-use Rattle.prediction.proofs.Lines.{Lines, no-line, in-line, line-on, lines-all}
+use Rattle.prediction.proofs.RowsWritten.{RowsWritten, no-line, in-line, line-on, lines-all}
 use Rattle.prediction.proofs.writers.block_set_add.Statement.{statement}
 use Rattle.prediction.proofs.writers.block_set_add.Tie as tie
 
 abbrev Inv-loop : tie.InvT-loop
-Inv-loop d₀ di dw s y₀ d y = Lines d₀ di dw 8 8 (λ old y x. clamp255 (pos old +ℤ getD s (y * 8 + x) (pos 0))) d y
+Inv-loop d₀ di dw s y₀ d y = RowsWritten d₀ di dw 8 8 (λ old y x. clamp255 (pos old +ℤ getD s (y * 8 + x) (pos 0))) d y
 
 abbrev μ-loop : tie.MeasureT-loop
 μ-loop d₀ di dw s y₀ d y = 8 - y

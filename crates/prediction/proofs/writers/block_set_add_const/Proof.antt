@@ -11,12 +11,12 @@ use mir.Val.{toZ}
 use Rattle.laws.specs.Signed.{clamp255}
 use Rattle.laws.specs.Stores.{storeRows}
 use Rattle.prediction.specs.Writers.{addConst}
-use Rattle.prediction.proofs.Lines.{Lines, no-line, in-line, line-on, lines-all}
+use Rattle.prediction.proofs.RowsWritten.{RowsWritten, no-line, in-line, line-on, lines-all}
 use Rattle.prediction.proofs.writers.block_set_add_const.Statement.{statement}
 use Rattle.prediction.proofs.writers.block_set_add_const.Tie as tie
 
 abbrev Inv-loop : tie.InvT-loop
-Inv-loop d₀ di dw value y₀ d y = Lines d₀ di dw 8 8 (λ old y x. clamp255 (pos old +ℤ toZ w32 value)) d y
+Inv-loop d₀ di dw value y₀ d y = RowsWritten d₀ di dw 8 8 (λ old y x. clamp255 (pos old +ℤ toZ w32 value)) d y
 
 abbrev μ-loop : tie.MeasureT-loop
 μ-loop d₀ di dw value y₀ d y = 8 - y

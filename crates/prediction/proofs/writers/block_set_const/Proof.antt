@@ -3,12 +3,12 @@ use mathlib.Core.Path.{refl}
 use Prim.Native.Nat.{_+_, _*_, _-_}
 use native.Mathlib.Omega.{arith}
 use Rattle.prediction.specs.Writers.{setConst}
-use Rattle.prediction.proofs.Lines.{eight-row, Lines, no-line, in-line, line-on, lines-all}
+use Rattle.prediction.proofs.RowsWritten.{eight-row, RowsWritten, no-line, in-line, line-on, lines-all}
 use Rattle.prediction.proofs.writers.block_set_const.Statement.{statement}
 use Rattle.prediction.proofs.writers.block_set_const.Tie as tie
 
 abbrev Inv-loop : tie.InvT-loop
-Inv-loop d₀ di dw value v y₀ d y = Lines d₀ di dw 8 8 (λ old y x. value) d y
+Inv-loop d₀ di dw value v y₀ d y = RowsWritten d₀ di dw 8 8 (λ old y x. value) d y
 
 abbrev μ-loop : tie.MeasureT-loop
 μ-loop d₀ di dw value v y₀ d y = 8 - y

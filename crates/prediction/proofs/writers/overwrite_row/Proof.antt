@@ -1,6 +1,6 @@
 -- `writers::overwrite_row` meets its contract: eight bytes are made and stored.
 use borrow.Author.Needs.{needs}
-use Rattle.prediction.proofs.Lines.{eight-row}
+use Rattle.prediction.proofs.RowsWritten.{eight-row}
 use Rattle.prediction.proofs.writers.overwrite_row.Statement.{statement}
 use Rattle.prediction.proofs.writers.overwrite_row.Tie as tie
 

@@ -2,7 +2,7 @@ use mathlib.Core.Path.{_∙_}
 use Prim.Native.Nat.{_+_}
 use native.Mathlib.Omega.{arith}
 use lib.ListN.{getD}
-use Rattle.reader_conformance.proofs.Inside.{cut-inside, onward-inside}
+use Rattle.reader_conformance.proofs.CursorInList.{cut-inside, onward-inside}
 use Rattle.reader_conformance.proofs.Steps.{no-case, cut-case, whole-case}
 use Rattle.reader_conformance.proofs.reader_list.take_case.Statement.{statement}
 use Rattle.reader_conformance.proofs.reader_list.take_case.Tie as tie

@@ -11,7 +11,7 @@ returns : tie.Need-returns
 returns c =
     let f = c .before .before .before .args .found in
     let e : toZ w32 (ofZ w32 (f .code)) ≡ f .code = search needs in
-    c .given .ensures ∙ ap (λ v. gives v (positionOf (f .reader))) (c .before .held .ensures ∙ ap (ofZ w32) e)
+    c .given .ensures ∙ ap (λ v. gives v (positionOf (f .reader))) (c .before .twos-complement .ensures ∙ ap (ofZ w32) e)
 
 pub coded-spec : {M : Type 1} → statement M
 coded-spec = tie.close (tie.spec (λ c κs. search needs) (λ c κs. search needs) returns)

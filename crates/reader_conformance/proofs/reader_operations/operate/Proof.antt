@@ -4,16 +4,16 @@ use mathlib.Core.List.{List}
 use Prim.Native.Nat.{ℕ}
 use native.Mathlib.Omega.{arith}
 use borrow.Author.Tests.{lt-ltb, le-ltb}
-use Rattle.bits.specs.Runs.{Inside}
+use Rattle.bits.specs.Runs.{ReaderInBounds}
 use Rattle.bits.proofs.Rules.{first-inside}
 use Rattle.answer_lists.proofs.Signs.{given}
-use Rattle.reader_conformance.specs.declared.reader_operations.Outcome.{Outcome}
+use Rattle.reader_conformance.specs.declared.reader_operations.OperationResult.{OperationResult}
 use Rattle.reader_conformance.specs.Operations.{outcome}
 use Rattle.reader_conformance.proofs.reader_operations.operate.Statement.{statement}
 use Rattle.reader_conformance.proofs.reader_operations.operate.Tie as tie
 
 -- an outcome r that is p, and so o
-ends : {s : List ℕ} {r p o : Outcome} → r ≡ p → p ≡ o → Inside s (p .reader) → (r ≡ o) × Inside s (r .reader)
+ends : {s : List ℕ} {r p o : OperationResult} → r ≡ p → p ≡ o → ReaderInBounds s (p .reader) → (r ≡ o) × ReaderInBounds s (r .reader)
 ends e q h = (e ∙ q, rw e h)
 
 pub operate-spec : {M : Type 1} → statement M

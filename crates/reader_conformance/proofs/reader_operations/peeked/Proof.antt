@@ -6,13 +6,13 @@ use borrow.Author.Needs.{needs}
 use Rattle.bits.specs.Runs.{positionOf}
 use Rattle.bits.specs.declared.bytes.Part.{Part}
 use Rattle.bits.specs.declared.reader.Reader.{Reader}
-use Rattle.reader_conformance.specs.declared.reader_operations.Outcome.{Outcome}
+use Rattle.reader_conformance.specs.declared.reader_operations.OperationResult.{OperationResult}
 use Rattle.reader_conformance.specs.Operations.{gives, peek}
 use Rattle.reader_conformance.proofs.reader_operations.peeked.Statement.{statement}
 use Rattle.reader_conformance.proofs.reader_operations.peeked.Tie as tie
 
 -- the answer for a part and a place that are given by others
-ends : {r : Outcome} {p q : Part} {a b : ℕ} → p ≡ q → a ≡ b → r ≡ gives (peek p) a → r ≡ gives (peek q) b
+ends : {r : OperationResult} {p q : Part} {a b : ℕ} → p ≡ q → a ≡ b → r ≡ gives (peek p) a → r ≡ gives (peek q) b
 ends h k e = rw (← h, ← k) e
 
 returns : tie.Need-returns

@@ -1,14 +1,14 @@
 use mathlib.Core.Path.{ap, _∙_}
 use borrow.Author.Needs.{needs}
 use lib.IntN.{ℤ, pos, _+ℤ_}
-use Rattle.bits.specs.Programs.{Out}
+use Rattle.bits.specs.Programs.{RunResult}
 use Rattle.coefficients.proofs.Cases.{w8-read, w9-read}
 use Rattle.reader_conformance.proofs.WorkedCases.{told}
 use Rattle.reader_conformance.proofs.worked.dc_cases.Statement.{statement}
 use Rattle.reader_conformance.proofs.worked.dc_cases.Tie as tie
 
 -- the value for a difference
-abbrev dc : Out ℤ → ℤ
+abbrev dc : RunResult ℤ → ℤ
 dc o = pos 128 +ℤ o .value
 
 returns : tie.Need-returns

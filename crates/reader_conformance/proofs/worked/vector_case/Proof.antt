@@ -20,9 +20,9 @@ returns : tie.Need-returns
 returns c =
     let d = c .before in
     let r = d .before .before in
-    let stepped = value-at (r .new .ensures) (d .decode-motion-vector .ensures) in
+    let nextCaseResult = value-at (r .new .ensures) (d .decode-motion-vector .ensures) in
     toZ-ofZ {w = w32} {z = d .decode-motion-vector .result .motion} (sfits-of (c .struct-told .given .1 .0 .1))
-    ∙ (rw (toZ-ofZ (r .before .before .before .fits .motion)) at stepped)
+    ∙ (rw (toZ-ofZ (r .before .before .before .fits .motion)) at nextCaseResult)
 
 pub vector-case-spec : {M : Type 1} → statement M
 vector-case-spec = tie.close (tie.spec (λ c κs. search needs) (λ c κs. search needs) decode-motion-vector-requires returns)

@@ -9,7 +9,7 @@ use lib.IntN.{pos, natAbs}
 use lib.ListN.{length}
 use lib.Seq.{paste}
 use Rattle.codes.specs.Matrices.{zigZag, downFrom, diagonals, premultiplierMatrix}
-use Rattle.codes.specs.Lent.{joined, blockCodes}
+use Rattle.codes.specs.DecodingTables.{mergedTable, blockCodes}
 use Rattle.codes.specs.Tables.{motionIndex, motionValue, dctSizeLuminanceIndex, dctSizeLuminanceValue}
 use Rattle.codes.specs.Tables.{dctSizeChrominanceIndex, dctSizeChrominanceValue, dctCoeffIndex, dctCoeffValue}
 use Rattle.tables.proofs.Made.{none-laid, laid-on, laid-codes, macroblock-codes-length, block-codes-length}
@@ -27,13 +27,13 @@ returns c =
     let x1 = x2 .before .before in
     let t = now (x1 .before .before .before .before .args .t) in
     let long = x1 .before .put-codes-arg .given .0 .1 in
-    let vectors = joined motionIndex motionValue in
+    let vectors = mergedTable motionIndex motionValue in
     let l1 = laid-codes vectors 0 24 long (none-laid t 246 (omega (arith, long))) tt tt (x1 .put-codes .ensures) in
     let l2 = laid-codes vectors 24 24 long l1 tt tt (x2 .put-codes2 .ensures) in
     let l3 = laid-codes vectors 48 20 long l2 tt tt (x3 .put-codes3 .ensures) in
-    let l4 = laid-codes (joined dctSizeLuminanceIndex (map pos dctSizeLuminanceValue)) 0 18 long l3 tt tt (x4 .put-codes4 .ensures) in
-    let l5 = laid-codes (joined dctSizeChrominanceIndex (map pos dctSizeChrominanceValue)) 0 18 long l4 tt tt (x5 .put-codes5 .ensures) in
-    let coefficients = joined dctCoeffIndex (map pos dctCoeffValue) in
+    let l4 = laid-codes (mergedTable dctSizeLuminanceIndex (map pos dctSizeLuminanceValue)) 0 18 long l3 tt tt (x4 .put-codes4 .ensures) in
+    let l5 = laid-codes (mergedTable dctSizeChrominanceIndex (map pos dctSizeChrominanceValue)) 0 18 long l4 tt tt (x5 .put-codes5 .ensures) in
+    let coefficients = mergedTable dctCoeffIndex (map pos dctCoeffValue) in
     let l6 = laid-codes coefficients 0 24 long l5 tt tt (x6 .put-codes6 .ensures) in
     let l7 = laid-codes coefficients 24 24 long l6 tt tt (x7 .put-codes7 .ensures) in
     let l8 = laid-codes coefficients 48 24 long l7 tt tt (x8 .put-codes8 .ensures) in

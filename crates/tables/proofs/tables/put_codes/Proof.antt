@@ -10,7 +10,7 @@ use lib.ListN.{drop, getD, length-drop}
 use mir.Facts.{toZ-ofZ}
 use mir.Syntax.{w32}
 use Rattle.laws.proofs.Tests.{if-yes, if-no}
-use Rattle.codes.specs.Lent.{lentValue, joinedEntry, joined}
+use Rattle.codes.specs.DecodingTables.{biasedValue, mergedEntry, mergedTable}
 use Rattle.codes.proofs.Joined.{joined-length, joined-at, near-at, Short, short-at}
 use Rattle.tables.proofs.Made.{index-is, index-cast, raised-fits, raised-cast, raised-is, entry-most, Pasted, none-pasted, pasted-from}
 use Rattle.tables.proofs.tables.put_codes.Statement.{statement}
@@ -18,7 +18,7 @@ use Rattle.tables.proofs.tables.put_codes.Tie as tie
 
 abbrev Inv-loop : tie.InvT-loop
 Inv-loop tables₀ at index value first last k₀ tables k =
-    Pasted tables₀ (at + first) (drop first (joined index value)) (k - first) tables × (first ≤ k) × (k ≤ last)
+    Pasted tables₀ (at + first) (drop first (mergedTable index value)) (k - first) tables × (first ≤ k) × (k ≤ last)
 
 abbrev μ-loop : tie.MeasureT-loop
 μ-loop tables₀ at index value first last k₀ tables k = last - k
@@ -27,7 +27,7 @@ loop-holds : tie.Need-loop-holds Inv-loop μ-loop
 loop-holds c =
     let a = c .args in
     let none : 0 ≡ a .first - a .first = omega arith in
-    let all = joined (now (a .index)) (now (a .value)) in
+    let all = mergedTable (now (a .index)) (now (a .value)) in
     let rest = length-drop (a .first) all in
     let long = joined-length (now (a .index)) (now (a .value)) in
     (rw none at (none-pasted {before = now (a .tables)} {at = a .at + a .first} {part = drop (a .first) all} (omega arith)), omega arith, omega arith)
@@ -45,13 +45,13 @@ near c = let s = c .before .before .before .before in near-at (now (s .args .ind
 short : (c : tie.After-found Inv-loop μ-loop) → Short (value c)
 short c = let s = c .before .before .before .before in short-at (now (s .args .value)) (s .pre .1 .1 .1) (c .before .before .before .loop .k)
 
-entry : (c : tie.Joined1 Inv-loop μ-loop) → c .if1 .entry ≡ joinedEntry (index (c .before)) (value (c .before))
+entry : (c : tie.Joined1 Inv-loop μ-loop) → c .if1 .entry ≡ mergedEntry (index (c .before)) (value (c .before))
 entry c =
     let f = c .before in
     let i = toZ-ofZ {w = w32} {z = index f} (sfits-of (f .before .next .given)) in
     ⊎-elim
     (λ w. w .1 ∙ raised-is (value f) (short f) ∙ sym (if-yes (natAbs (index f)) (rw i at (w .0 .taken)) refl))
-    (λ w. w .1 ∙ index-is (index f) (near f) ∙ sym (if-no (lentValue (value f)) (rw i at (w .0 .left)) refl))
+    (λ w. w .1 ∙ index-is (index f) (near f) ∙ sym (if-no (biasedValue (value f)) (rw i at (w .0 .left)) refl))
     (c .if1 .came)
 
 most : (c : tie.Joined1 Inv-loop μ-loop) → c .if1 .entry ≤ 65535
@@ -65,7 +65,7 @@ loop-again c =
     let k = x .loop .k in
     let long = joined-length (now (a .index)) (now (a .value)) in
     let laid = entry j ∙ sym (joined-at (now (a .index)) (now (a .value)) k (omega arith)) in (
-      pasted-from (joined (now (a .index)) (now (a .value))) (a .at) (a .first) k (x .loop .inv .0) (omega arith) (omega arith) laid,
+      pasted-from (mergedTable (now (a .index)) (now (a .value))) (a .at) (a .first) k (x .loop .inv .0) (omega arith) (omega arith) laid,
       omega arith,
       omega arith,
     )

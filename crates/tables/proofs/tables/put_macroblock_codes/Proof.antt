@@ -6,7 +6,7 @@ use denote.Ref.{now}
 use borrow.Author.Needs.{needs}
 use lib.IntN.{pos}
 use lib.Seq.{paste}
-use Rattle.codes.specs.Lent.{joined, macroblockCodes}
+use Rattle.codes.specs.DecodingTables.{mergedTable, macroblockCodes}
 use Rattle.codes.specs.Tables.{macroblockAddressIncrementIndex, macroblockAddressIncrementValue, macroblockTypeIntraIndex, macroblockTypeIntraValue}
 use Rattle.codes.specs.Tables.{macroblockTypePredictiveIndex, macroblockTypePredictiveValue, macroblockTypeBIndex, macroblockTypeBValue}
 use Rattle.codes.specs.Tables.{codeBlockPatternIndex, codeBlockPatternValue}
@@ -25,15 +25,15 @@ returns c =
     let x2 = x3 .before .before in let x1 = x2 .before .before in
     let t = now (x1 .before .before .before .before .args .t) in
     let long = x1 .before .put-codes-arg .given .0 .1 in
-    let increments = joined macroblockAddressIncrementIndex (map pos macroblockAddressIncrementValue) in
+    let increments = mergedTable macroblockAddressIncrementIndex (map pos macroblockAddressIncrementValue) in
     let l1 = laid-codes increments 0 24 long (none-laid t 0 (omega (arith, long))) tt tt (x1 .put-codes .ensures) in
     let l2 = laid-codes increments 24 24 long l1 tt tt (x2 .put-codes2 .ensures) in
     let l3 = laid-codes increments 48 24 long l2 tt tt (x3 .put-codes3 .ensures) in
     let l4 = laid-codes increments 72 8 long l3 tt tt (x4 .put-codes4 .ensures) in
-    let l5 = laid-codes (joined macroblockTypeIntraIndex (map pos macroblockTypeIntraValue)) 0 4 long l4 tt tt (x5 .put-codes5 .ensures) in
-    let l6 = laid-codes (joined macroblockTypePredictiveIndex (map pos macroblockTypePredictiveValue)) 0 14 long l5 tt tt (x6 .put-codes6 .ensures) in
-    let l7 = laid-codes (joined macroblockTypeBIndex (map pos macroblockTypeBValue)) 0 22 long l6 tt tt (x7 .put-codes7 .ensures) in
-    let patterns = joined codeBlockPatternIndex (map pos codeBlockPatternValue) in
+    let l5 = laid-codes (mergedTable macroblockTypeIntraIndex (map pos macroblockTypeIntraValue)) 0 4 long l4 tt tt (x5 .put-codes5 .ensures) in
+    let l6 = laid-codes (mergedTable macroblockTypePredictiveIndex (map pos macroblockTypePredictiveValue)) 0 14 long l5 tt tt (x6 .put-codes6 .ensures) in
+    let l7 = laid-codes (mergedTable macroblockTypeBIndex (map pos macroblockTypeBValue)) 0 22 long l6 tt tt (x7 .put-codes7 .ensures) in
+    let patterns = mergedTable codeBlockPatternIndex (map pos codeBlockPatternValue) in
     let l8 = laid-codes patterns 0 24 long l7 tt tt (x8 .put-codes8 .ensures) in
     let l9 = laid-codes patterns 24 24 long l8 tt tt (x9 .put-codes9 .ensures) in
     let l10 = laid-codes patterns 48 24 long l9 tt tt (x10 .put-codes10 .ensures) in

@@ -7,7 +7,7 @@ use denote.Ref.{now}
 use borrow.Author.Needs.{needs}
 use lib.ListN.{length, replicate}
 use lib.Seq.{paste}
-use Rattle.codes.specs.Lent.{macroblockCodes, blockCodes, fixedTables, intraMatrixAt, tablesLength}
+use Rattle.codes.specs.DecodingTables.{macroblockCodes, blockCodes, fixedTables, intraMatrixAt, tablesLength}
 use Rattle.tables.proofs.Made.{Laid, none-laid, laid-on, all-laid, macroblock-codes-length, block-codes-length}
 use Rattle.tables.proofs.tables.tables_with.Statement.{statement}
 use Rattle.tables.proofs.tables.tables_with.Tie as tie

@@ -10,8 +10,8 @@ use mir.Facts.{toZ-ofZ}
 use borrow.Author.Needs.{needs}
 use Rattle.laws.proofs.Ints.{same-bits}
 use Rattle.bits.specs.Bounds.{lastPosition}
-use Rattle.bits.specs.Runs.{Inside, positionOf}
-use Rattle.bits.specs.Programs.{eqZ, findStep, findStartCode, many}
+use Rattle.bits.specs.Runs.{ReaderInBounds, positionOf}
+use Rattle.bits.specs.Programs.{eqZ, findStep, findStartCode, streamFuel}
 use Rattle.bits.proofs.Codes.{eqZ-yes, eqZ-no, code-fits}
 use Rattle.bits.proofs.Rules.{Loops, loop-start, loop-on, loop-end, r-call, r-yes, r-no, r-done, r-start-past, reading}
 use Rattle.bits.proofs.reader.Reader.find_start_code.Statement.{statement}
@@ -19,8 +19,8 @@ use Rattle.bits.proofs.reader.Reader.find_start_code.Tie as tie
 
 abbrev Inv-loop : tie.InvT-loop
 Inv-loop s code reader₀ reader =
-    Inside s reader
-    × Loops many (findStep (toZ w32 code)) (negsuc 0) tt s reader₀ tt reader (lastPosition - positionOf reader)
+    ReaderInBounds s reader
+    × Loops streamFuel (findStep (toZ w32 code)) (negsuc 0) tt s reader₀ tt reader (lastPosition - positionOf reader)
 
 abbrev μ-loop : tie.MeasureT-loop
 μ-loop s code reader₀ reader = lastPosition - positionOf reader

@@ -8,7 +8,7 @@ use Rattle.decoder.specs.Fit.{Fit}
 use Rattle.decoder.specs.Decode.{checkHeaderAndStore, afterChecks, decode}
 use Rattle.decoder.proofs.Checking.{room-yes, room-no}
 use Rattle.decoder.proofs.Fits.{fit-of}
-use Rattle.decoder.proofs.Decoding.{begun-had, played, first-had, go-no, go-on, hand-1, hand-2, decode-mark, decode-on}
+use Rattle.decoder.proofs.Decoding.{begun-had, played, first-had, go-no, go-on, after-decode-1, after-decode-2, decode-mark, decode-on}
 use Rattle.decoder.proofs.record.Decoder.decode.Statement.{statement}
 use Rattle.decoder.proofs.record.Decoder.decode.Tie as tie
 
@@ -23,7 +23,7 @@ returns : tie.Need-returns
 returns c =
     let i = c .before in
     let a = i .before .before .before .args in
-    c .refused .ensures (now (a .store)) ∙ hand-1 (now (a .stream)) (a .self) (now (a .store)) (i .if1 .taken)
+    c .refused .ensures (now (a .store)) ∙ after-decode-1 (now (a .stream)) (a .self) (now (a .store)) (i .if1 .taken)
 
 returns-2 : tie.Need-returns-2
 returns-2 c =
@@ -31,7 +31,7 @@ returns-2 c =
     let p = i .before in
     let a = entry p .args in
     c .refused2 .ensures (now (a .store))
-    ∙ hand-2 (now (a .stream)) (a .self) (now (a .store)) (p .before .if1 .left) (sym (p .possible-with .ensures) ∙ not-true _ (i .if2 .taken))
+    ∙ after-decode-2 (now (a .stream)) (a .self) (now (a .store)) (p .before .if1 .left) (sym (p .possible-with .ensures) ∙ not-true _ (i .if2 .taken))
 
 returns-3 : tie.Need-returns-3
 returns-3 c =
