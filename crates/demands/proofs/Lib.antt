@@ -31,3 +31,4 @@ pub mod Order
 pub mod EdgeCalls
 pub mod DisplayExample
 pub mod Stops
+pub mod Main

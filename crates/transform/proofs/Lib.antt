@@ -1,3 +1,4 @@
+pub mod ExactOne
 pub mod Blocks
 pub mod Eights
 pub mod LoneDc
