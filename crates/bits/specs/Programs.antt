@@ -49,9 +49,9 @@ infixl 1 ◌>>◌
 abbrev pub ◌>>◌ : {A B : Type 0} → Prog A → Prog B → Prog B
 p >> q = bind p (λ x. q)
 
-infixr 2 if◌then◌else◌
-abbrev pub if◌then◌else◌ : {A : Type 0} → Bool → A → A → A
-if t then x else y = cond t x y
+infixr 2 when◌then◌else◌
+abbrev pub when◌then◌else◌ : {A : Type 0} → Bool → A → A → A
+when t then x else y = cond t x y
 
 -- RULES 1.5: n bits
 abbrev pub bits : ℕ → Prog ℕ
@@ -63,11 +63,11 @@ skips n = skip n (done tt)
 
 -- RULES 1.5: a read takes 0 to 32 bits; more are refused, as bits that are not there
 abbrev pub read_at_most32 : ℕ → Prog ℕ
-read_at_most32 n = if leb n 32 then bits n else done 0
+read_at_most32 n = when leb n 32 then bits n else done 0
 
 -- RULES 1.13: are n bits left, and not all 0? The answer is no for more than 32
 abbrev pub non_zero : ℕ → Prog Bool
-non_zero n = if leb n 32 then peek_bits n (λ h v. done (h && not (eqb v 0))) else done false
+non_zero n = when leb n 32 then peek_bits n (λ h v. done (h && not (eqb v 0))) else done false
 
 -- RULES 1.9: the next start code
 abbrev pub next_start_code : Prog ℤ
@@ -103,7 +103,7 @@ eq_z (negsuc m) (negsuc n) = eqb m n
 unfoldable pub find_step : ℤ → Unit {0} → Prog (Step (Unit {0}) ℤ)
 find_step c x = do
   k ← next_start_code
-  if eq_z k c || eq_z k (negsuc 0) then done (finish k) else done (continue tt)
+  when eq_z k c || eq_z k (negsuc 0) then done (finish k) else done (continue tt)
 
 -- RULES 1.11: start codes are passed over up to the first that is c; -1 where there is none
 unfoldable pub find_start_code : ℤ → Prog ℤ

@@ -2,7 +2,7 @@
 use Rattle.std.specs.Prelude.{Bool, List, ℕ, ◌-◌, ◌^◌, ltb, ℤ, pos, nat_abs, get_or, set}
 use borrow.Rule.Slice.PartMut.{mid_of, put_mid}
 use Rattle.laws.specs.Signed.{clamp255}
-use Rattle.bits.specs.Programs.{Prog, if◌then◌else◌}
+use Rattle.bits.specs.Programs.{Prog, when◌then◌else◌}
 use Rattle.coefficients.specs.declared.quantiser.Quantiser.{Quantiser}
 use Rattle.coefficients.specs.Dequantise.{quantiser}
 use Rattle.coefficients.specs.Blocks.{BlockCoefficients, BlockRead, reconstructed, block_data_after, first_only}
@@ -26,8 +26,8 @@ predictor_of number = number - 3
 unfoldable pub results : Quantiser → BlockCoefficients → ℕ → ℕ → List ℕ → List ℕ
 results q f di dw d =
     let first = dc_only (get_or f.coefficients 0 (pos 0)) in
-    if first_only q f then (if q.intra then set_const d di dw (clamp255 first) else add_const d di dw first)
-    else if q.intra then overwrite d di dw (idct f.coefficients) else add_block d di dw (idct f.coefficients)
+    when first_only q f then (when q.intra then set_const d di dw (clamp255 first) else add_const d di dw first)
+    else when q.intra then overwrite d di dw (idct f.coefficients) else add_block d di dw (idct f.coefficients)
 
 -- RULES 6.12, 6.13: the store with the results of a block that was read whole
 unfoldable pub written : Context → Quantiser → ℕ → ℕ → BlockCoefficients → List ℕ → List ℕ
@@ -58,7 +58,7 @@ block_result g q number w difference r = elim r.end [
 
 -- RULES 3.8: the matrix of blocks that are intra or not
 abbrev pub matrix_for : Matrices → Bool → List ℕ
-matrix_for m intra = if intra then m.intra_quant_matrix else m.non_intra_quant_matrix
+matrix_for m intra = when intra then m.intra_quant_matrix else m.non_intra_quant_matrix
 
 -- RULES 3.8: what makes coefficients of the levels of such blocks
 abbrev pub quantiser_of : Context → Bool → Slice → Quantiser
@@ -74,7 +74,7 @@ one_block g m intra number w = do
 
 -- RULES 7.16: the block with this number, if the pattern has its bit: that of block 0 weighs 32, that of block 5 weighs 1
 abbrev pub pattern_block : Context → Matrices → Bool → ℕ → ℕ → SliceState → Prog (Result Stop SliceState)
-pattern_block g m intra pattern number w = if flag pattern (2 ^ (5 - number)) then one_block g m intra number w else pure w
+pattern_block g m intra pattern number w = when flag pattern (2 ^ (5 - number)) then one_block g m intra number w else pure w
 
 -- RULES 7.16 (11172-2, 2.4.2.7): the blocks that the pattern names, 0 to 5 in this order
 unfoldable pub blocks : Context → Matrices → Bool → ℕ → SliceState → Prog (Result Stop SliceState)

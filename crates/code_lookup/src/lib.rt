@@ -1,5 +1,6 @@
 // What eight bits begin: 16 × the value of the code and its length, or 0 for a longer code.
 #![tactic(auto)]
+
 ghost use Rattle.std.specs.Prelude.{◌≡◌, ◌<◌, get_or};
 ghost use Rattle.code_lookup.specs.ByteTables.{dct_coeff_lookup, macroblock_address_increment_lookup};
 

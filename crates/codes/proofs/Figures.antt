@@ -4,10 +4,10 @@ use mathlib.Core.List.{List, [], ◌∷◌}
 use Prim.Native.Nat.{ℕ, max, ◌+◌}
 use lib.ListN.{length}
 use lib.IntN.{ℤ, pos, negsuc}
-use Rattle.codes.specs.Tables.{macroblock_address_increment_index, macroblock_type_intra_index, macroblock_type_predictive_index, macroblock_type_bindex}
+use Rattle.codes.specs.Tables.{macroblock_address_increment_index, macroblock_type_intra_index, macroblock_type_predictive_index, macroblock_type_b_index}
 use Rattle.codes.specs.Tables.{code_block_pattern_index, motion_index, dct_size_luminance_index, dct_size_chrominance_index, dct_coeff_index}
 use Rattle.codes.specs.Standard.{Code, macroblock_address_increment_codes, macroblock_type_intra_codes, macroblock_type_predictive_codes}
-use Rattle.codes.specs.Standard.{macroblock_type_bcodes, code_block_pattern_codes, motion_codes, dct_size_luminance_codes, dct_size_chrominance_codes, dct_coeff_codes}
+use Rattle.codes.specs.Standard.{macroblock_type_b_codes, code_block_pattern_codes, motion_codes, dct_size_luminance_codes, dct_size_chrominance_codes, dct_coeff_codes}
 
 pub record Figures : Type 0 where
   pub entries : ℕ
@@ -37,7 +37,7 @@ all_figures =
     figures_of macroblock_address_increment_index macroblock_address_increment_codes ∷
     figures_of macroblock_type_intra_index macroblock_type_intra_codes ∷
     figures_of macroblock_type_predictive_index macroblock_type_predictive_codes ∷
-    figures_of macroblock_type_bindex macroblock_type_bcodes ∷
+    figures_of macroblock_type_b_index macroblock_type_b_codes ∷
     figures_of code_block_pattern_index code_block_pattern_codes ∷
     figures_of motion_index motion_codes ∷
     figures_of dct_size_luminance_index dct_size_luminance_codes ∷
@@ -63,9 +63,9 @@ pub the-figures :
     figures 224 112 1 16 ∷
     []
     )
-unfolding macroblock_address_increment_index macroblock_type_intra_index macroblock_type_predictive_index macroblock_type_bindex code_block_pattern_index motion_index
+unfolding macroblock_address_increment_index macroblock_type_intra_index macroblock_type_predictive_index macroblock_type_b_index code_block_pattern_index motion_index
     dct_size_luminance_index dct_size_chrominance_index dct_coeff_index macroblock_address_increment_codes macroblock_type_intra_codes macroblock_type_predictive_codes
-    macroblock_type_bcodes code_block_pattern_codes motion_codes dct_size_luminance_codes dct_size_chrominance_codes dct_coeff_codes
+    macroblock_type_b_codes code_block_pattern_codes motion_codes dct_size_luminance_codes dct_size_chrominance_codes dct_coeff_codes
 the-figures = refl
 
 pub codes-281 : all_codes all_figures ≡ 281

@@ -10,7 +10,7 @@ use lib.IntN.{ℤ, pos, negsuc}
 use mir.Facts.{and_yes}
 use Rattle.laws.proofs.Tables.{every, at}
 use Rattle.codes.specs.TableRule.{ValidIndices}
-use Rattle.codes.specs.Tables.{macroblock_address_increment_index, macroblock_type_intra_index, macroblock_type_predictive_index, macroblock_type_bindex}
+use Rattle.codes.specs.Tables.{macroblock_address_increment_index, macroblock_type_intra_index, macroblock_type_predictive_index, macroblock_type_b_index}
 use Rattle.codes.specs.Tables.{code_block_pattern_index, motion_index, dct_size_luminance_index, dct_size_chrominance_index, dct_coeff_index}
 
 -- the rule at the entry k of a table of l entries
@@ -49,9 +49,9 @@ pub good-macroblock-type_predictive : ValidIndices macroblock_type_predictive_in
 unfolding macroblock_type_predictive_index
 good-macroblock-type_predictive = good_of macroblock_type_predictive_index tt
 
-pub good-macroblock-type-b : ValidIndices macroblock_type_bindex
-unfolding macroblock_type_bindex
-good-macroblock-type-b = good_of macroblock_type_bindex tt
+pub good-macroblock-type-b : ValidIndices macroblock_type_b_index
+unfolding macroblock_type_b_index
+good-macroblock-type-b = good_of macroblock_type_b_index tt
 
 pub good-code-block-pattern : ValidIndices code_block_pattern_index
 unfolding code_block_pattern_index

@@ -94,6 +94,7 @@ module _ (m : ℕ) where
       by : (b c : Bool) → b ≡ false → T (b || c) → c ≡ true
       by true c e u = absurd (true≢false e)
       by false true e u = refl
+      by false false e u = elim u [ ]
 
 pub coefficient-further : (x : ℕ) → x < 4 → walk_byte dct_coeff_index x ≡ unfinished (54 + 2 * x)
 unfolding dct_coeff_index walk_byte walked_from walk_step run bind read_at after_read bits_at bit_at

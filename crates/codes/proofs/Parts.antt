@@ -18,7 +18,7 @@ use Rattle.codes.specs.DecodingTables.{DecodingTables, IsMergedTable, ValidMerge
 use Rattle.codes.specs.DecodingTables.{macroblock_codes, block_codes, fixed_tables, matrix_of}
 use Rattle.codes.specs.Matrices.{zig_zag, down_from, diagonals, premultiplier_matrix}
 use Rattle.codes.specs.Tables.{macroblock_address_increment_index, macroblock_address_increment_value, macroblock_type_intra_index, macroblock_type_intra_value}
-use Rattle.codes.specs.Tables.{macroblock_type_predictive_index, macroblock_type_predictive_value, macroblock_type_bindex, macroblock_type_bvalue}
+use Rattle.codes.specs.Tables.{macroblock_type_predictive_index, macroblock_type_predictive_value, macroblock_type_b_index, macroblock_type_b_value}
 use Rattle.codes.specs.Tables.{code_block_pattern_index, code_block_pattern_value, motion_index, motion_value}
 use Rattle.codes.specs.Tables.{dct_size_luminance_index, dct_size_luminance_value, dct_size_chrominance_index, dct_size_chrominance_value, dct_coeff_index}
 use Rattle.codes.specs.Tables.{dct_coeff_value}
@@ -71,7 +71,7 @@ pub record Places : Type 0 where
   pub increment : Natural 0 80 macroblock_address_increment_index macroblock_address_increment_value macroblock_address_increment
   pub type_intra : Natural 80 4 macroblock_type_intra_index macroblock_type_intra_value macroblock_type_intra
   pub type_predictive : Natural 84 14 macroblock_type_predictive_index macroblock_type_predictive_value macroblock_type_predictive
-  pub type-b : Natural 98 22 macroblock_type_bindex macroblock_type_bvalue macroblock_type_b
+  pub type-b : Natural 98 22 macroblock_type_b_index macroblock_type_b_value macroblock_type_b
   pub pattern : Natural 120 126 code_block_pattern_index code_block_pattern_value code_block_pattern
   pub vector : take 68 (drop 246 fixed_tables) ≡ merged_table motion_index motion_value
   pub luminance : Natural 314 18 dct_size_luminance_index dct_size_luminance_value dct_size_luminance
@@ -83,7 +83,7 @@ pub record Places : Type 0 where
 pub places : Places
 unfolding fixed_tables macroblock_codes block_codes
     macroblock_address_increment_index macroblock_address_increment_value macroblock_type_intra_index macroblock_type_intra_value
-    macroblock_type_predictive_index macroblock_type_predictive_value macroblock_type_bindex macroblock_type_bvalue code_block_pattern_index code_block_pattern_value
+    macroblock_type_predictive_index macroblock_type_predictive_value macroblock_type_b_index macroblock_type_b_value code_block_pattern_index code_block_pattern_value
     motion_index motion_value dct_size_luminance_index dct_size_luminance_value dct_size_chrominance_index dct_size_chrominance_value dct_coeff_index dct_coeff_value
     zig_zag down_from diagonals premultiplier_matrix macroblock_address_increment macroblock_type_intra macroblock_type_predictive macroblock_type_b code_block_pattern
     dct_size_luminance dct_size_chrominance dct_coeff

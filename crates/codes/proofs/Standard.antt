@@ -9,11 +9,11 @@ use lib.ListN.{length, get_or}
 use lib.IntN.{ℤ, pos, negsuc}
 use Rattle.bits.specs.Programs.{eq_z}
 use Rattle.codes.specs.Tables.{macroblock_address_increment_index, macroblock_address_increment_value, macroblock_type_intra_index, macroblock_type_intra_value}
-use Rattle.codes.specs.Tables.{macroblock_type_predictive_index, macroblock_type_predictive_value, macroblock_type_bindex, macroblock_type_bvalue}
+use Rattle.codes.specs.Tables.{macroblock_type_predictive_index, macroblock_type_predictive_value, macroblock_type_b_index, macroblock_type_b_value}
 use Rattle.codes.specs.Tables.{code_block_pattern_index, code_block_pattern_value, motion_index, motion_value, dct_size_luminance_index, dct_size_luminance_value}
 use Rattle.codes.specs.Tables.{dct_size_chrominance_index, dct_size_chrominance_value, dct_coeff_index, dct_coeff_value}
 use Rattle.codes.specs.Standard.{Code, ◌∈◌, macroblock_address_increment_codes, macroblock_type_intra_codes, macroblock_type_predictive_codes}
-use Rattle.codes.specs.Standard.{macroblock_type_bcodes, code_block_pattern_codes, motion_codes, dct_size_luminance_codes, dct_size_chrominance_codes, dct_coeff_codes}
+use Rattle.codes.specs.Standard.{macroblock_type_b_codes, code_block_pattern_codes, motion_codes, dct_size_luminance_codes, dct_size_chrominance_codes, dct_coeff_codes}
 use Rattle.codes.proofs.Agreement.{Agrees}
 use Rattle.codes.proofs.Tested.{agrees-of}
 use Rattle.codes.proofs.Tree.{passes}
@@ -45,8 +45,8 @@ pub agrees-macroblock-type_predictive : Agrees macroblock_type_predictive_index 
 unfolding macroblock_type_predictive_index macroblock_type_predictive_value macroblock_type_predictive_codes
 agrees-macroblock-type_predictive = unsigned tt
 
-pub agrees-macroblock-type-b : Agrees macroblock_type_bindex macroblock_type_bvalue 0 0 macroblock_type_bcodes
-unfolding macroblock_type_bindex macroblock_type_bvalue macroblock_type_bcodes
+pub agrees-macroblock-type-b : Agrees macroblock_type_b_index macroblock_type_b_value 0 0 macroblock_type_b_codes
+unfolding macroblock_type_b_index macroblock_type_b_value macroblock_type_b_codes
 agrees-macroblock-type-b = unsigned tt
 
 -- Table B.3

@@ -2,7 +2,7 @@
 use Rattle.std.specs.Prelude.{ℕ, ℤ, pos}
 use Rattle.bits.specs.Programs.{Prog}
 use Rattle.codes.specs.Tables.{macroblock_address_increment_index, macroblock_address_increment_value, macroblock_type_intra_index, macroblock_type_intra_value}
-use Rattle.codes.specs.Tables.{macroblock_type_predictive_index, macroblock_type_predictive_value, macroblock_type_bindex, macroblock_type_bvalue}
+use Rattle.codes.specs.Tables.{macroblock_type_predictive_index, macroblock_type_predictive_value, macroblock_type_b_index, macroblock_type_b_value}
 use Rattle.codes.specs.Tables.{code_block_pattern_index, code_block_pattern_value, motion_index, motion_value, dct_size_luminance_index, dct_size_luminance_value}
 use Rattle.codes.specs.Tables.{dct_size_chrominance_index, dct_size_chrominance_value, dct_coeff_index, dct_coeff_value}
 use Rattle.codes.specs.Walk.{vlc}
@@ -17,7 +17,7 @@ unfoldable pub macroblock_type_predictive : Prog ℕ
 macroblock_type_predictive = vlc macroblock_type_predictive_index macroblock_type_predictive_value 0
 
 unfoldable pub macroblock_type_b : Prog ℕ
-macroblock_type_b = vlc macroblock_type_bindex macroblock_type_bvalue 0
+macroblock_type_b = vlc macroblock_type_b_index macroblock_type_b_value 0
 
 unfoldable pub code_block_pattern : Prog ℕ
 code_block_pattern = vlc code_block_pattern_index code_block_pattern_value 0

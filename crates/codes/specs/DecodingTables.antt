@@ -2,7 +2,7 @@
 use Rattle.std.specs.Prelude.{◌≡◌, Bool, true, cond, ◌&&◌, List, [], ◌∷◌, map, ◌++◌, ℕ, ◌+◌, ◌%◌, ◌≤◌, ◌<◌, T, leb, ℤ, pos, nat_abs, neg_ℤ, ◌+ℤ◌, length, get_or, take, drop}
 use Rattle.std.specs.Int.Signed.{le_z, non_neg}
 use Rattle.codes.specs.Tables.{macroblock_address_increment_index, macroblock_address_increment_value, macroblock_type_intra_index, macroblock_type_intra_value}
-use Rattle.codes.specs.Tables.{macroblock_type_predictive_index, macroblock_type_predictive_value, macroblock_type_bindex, macroblock_type_bvalue}
+use Rattle.codes.specs.Tables.{macroblock_type_predictive_index, macroblock_type_predictive_value, macroblock_type_b_index, macroblock_type_b_value}
 use Rattle.codes.specs.Tables.{code_block_pattern_index, code_block_pattern_value, motion_index, motion_value}
 use Rattle.codes.specs.Tables.{dct_size_luminance_index, dct_size_luminance_value, dct_size_chrominance_index, dct_size_chrominance_value, dct_coeff_index}
 use Rattle.codes.specs.Tables.{dct_coeff_value}
@@ -63,7 +63,7 @@ macroblock_codes =
     merged_table macroblock_address_increment_index (map pos macroblock_address_increment_value)
     ++ merged_table macroblock_type_intra_index (map pos macroblock_type_intra_value)
     ++ merged_table macroblock_type_predictive_index (map pos macroblock_type_predictive_value)
-    ++ merged_table macroblock_type_bindex (map pos macroblock_type_bvalue)
+    ++ merged_table macroblock_type_b_index (map pos macroblock_type_b_value)
     ++ merged_table code_block_pattern_index (map pos code_block_pattern_value)
 
 -- RULES 2.1, 2.7: of the codes of vectors, DC sizes and coefficients; behind them the zig-zag order and the premultipliers

@@ -108,8 +108,8 @@ macroblock_type_predictive_codes =
     []
 
 -- Table B.2c: macroblock_type of B pictures
-unfoldable pub macroblock_type_bcodes : List (Code ℕ)
-macroblock_type_bcodes =
+unfoldable pub macroblock_type_b_codes : List (Code ℕ)
+macroblock_type_b_codes =
     macroblock_type_code 2 0b10 0 1 1 0 0 ∷
     macroblock_type_code 2 0b11 0 1 1 1 0 ∷
     macroblock_type_code 3 0b010 0 0 1 0 0 ∷

@@ -39,14 +39,14 @@ unfoldable pub macroblock_type_predictive_value : List ℕ
 macroblock_type_predictive_value =
     0 ∷ 10 ∷ 0 ∷ 2 ∷ 0 ∷ 8 ∷ 0 ∷ 0 ∷ 0 ∷ 18 ∷ 26 ∷ 1 ∷ 0 ∷ 17 ∷ []
 
-unfoldable pub macroblock_type_bindex : List ℤ
-macroblock_type_bindex =
+unfoldable pub macroblock_type_b_index : List ℤ
+macroblock_type_b_index =
     pos 2 ∷ pos 4 ∷ pos 6 ∷ pos 8 ∷ pos 0 ∷ pos 0 ∷ pos 10 ∷ pos 12 ∷ pos 0 ∷ pos 0 ∷ pos 14 ∷ pos 16 ∷ pos 0 ∷ pos 0 ∷
     pos 18 ∷ pos 20 ∷ pos 0 ∷
     pos 0 ∷ negsuc 0 ∷ pos 0 ∷ pos 0 ∷ pos 0 ∷ []
 
-unfoldable pub macroblock_type_bvalue : List ℕ
-macroblock_type_bvalue =
+unfoldable pub macroblock_type_b_value : List ℕ
+macroblock_type_b_value =
     0 ∷ 0 ∷ 0 ∷ 0 ∷ 12 ∷ 14 ∷ 0 ∷ 0 ∷ 4 ∷ 6 ∷ 0 ∷ 0 ∷ 8 ∷ 10 ∷ 0 ∷ 0 ∷ 30 ∷ 1 ∷ 0 ∷ 17 ∷ 22 ∷ 26 ∷ []
 
 unfoldable pub code_block_pattern_index : List ℤ

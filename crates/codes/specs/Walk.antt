@@ -2,13 +2,13 @@
 use Rattle.std.specs.Prelude.{ℕ, ◌+◌, List, length, get_or, ℤ, pos, nat_abs}
 use Rattle.std.specs.Int.Signed.{le_z}
 use Rattle.laws.specs.Loops.{Step, continue, finish}
-use Rattle.bits.specs.Programs.{Prog, done, bits, loop, ◌>>=◌, if◌then◌else◌}
+use Rattle.bits.specs.Programs.{Prog, done, bits, loop, ◌>>=◌, when◌then◌else◌}
 
 -- one bit: on to a further pair of entries, or the end of the walk at an entry
 unfoldable pub walk_step : List ℤ → ℕ → Prog (Step ℕ ℕ)
 walk_step ix at = do
   b ← bits 1
-  if le_z (get_or ix (at + b) (pos 0)) (pos 0) then done (finish (at + b)) else done (continue (nat_abs (get_or ix (at + b) (pos 0))))
+  when le_z (get_or ix (at + b) (pos 0)) (pos 0) then done (finish (at + b)) else done (continue (nat_abs (get_or ix (at + b) (pos 0))))
 
 -- the entry at which the walk from the pair of entries `at` on ends
 abbrev pub walk_from : List ℤ → ℕ → Prog ℕ

@@ -30,11 +30,13 @@ w9 = refl
 
 -- the differences from a stream: 101 is the code of size 3
 pub w8-read : run (dc_difference true) (0b10110100 ∷ []) 0 ≡ record { value = pos 5; at = 6 }
-unfolding run bind loop read_at after_read bits_at bit_at dc_difference dc_size dct_size_luminance dct_size_luminance_index dct_size_luminance_value vlc walk walk_step added
+unfolding run bind loop read_at after_read bits_at bit_at dc_difference dc_size dct_size_luminance dct_size_luminance_index
+    dct_size_luminance_value vlc walk walk_step added
 w8-read = refl
 
 pub w9-read : run (dc_difference true) (0b10101000 ∷ []) 0 ≡ record { value = negsuc 4; at = 6 }
-unfolding run bind loop read_at after_read bits_at bit_at dc_difference dc_size dct_size_luminance dct_size_luminance_index dct_size_luminance_value vlc walk walk_step added
+unfolding run bind loop read_at after_read bits_at bit_at dc_difference dc_size dct_size_luminance dct_size_luminance_index
+    dct_size_luminance_value vlc walk walk_step added
 w9-read = refl
 
 pub w10 : dequantised (quantiser true 1) (pos 1) 19 ≡ pos 1

@@ -1,6 +1,6 @@
 -- RULES 3.3, 3.7 to 3.12: the coefficients of a block, from what it says and what was left over.
 use Rattle.std.specs.Prelude.{Bool, not, ◌&&◌, List, [], ◌∷◌, ℕ, ◌+◌, eqb, ℤ, pos, ◌+ℤ◌, ◌*ℤ◌, get_or, set, replicate}
-use Rattle.bits.specs.Programs.{Prog, done, ◌>>=◌, ◌>>◌, if◌then◌else◌}
+use Rattle.bits.specs.Programs.{Prog, done, ◌>>=◌, ◌>>◌, when◌then◌else◌}
 use Rattle.codes.specs.Matrices.{zig_zag, premultiplier_matrix}
 use Rattle.coefficients.specs.declared.block.{Block.Block, BlockEnd.BlockEnd}
 use Rattle.coefficients.specs.declared.block.BlockEnd.TheVariants.{Complete, Dropped, DcOutOfRange}
@@ -55,18 +55,19 @@ with_dc x left = block_coefficients (set left 0 (x *ℤ pos 256)) 1
 
 -- RULES 3.3, 3.4: the predictor behind the block: the DC value of an intra block
 abbrev pub dc_of : Quantiser → ℤ → CodedBlock → ℤ
-dc_of q predictor c = if q.intra then predictor +ℤ c.difference else predictor
+dc_of q predictor c = when q.intra then predictor +ℤ c.difference else predictor
 
 -- RULES 3.3, 3.4: what the pairs are placed behind
 abbrev pub coefficients_before_pairs : Quantiser → ℤ → List ℤ → CodedBlock → BlockCoefficients
-coefficients_before_pairs q predictor left c = if q.intra then with_dc (dc_of q predictor c) left else block_coefficients left 0
+coefficients_before_pairs q predictor left c = when q.intra then with_dc (dc_of q predictor c) left else block_coefficients left 0
 
 -- RULES Q8, 3.3, 3.4, 3.7, 3.8: a block from what it says, the predictor and the coefficients left over; a DC value outside changes neither of them
 unfoldable pub reconstructed : Quantiser → List ℕ → ℤ → List ℤ → CodedBlock → BlockRead
 reconstructed q matrix predictor left c =
-    if q.intra && not (dc_in_range (predictor +ℤ c.difference)) then record
+    when q.intra && not (dc_in_range (predictor +ℤ c.difference)) then record
     { block_coefficients = block_coefficients left 0; predictor = predictor; end = c.end }
-    else record { block_coefficients = with_pairs q matrix (coefficients_before_pairs q predictor left c) c.pairs; predictor = dc_of q predictor c; end = c.end }
+    else record
+    { block_coefficients = with_pairs q matrix (coefficients_before_pairs q predictor left c) c.pairs; predictor = dc_of q predictor c; end = c.end }
 
 -- a block, from the coefficients that are left over: read, then reconstructed
 unfoldable pub block : Quantiser → List ℕ → Bool → ℤ → List ℤ → Prog BlockRead

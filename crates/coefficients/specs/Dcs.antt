@@ -1,13 +1,13 @@
 -- The DC value of an intra block.
 use Rattle.std.specs.Prelude.{Bool, cond, ◌&&◌, ℕ, ◌+◌, ◌-◌, ◌/◌, ◌%◌, ◌^◌, eqb, ℤ, pos, neg_ℤ, ◌-ℤ◌}
 use Rattle.std.specs.Int.Signed.{le_z}
-use Rattle.bits.specs.Programs.{Prog, done, bits, ◌>>=◌, ◌>>◌, if◌then◌else◌}
+use Rattle.bits.specs.Programs.{Prog, done, bits, ◌>>=◌, ◌>>◌, when◌then◌else◌}
 use Rattle.codes.specs.Codes.{dct_size_luminance, dct_size_chrominance}
 use Rattle.coefficients.specs.DcTable.{lines, difference_in}
 
 -- RULES 3.1: the differential's size, by the table for blocks of Y or by the one for Cb and Cr
 unfoldable pub dc_size : Bool → Prog ℕ
-dc_size luminance = if luminance then dct_size_luminance else dct_size_chrominance
+dc_size luminance = when luminance then dct_size_luminance else dct_size_chrominance
 
 -- RULES 3.2: what a differential d of s bits adds, by the printed table
 unfoldable pub added : ℕ → ℕ → ℤ
@@ -21,7 +21,7 @@ by_top_bit s d = cond (eqb (d / 2 ^ (s - 1) % 2) 1) (pos d) (pos (d + 1) -ℤ po
 unfoldable pub dc_difference : Bool → Prog ℤ
 dc_difference luminance = do
   s ← dc_size luminance
-  if eqb s 0 then done (pos 0) else do
+  when eqb s 0 then done (pos 0) else do
     d ← bits s
     done (added s d)
 

@@ -1,7 +1,7 @@
 -- RULES 3.1 to 3.7 (11172-2, 2.4.2.8): a block as it is coded.
 use Rattle.std.specs.Prelude.{Bool, cond, List, [], ◌∷◌, ◌++◌, ℕ, ◌+◌, ltb, ℤ, pos, ◌+ℤ◌}
 use Rattle.laws.specs.Loops.{Step, continue, finish}
-use Rattle.bits.specs.Programs.{Prog, done, loop, ◌>>=◌, ◌>>◌, if◌then◌else◌}
+use Rattle.bits.specs.Programs.{Prog, done, loop, ◌>>=◌, ◌>>◌, when◌then◌else◌}
 use Rattle.coefficients.specs.declared.coefficient.Coefficient.{Coefficient}
 use Rattle.coefficients.specs.declared.coefficient.Coefficient.TheVariants.{EndOfBlock, RunLevel}
 use Rattle.coefficients.specs.declared.block.BlockEnd.{BlockEnd}
@@ -60,7 +60,7 @@ coded difference p = record { difference = difference; pairs = p.pairs; end = p.
 unfoldable pub intra_coded : Bool → ℤ → Prog CodedBlock
 intra_coded luminance predictor = do
   difference ← dc_difference luminance
-  if dc_in_range (predictor +ℤ difference) then (do p ← pairs 1; done (coded difference p))
+  when dc_in_range (predictor +ℤ difference) then (do p ← pairs 1; done (coded difference p))
       else done (coded difference (pairs_end [] DcOutOfRange))
 
 -- RULES 3.4
@@ -71,4 +71,4 @@ non_intra_coded = do
 
 -- a block, intra or not
 unfoldable pub coded_block : Bool → Bool → ℤ → Prog CodedBlock
-coded_block intra luminance predictor = if intra then intra_coded luminance predictor else non_intra_coded
+coded_block intra luminance predictor = when intra then intra_coded luminance predictor else non_intra_coded

@@ -8,7 +8,7 @@ use lib.IntN.{ℤ}
 use lib.ListN.{length}
 use borrow.Author.Tests.{le-leb, lt-leb, eq-eqb, ne_eqb}
 use Rattle.bits.specs.Bounds.{longest_stream}
-use Rattle.bits.specs.Programs.{if◌then◌else◌}
+use Rattle.bits.specs.Programs.{when◌then◌else◌}
 use Rattle.header.specs.Store.{cleared}
 use Rattle.playback.specs.declared.outcome.{Outcome.Outcome, StepResult.StepResult}
 use Rattle.playback.specs.declared.outcome.Outcome.TheVariants.{Refused}
@@ -55,16 +55,16 @@ module _ (b d : Decoder) (t : StepResult) (c : List ℤ) (m : List ℕ) where
 -- ---- the questions
 
 module _ (s : List ℕ) (d : Decoder) (l : List ℕ) where
-  first_as : {q : CheckResult} → q ≡ (if d.sequence.has_sequence_header then passed d else check_header s d) → check_store d l q ≡ check_header_and_store s d l
+  first_as : {q : CheckResult} → q ≡ (when d.sequence.has_sequence_header then passed d else check_header s d) → check_store d l q ≡ check_header_and_store s d l
   unfolding check_header_and_store
   first_as e = ap (check_store d l) e
 
   -- RULES 8.1
   pub first-new : {q : CheckResult} → d.sequence.has_sequence_header ≡ false → q ≡ check_header s d → check_store d l q ≡ check_header_and_store s d l
-  first-new h e = first_as (e ∙ sym (ap (λ (b : Bool). if b then passed d else check_header s d) h))
+  first-new h e = first_as (e ∙ sym (ap (λ (b : Bool). when b then passed d else check_header s d) h))
 
   pub first_had : d.sequence.has_sequence_header ≡ true → check_store d l (passed d) ≡ check_header_and_store s d l
-  first_had h = first_as (sym (ap (λ (b : Bool). if b then passed d else check_header s d) h))
+  first_had h = first_as (sym (ap (λ (b : Bool). when b then passed d else check_header s d) h))
 
   module _ (x : Decoder) where
     pub go-no : (n : ℕ) → (n ≡ 0 → ⊥) → check_result n x ≡ check_header_and_store s d l → call_result (Refused n) x l ≡ after_checks s d l (check_header_and_store s d l)

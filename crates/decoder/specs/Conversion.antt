@@ -1,6 +1,6 @@
 -- RULES part 9, Q: the conversion. Its answer and every number of the area; record and store are not changed (RULES QF).
 use Rattle.std.specs.Prelude.{not, ◌&&◌, List, ℕ, leb, length}
-use Rattle.bits.specs.Programs.{if◌then◌else◌}
+use Rattle.bits.specs.Programs.{when◌then◌else◌}
 use Rattle.argb.specs.Scaled as Argb
 use Rattle.conversion.specs.Pictures.{picture_in, fits}
 use Rattle.decoder.specs.declared.record.Decoder.{Decoder}
@@ -20,8 +20,8 @@ area x a = record { answer = x; area = a }
 -- RULES Q: the questions 2, 6, 10, 11
 unfoldable pub converted : Decoder → List ℕ → ℕ → List ℕ → ℕ → ℕ → ConversionOutput
 converted d l k a w h =
-    if not (possible d) then area (Refused 2) a
-    else if not (leb (store_bytes d) (length l)) then area (Refused 6) a
-    else if not (d.sequence.has_sequence_header && leb k 2) then area (Refused 10) a
-    else if not (fits w h a) then area (Refused 11) a
+    when not (possible d) then area (Refused 2) a
+    else when not (leb (store_bytes d) (length l)) then area (Refused 6) a
+    else when not (d.sequence.has_sequence_header && leb k 2) then area (Refused 10) a
+    else when not (fits w h a) then area (Refused 11) a
     else area Written (Argb.scaled (picture_in d.sequence l k) w h a)

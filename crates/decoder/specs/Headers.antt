@@ -1,7 +1,7 @@
 -- RULES Q3 to Q6: the questions on the sequence header, and its acceptance.
 use Rattle.std.specs.Prelude.{true, not, ◌||◌, List, ℕ, eqb, leb, pos, negsuc, length}
 use Rattle.bits.specs.Bits.{has}
-use Rattle.bits.specs.Programs.{RunResult, run, eq_z, if◌then◌else◌}
+use Rattle.bits.specs.Programs.{RunResult, run, eq_z, when◌then◌else◌}
 use Rattle.picture_state.specs.State.{with_stores, first_stores}
 use Rattle.header.specs.Possible.{sizes_of}
 use Rattle.header.specs.Sequences.{Size, Rest, size, rest, aspect_of, rate_of}
@@ -57,18 +57,18 @@ accepted o d = record {
 unfoldable pub check_size : List ℕ → Decoder → CheckResult
 check_size s d =
     let x = with_size_read (run size s (position d)) d in
-    if eqb x.sequence.width 0 || eqb x.sequence.height 0 then refused 5 x
+    when eqb x.sequence.width 0 || eqb x.sequence.height 0 then refused 5 x
     else passed (accepted (run rest s (position x)) x)
 
 -- RULES Q3, Q4, Q5
 unfoldable pub check_header : List ℕ → Decoder → CheckResult
 check_header s d =
     let x = find_sequence s d in
-    if eq_z (start_code x) (negsuc 0) then refused 3 x
-    else if not (has s (position x) 1088) then refused 4 x
+    when eq_z (start_code x) (negsuc 0) then refused 3 x
+    else when not (has s (position x) 1088) then refused 4 x
     else check_size s x
 
 -- RULES Q6: of the record passed in, d, nothing is changed
 unfoldable pub check_store : Decoder → List ℕ → CheckResult → CheckResult
 check_store d l (refused n x) = refused n x
-check_store d l (passed x) = if leb (store_bytes x) (length l) then passed x else refused 6 d
+check_store d l (passed x) = when leb (store_bytes x) (length l) then passed x else refused 6 d

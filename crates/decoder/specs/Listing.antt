@@ -1,6 +1,6 @@
 -- RULES L: what the listing program prints below its line of names.
 use Rattle.std.specs.Prelude.{List, [], ◌∷◌, ℕ, zero, suc, ◌+◌, leb, length, replicate}
-use Rattle.bits.specs.Programs.{stream_fuel, if◌then◌else◌}
+use Rattle.bits.specs.Programs.{stream_fuel, when◌then◌else◌}
 use Rattle.decoder.specs.declared.record.Decoder.{Decoder}
 use Rattle.decoder.specs.declared.answers.Opening.{Opening}
 use Rattle.decoder.specs.Record.{CallResult}
@@ -34,4 +34,4 @@ lines_of s x = elim (opening_answer x.answer) [ result y ↦ lines_from stream_f
 
 -- RULES L.1: at most 65,536 bytes; a store for 48 macroblocks
 unfoldable pub listing : List ℕ → List Line
-listing s = if leb (length s) 65536 then lines_of s (opening s (replicate 55296 0)) else line 0 0 0 1 ∷ []
+listing s = when leb (length s) 65536 then lines_of s (opening s (replicate 55296 0)) else line 0 0 0 1 ∷ []

@@ -1,7 +1,7 @@
 -- RULES O: opening. Its answer, the record and every byte of the store, for each stream and each store.
 use Rattle.std.specs.Prelude.{List, ℕ, leb, length}
 use Rattle.bits.specs.Bounds.{longest_stream}
-use Rattle.bits.specs.Programs.{if◌then◌else◌}
+use Rattle.bits.specs.Programs.{when◌then◌else◌}
 use Rattle.header.specs.Store.{cleared}
 use Rattle.decoder.specs.declared.record.Decoder.{Decoder}
 use Rattle.decoder.specs.declared.answers.Opening.{Opening}
@@ -20,4 +20,4 @@ opening_from d s l = opened l (check_store d l (check_header s d))
 
 -- RULES O.1, O.2: question 1, then from the fresh record on
 unfoldable pub opening : List ℕ → List ℕ → CallResult Opening
-opening s l = if leb (length s) longest_stream then opening_from fresh s l else call_result (Refused 1) fresh l
+opening s l = when leb (length s) longest_stream then opening_from fresh s l else call_result (Refused 1) fresh l

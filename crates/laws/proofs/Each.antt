@@ -1,6 +1,6 @@
 -- Tests at all places below some number, one after the other.
 use mathlib.Core.Path.{◌≡◌, refl, sym, ◌∙◌}
-use mathlib.Core.Bool.{Bool, true, false, false≢true, ◌&&◌, and_false}
+use mathlib.Core.Bool.{Bool, true, false, false≢true, ◌&&◌, and-false}
 use Prim.Native.Nat.{ℕ, zero, suc, ◌+◌, ◌≤◌, ◌<◌}
 use native.Mathlib.Decide.{dec_lt}
 use native.Mathlib.Numerals.{add-one}
@@ -14,7 +14,7 @@ one-fails f (suc n) i h e = go (dec_lt i n) (λ g. one-fails f n i g e)
   where
     go : Dec (i < n) → (i < n → all_below n f ≡ false) → (all_below n f && f n) ≡ false
     go (yes g) before = rw (before g)
-    go (no g) before = let s : i ≡ n = omega arith in rw (← s, e) (and_false (all_below i f))
+    go (no g) before = let s : i ≡ n = omega arith in rw (← s, e) (and-false (all_below i f))
 
 pub all-at : (f : ℕ → Bool) (n : ℕ) → all_below n f ≡ true → (k : ℕ) → k < n → f k ≡ true
 all-at f n h k q = go (f k) refl

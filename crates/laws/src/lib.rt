@@ -1,5 +1,6 @@
 // Laws of numbers, lists, loops and tables stand in proofs/, the definitions that they speak of in specs/. The code is two rules on signed numbers.
 #![tactic(auto)]
+
 ghost use Rattle.std.specs.Prelude.{◌≡◌};
 ghost use Rattle.laws.specs.Signed.{clamp255, half_toward_zero};
 

@@ -1,7 +1,7 @@
 -- RULES 7.7 to 7.16 (11172-2, 2.4.2.7): a macroblock.
 use Rattle.std.specs.Prelude.{Bool, ◌||◌, List, ℕ, ◌-◌, eqb, ltb, pos, nat_abs, ◌+ℤ◌}
 use Rattle.std.specs.Int.Signed.{lt_z, le_z}
-use Rattle.bits.specs.Programs.{Prog, if◌then◌else◌}
+use Rattle.bits.specs.Programs.{Prog, when◌then◌else◌}
 use Rattle.picture_state.specs.declared.types.{Context.Context, Matrices.Matrices, Slice.Slice}
 use Rattle.picture_state.specs.State.{SliceState, slice_state, with_slice, zeroed, with_address, with_motions, dc_reset}
 use Rattle.picture_state.specs.Result.{Result, ok, and_then, lift, from_result, pure, ◌>>=◌, ◌>>◌}
@@ -24,19 +24,19 @@ is_outside g w = lt_z w.slice.macroblock_address (pos 0) || le_z (pos g.sizes.mb
 unfoldable pub skip_reset : Context → Slice → Slice
 skip_reset g s =
     let d = dc_reset s in
-    if eqb g.picture_type 2 then with_motions (zeroed d.motion_forward) d.motion_backward d else d
+    when eqb g.picture_type 2 then with_motions (zeroed d.motion_forward) d.motion_backward d else d
 
 -- RULES 7.9, 7.11: on by n, or by 1 where n is 0; the macroblocks between are skipped
 unfoldable pub advance : Context → ℕ → SliceState → Result Stop SliceState
 advance g n w =
     let s = skip_reset g w.slice in
-    if ltb n 2 then ok (address_plus 1 w)
+    when ltb n 2 then ok (address_plus 1 w)
     else and_then (predict_skipped g s (nat_abs (w.slice.macroblock_address +ℤ pos 1)) (n - 1) w.store) λ l.
     ok (address_plus n (slice_state s w.block_data l))
 
 -- RULES 7.14: prediction, unless intra
 unfoldable pub predict_unless_intra : Context → ℕ → Slice → List ℕ → Result Stop (List ℕ)
-predict_unless_intra g t s l = if is_intra t then ok l else predict g (nat_abs s.macroblock_address) s l
+predict_unless_intra g t s l = when is_intra t then ok l else predict g (nat_abs s.macroblock_address) s l
 
 -- RULES 7.13 to 7.16: type, head, prediction, pattern, blocks
 unfoldable pub body : Context → Matrices → SliceState → Prog (Result Stop SliceState)
@@ -49,12 +49,12 @@ body g m w = do
 
 -- RULES 7.8, 7.12: the first macroblock of a slice
 unfoldable pub first_macroblock : Context → Matrices → ℕ → SliceState → Prog (Result Stop SliceState)
-first_macroblock g m n w = if is_outside g (address_plus n w) then pure (address_plus n w) else body g m (address_plus n w)
+first_macroblock g m n w = when is_outside g (address_plus n w) then pure (address_plus n w) else body g m (address_plus n w)
 
 -- RULES 7.9 to 7.11: a later one
 unfoldable pub later_macroblock : Context → Matrices → ℕ → SliceState → Prog (Result Stop SliceState)
 later_macroblock g m n w =
-    if le_z (pos g.sizes.mb_size) (w.slice.macroblock_address +ℤ pos n) then pure w
+    when le_z (pos g.sizes.mb_size) (w.slice.macroblock_address +ℤ pos n) then pure w
     else do
       x ← from_result (advance g n w)
       body g m x
@@ -63,4 +63,4 @@ later_macroblock g m n w =
 unfoldable pub macroblock : Context → Matrices → Bool → SliceState → Prog (Result Stop SliceState)
 macroblock g m first w = do
   n ← lift increment
-  if first then first_macroblock g m n w else later_macroblock g m n w
+  when first then first_macroblock g m n w else later_macroblock g m n w

@@ -1,6 +1,6 @@
 -- RULES 7.17, 7.18, 6.10: the prediction of a macroblock, and of those that are skipped. Nothing is read.
 use Rattle.std.specs.Prelude.{Bool, true, false, ◌&&◌, List, ℕ, zero, suc, ◌+◌, eqb}
-use Rattle.bits.specs.Programs.{if◌then◌else◌}
+use Rattle.bits.specs.Programs.{when◌then◌else◌}
 use Rattle.prediction.specs.declared.predict.Predicted.TheVariants.{Done, Refused}
 use Rattle.prediction.specs.Predict.{macroblock_at, in_halves}
 use Rattle.prediction.specs.Planes.{PlaneAfter, predicted_planes}
@@ -27,13 +27,13 @@ predict_from g address k m interpolate l =
 unfoldable pub predict_both : Context → ℕ → Slice → List ℕ → Result Stop (List ℕ)
 predict_both g address s l =
     and_then (predict_from g address g.stores.fwd s.motion_forward false l) λ l₁.
-    if s.motion_backward.is_set then predict_from g address g.stores.bwd s.motion_backward true l₁ else ok l₁
+    when s.motion_backward.is_set then predict_from g address g.stores.bwd s.motion_backward true l₁ else ok l₁
 
 -- RULES 7.17, 7.18 (11172-2, 2.4.4.2, 2.4.4.3): by the picture's type and the two flags
 unfoldable pub predict : Context → ℕ → Slice → List ℕ → Result Stop (List ℕ)
 predict g address s l =
-    if eqb g.picture_type 3 && s.motion_forward.is_set then predict_both g address s l
-    else if eqb g.picture_type 3 then predict_from g address g.stores.bwd s.motion_backward false l
+    when eqb g.picture_type 3 && s.motion_forward.is_set then predict_both g address s l
+    else when eqb g.picture_type 3 then predict_from g address g.stores.bwd s.motion_backward false l
     else predict_from g address g.stores.fwd s.motion_forward false l
 
 -- RULES 7.11: n skipped macroblocks, the first at this address

@@ -26,5 +26,6 @@ pub record Cases : Type 0 where
   pub w4-read : run (motion_vector 6 (neg_ℤ (pos 1024))) (0b0000_0011 ∷ 0b0011_1111 ∷ 0b1000_0000 ∷ []) 0 ≡ record { value = pos 0; at = 17 }
 
 pub cases : Cases
-unfolding motion_vector displacement corrected displacement_from run bind loop motion vlc walk walk_step motion_index motion_value read_at after_read bits_at bit_at
+unfolding motion_vector displacement corrected displacement_from run bind loop motion vlc walk walk_step motion_index motion_value read_at
+    after_read bits_at bit_at
 cases = record { w1 = refl; w1-read = refl; w2 = refl; w2-read = refl; w3 = refl; w3-read = refl; w4 = refl; w4-read = refl }

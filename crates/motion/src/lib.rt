@@ -1,3 +1,4 @@
 // Motion vectors.
 #![tactic(auto)]
+
 pub mod vector;

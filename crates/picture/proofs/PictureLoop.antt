@@ -16,7 +16,7 @@ use Rattle.laws.specs.Loops.{continue, finish}
 use Rattle.laws.proofs.Ints.{up, dn, v, lit, le_yes, yes_le, no_le, lt_yes, lt_no, fits_by, cast-by, cast_is, same_bits}
 use Rattle.laws.proofs.Tests.{both}
 use Rattle.bits.specs.declared.reader.Reader.{Reader}
-use Rattle.bits.specs.Programs.{stream_fuel, done, next_start_code, eq_z, if◌then◌else◌}
+use Rattle.bits.specs.Programs.{stream_fuel, done, next_start_code, eq_z, when◌then◌else◌}
 use Rattle.bits.specs.Runs.{RunsInBounds, bits_left}
 use Rattle.bits.proofs.Codes.{eq_z-yes, eq_z-no, code_fits}
 use Rattle.bits.proofs.Rules.{Loops, loop-start, loop-on, takes-less}
@@ -132,7 +132,7 @@ module _ {g : Context} {s : List ℕ} {reader : Reader} {x : Slice} {left : List
   }
     where
       picked : (before : ℤ) (t : Bool) → (P.is_extra code && not begun) ≡ t
-          → RunsAs numbered_step (if P.is_extra code && not begun then done (continue (P.slices_loop_state false (picture_state_of g code x left store)))
+          → RunsAs numbered_step (when P.is_extra code && not begun then done (continue (P.slices_loop_state false (picture_state_of g code x left store)))
           else done (finish (ok (picture_state_of g code x left store)))) s after
           (slices_step_of t false 0 (picture_state_of g code x left store)) after
       picked before true q = t-yes _ q (t-done refl)

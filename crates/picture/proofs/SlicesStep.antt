@@ -6,7 +6,7 @@ use Prim.Native.Nat.{ℕ, zero, suc}
 use lib.Dec.{eqb}
 use lib.IntN.{ℤ}
 use Rattle.bits.specs.declared.reader.Reader.{Reader}
-use Rattle.bits.specs.Programs.{Prog, if◌then◌else◌}
+use Rattle.bits.specs.Programs.{Prog, when◌then◌else◌}
 use Rattle.codes.specs.DecodingTables.{DecodingTables, tables_with}
 use Rattle.tables.proofs.Made.{Bytes64, lent_with, matrix_with}
 use Rattle.picture_state.specs.declared.types.{Matrices.Matrices, Picture.Picture, PictureProgress.PictureProgress, Sizes.Sizes, SlicesProgress.SlicesProgress}
@@ -28,11 +28,11 @@ r-pure h (suc n) x l r = r_if-ok _ r
 
 -- the roles while the slices are read are of stores that are there
 pub held-during : (p : Picture) (z : Sizes) {store : List ℕ} {t : Stores}
-    → t ≡ (if eqb p.picture_type 3 then p.stores else P.roles_while_reading p.stores) → StoreFits (P.context_of z p) store
+    → t ≡ (when eqb p.picture_type 3 then p.stores else P.roles_while_reading p.stores) → StoreFits (P.context_of z p) store
     → StoreFits (P.context_of z (with_stores t p)) store
 held-during p z {store} {t} e k = go (eqb p.picture_type 3) e
   where
-    go : (b : Bool) → t ≡ (if b then p.stores else P.roles_while_reading p.stores) → StoreFits (P.context_of z (with_stores t p)) store
+    go : (b : Bool) → t ≡ (when b then p.stores else P.roles_while_reading p.stores) → StoreFits (P.context_of z (with_stores t p)) store
     go true e = rw e k
     go false e =
         rw e
@@ -100,8 +100,8 @@ module _ (z : Sizes) (m : Matrices) (p : Picture) (left : List ℤ) (store : Lis
 pub coded-of : (z : Sizes) {m : Matrices} {tables : List ℕ} → Made m tables → (p : Picture) (left : List ℤ) (store : List ℕ) {s : List ℕ}
     {from : Reader} (r : SlicesProgress) {left₁ : List ℤ} {store₁ : List ℕ} {before after : Stores} {first : ℤ} {q : PictureProgress}
     → let g = P.context_of z (with_stores before p) in
-    before ≡ (if eqb p.picture_type 3 then p.stores else P.roles_while_reading p.stores)
-    → after ≡ (if eqb p.picture_type 3 then p.stores else P.roles_after_reading p.stores) → first ≡ p.start_code → q ≡ progress_of g after r
+    before ≡ (when eqb p.picture_type 3 then p.stores else P.roles_while_reading p.stores)
+    → after ≡ (when eqb p.picture_type 3 then p.stores else P.roles_after_reading p.stores) → first ≡ p.start_code → q ≡ progress_of g after r
     → RefinesSlices (P.slices g (matrices_in tables) (picture_state_of g first p.slice left store)) g s from r left₁ store₁
     → RefinesPicture (P.slices_in_roles z m (P.picture_state p left store)) s from q left₁ store₁
 coded-of z {m} {tables} k p left store {s} {from} r {left₁} {store₁} {before} {after} d a f h w =
@@ -111,8 +111,8 @@ coded-of z {m} {tables} k p left store {s} {from} r {left₁} {store₁} {before
         (progress_of (P.context_of z (with_stores before p)) before r) left₁ store₁
     read = coded_with p z before m left store r f (rw k.is at w)
 
-    go : (b : Bool) → eqb p.picture_type 3 ≡ b → before ≡ (if b then p.stores else P.roles_while_reading p.stores)
-        → after ≡ (if b then p.stores else P.roles_after_reading p.stores)
+    go : (b : Bool) → eqb p.picture_type 3 ≡ b → before ≡ (when b then p.stores else P.roles_while_reading p.stores)
+        → after ≡ (when b then p.stores else P.roles_after_reading p.stores)
         → RefinesPicture (P.slices_in_roles z m (P.picture_state p left store)) s from (progress_of (P.context_of z (with_stores before p)) after r) left₁ store₁
     go true y d a = rw a (coded-b z m p left store (progress_of (P.context_of z p) p.stores r) y (rw d at read))
     go false y d a = coded-other z m p left store (progress_of (P.context_of z (with_stores before p)) before r) y d a read

@@ -1,7 +1,7 @@
 -- What the code has behind a picture's header, behind a slice, and behind the slices of a picture.
 use Rattle.std.specs.Prelude.{true, not, ◌&&◌, eqb, ℤ, pos, ◌+ℤ◌}
 use Rattle.std.specs.Int.Signed.{le_z}
-use Rattle.bits.specs.Programs.{if◌then◌else◌}
+use Rattle.bits.specs.Programs.{when◌then◌else◌}
 use Rattle.picture_state.specs.declared.types.{Context.Context, Stores.Stores, Progress.Progress, SlicesProgress.SlicesProgress}
 use Rattle.picture_state.specs.declared.types.PictureProgress.{PictureProgress}
 use Rattle.picture.specs.Pictures as P
@@ -9,7 +9,7 @@ use Rattle.picture.specs.declared.headers.{Direction.Direction, HeaderRead.Heade
 
 -- RULES 7.1: a direction as the code has it
 abbrev pub direction_of : Direction → P.Direction
-direction_of d = if d.present then P.present d.full_pel_vector d.f_code else P.absent
+direction_of d = when d.present then P.present d.full_pel_vector d.f_code else P.absent
 
 -- RULES 7.1: the fields of a header as the code has read them, without the reader behind them
 abbrev pub header_of : HeaderRead → P.PictureHeader

@@ -2,7 +2,7 @@
 use Rattle.std.specs.Prelude.{Bool, true, false, not, ◌&&◌, ◌||◌, List, ℕ, ◌-◌, eqb, leb, ℤ, pos, nat_abs}
 use Rattle.std.specs.Int.Signed.{le_z}
 use Rattle.laws.specs.Loops.{Step, continue, finish}
-use Rattle.bits.specs.Programs.{Prog, done, bind, bits, next_start_code, eq_z, loop, stream_fuel, ◌>>=◌, ◌>>◌, if◌then◌else◌}
+use Rattle.bits.specs.Programs.{Prog, done, bind, bits, next_start_code, eq_z, loop, stream_fuel, ◌>>=◌, ◌>>◌, when◌then◌else◌}
 use Rattle.picture_state.specs.declared.types.{Context.Context, Motion.Motion, Stores.Stores, Sizes.Sizes, Matrices.Matrices, Picture.Picture}
 use Rattle.picture_state.specs.State.{SliceState, slice_state, with_full_px, with_rsize, with_motions, with_start_code, with_picture_type, with_stores, with_picture_slice}
 use Rattle.picture_state.specs.Result.{Result, ok, error, bind_result, pure}
@@ -42,7 +42,7 @@ has_zero_fcode (present full f) = eqb f 0
 
 -- RULES 7.1: one bit and three, if the header has them
 unfoldable pub direction : Bool → Prog Direction
-direction here = if here then (do full ← bits 1; f ← bits 3; done (present (not (eqb full 0)) f)) else done absent
+direction here = when here then (do full ← bits 1; f ← bits 3; done (present (not (eqb full 0)) f)) else done absent
 
 -- RULES 7.1, 8.4: a P or B header has the forward direction, and a B header then the backward one, unless the forward f code is 0. The Rust passes the first
 -- and the last of the three numbers over: a read in the place of a skip ends at the same place on a cut stream, too, as both are refused together and stay
@@ -62,7 +62,7 @@ is_decoded h = leb 1 h.picture_coding_type && leb h.picture_coding_type 3 && not
 -- RULES 7.1, 5.1, 8.4: flag and r of a motion; a direction that the header does not have leaves both as they were, and an f code of 0 leaves r
 abbrev pub motion_by : Direction → Motion → Motion
 motion_by absent m = m
-motion_by (present full f) m = if eqb f 0 then with_full_px full m else with_rsize (f - 1) (with_full_px full m)
+motion_by (present full f) m = when eqb f 0 then with_full_px full m else with_rsize (f - 1) (with_full_px full m)
 
 -- RULES 7.1: what a header sets in the picture p
 abbrev pub with_picture_header : PictureHeader → Picture → Picture
@@ -96,7 +96,7 @@ unfoldable pub after_slice : Context → Picture → Result Stop SliceState → 
 after_slice g p (error e) = done (finish (error e))
 after_slice g p (ok w) =
     let f = picture_state (with_picture_slice w.slice p) w.block_data w.store in
-    if is_last g w then done (finish (ok f)) else done (continue (slices_loop_state true f))
+    when is_last g w then done (finish (ok f)) else done (continue (slices_loop_state true f))
 
 -- RULES 7.3: the next start code; what is neither passed over nor a slice ends the picture and is kept
 unfoldable pub slices_step : Context → Matrices → SlicesLoopState → Prog (Step SlicesLoopState (Result Stop PictureState))
@@ -104,8 +104,8 @@ slices_step g m x = do
   c ← next_start_code
   let p = with_start_code c x.picture_state.picture
   let f = with_picture p x.picture_state
-  if is_slice c then bind (slice g m (nat_abs c) (slice_state p.slice f.block_data f.store)) (after_slice g p)
-      else if is_extra c && not x.begun then done (continue (slices_loop_state false f)) else done (finish (ok f))
+  when is_slice c then bind (slice g m (nat_abs c) (slice_state p.slice f.block_data f.store)) (after_slice g p)
+      else when is_extra c && not x.begun then done (continue (slices_loop_state false f)) else done (finish (ok f))
 
 -- RULES 7.3, 7.4: the slices of a picture, none of them read so far
 unfoldable pub slices : Context → Matrices → PictureState → Prog (Result Stop PictureState)
@@ -122,7 +122,7 @@ roles_after_reading t = record { cur = t.fwd; fwd = t.bwd; bwd = t.cur }
 unfoldable pub slices_in_roles : Sizes → Matrices → PictureState → Prog (Result Stop PictureState)
 slices_in_roles z m f =
     let p = f.picture in
-    if eqb p.picture_type 3 then slices (context_of z p) m f
+    when eqb p.picture_type 3 then slices (context_of z p) m f
     else let q = with_stores (roles_while_reading p.stores) p in
     bind_result (slices (context_of z q) m (with_picture q f)) λ f₁. pure (with_picture (with_stores (roles_after_reading p.stores) f₁.picture) f₁)
 
@@ -131,4 +131,4 @@ unfoldable pub picture : Sizes → Matrices → PictureState → Prog (Result St
 picture z m f = do
   h ← picture_header
   let x = with_picture (with_picture_header h f.picture) f
-  if is_decoded h then slices_in_roles z m x else pure x
+  when is_decoded h then slices_in_roles z m x else pure x

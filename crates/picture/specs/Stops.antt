@@ -1,7 +1,7 @@
 -- RULES Q8, Q9: where a picture ends a call: the first value outside that its reading comes to.
 use Rattle.std.specs.Prelude.{◌≡◌, true, false, List, ℕ, suc, eqb, ℤ, nat_abs}
 use Rattle.laws.specs.Loops.{continue}
-use Rattle.bits.specs.Programs.{RunResult, run, next_start_code, stream_fuel, if◌then◌else◌}
+use Rattle.bits.specs.Programs.{RunResult, run, next_start_code, stream_fuel, when◌then◌else◌}
 use Rattle.picture_state.specs.declared.types.{Context.Context, Matrices.Matrices, Picture.Picture, Sizes.Sizes}
 use Rattle.picture_state.specs.State.{SliceState, slice_state, with_stores}
 use Rattle.picture_state.specs.Stop.{Stop}
@@ -31,7 +31,7 @@ header_at s a = run picture_header s a
 abbrev pub picture_read : PictureState → List ℕ → ℕ → Picture
 picture_read f s a =
     let p = with_picture_header (header_at s a).value f.picture in with_stores
-    (if eqb p.picture_type 3 then p.stores else roles_while_reading p.stores) p
+    (when eqb p.picture_type 3 then p.stores else roles_while_reading p.stores) p
 
 -- RULES 7.1 to 7.4, 8.4: the picture is decoded, and one of its slices stops
 pub record PictureStop (z : Sizes) (m : Matrices) (f : PictureState) (s : List ℕ) (a : ℕ) (e : Stop) : Type 0 where

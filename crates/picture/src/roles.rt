@@ -1,6 +1,6 @@
 // RULES 7.2: the slices of a picture, with the turn of the stores.
 ghost use Rattle.std.specs.Prelude.{◌≡◌, ℕ, ◌≤◌, ◌<◌, eqb, nat_abs, length, get_or};
-ghost use Rattle.bits.specs.Programs.{if◌then◌else◌};
+ghost use Rattle.bits.specs.Programs.{when◌then◌else◌};
 ghost use Rattle.bits.specs.Runs.{ReaderInBounds};
 ghost use Rattle.codes.specs.Matrices.{Bounded};
 ghost use Rattle.picture_state.specs.Possible.{PossiblePicture};
@@ -23,8 +23,8 @@ struct Roles {
 
 // They turn unless it is a B picture.
 fn roles_of(picture_type: u32, t: Stores) -> Roles
-    ensures during_value { result.during ≡ (if eqb picture_type 3 then t else roles_while_reading t) }
-    ensures afterwards_value { result.afterwards ≡ (if eqb picture_type 3 then t else roles_after_reading t) }
+    ensures during_value { result.during ≡ (when eqb picture_type 3 then t else roles_while_reading t) }
+    ensures afterwards_value { result.afterwards ≡ (when eqb picture_type 3 then t else roles_after_reading t) }
 {
     if picture_type == 3 {
         return Roles {

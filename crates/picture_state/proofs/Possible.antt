@@ -4,7 +4,7 @@ use mathlib.Core.Bool.{true}
 use mathlib.Core.List.{[], ◌∷◌}
 use Prim.Native.Nat.{ℕ, ◌+◌, ◌≤◌}
 use native.Mathlib.Omega.{arith}
-use borrow.Author.Tests.{leb-true, eqb-false, le-leb, ne_eqb, not_true}
+use borrow.Author.Tests.{leb-true, eqb-false, le-leb, ne_eqb, not-true}
 use lib.IntN.{ℤ, pos, neg_ℤ}
 use lib.Signed.{le_z}
 use Rattle.laws.proofs.Each.{all-at, all-by}
@@ -41,9 +41,9 @@ stores-of t e =
       cur = leb-true _ _ (h 0);
       fwd = leb-true _ _ (h 1);
       bwd = leb-true _ _ (h 2);
-      cur-fwd = eqb-false _ _ (not_true _ (h 3));
-      cur-bwd = eqb-false _ _ (not_true _ (h 4));
-      fwd-bwd = eqb-false _ _ (not_true _ (h 5));
+      cur-fwd = eqb-false _ _ (not-true _ (h 3));
+      cur-bwd = eqb-false _ _ (not-true _ (h 4));
+      fwd-bwd = eqb-false _ _ (not-true _ (h 5));
     }
 
 pub stores-by : {t : Stores} → PossibleStores t → possible_stores t ≡ true

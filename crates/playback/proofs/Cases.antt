@@ -4,7 +4,7 @@ use mathlib.Core.Bool.{Bool, true, false, cond, not, true≢false}
 use mathlib.Core.List.{List}
 use Prim.Native.Nat.{ℕ}
 use lib.IntN.{negsuc}
-use borrow.Author.Tests.{not_true}
+use borrow.Author.Tests.{not-true}
 use Rattle.laws.specs.Loops.{Step, continue, finish}
 use Rattle.laws.proofs.Tests.{both}
 use Rattle.bits.specs.Programs.{eq_z}
@@ -97,7 +97,7 @@ module _ (s : List ℕ) (z : Sizes) (m : Matrices) (x : DecodingState) (w : Stat
     unfolding picture_step searched decoded after_picture
     read_is =
         let k = both (not (eq_z (start_code w) (negsuc 0))) (is_followed s (position w)) i in
-        rw (n, not_true (eq_z (start_code w) (negsuc 0)) k.0, k.1, r)
+        rw (n, not-true (eq_z (start_code w) (negsuc 0)) k.0, k.1, r)
 
     pub step-b : is_b f ≡ true → picture_step s z m x ≡ finish (finished (Picture (shown_picture f.picture.stores.cur after)) (state_left_by f after))
     unfolding shown output_picture

@@ -1,7 +1,7 @@
 -- For RULES R.1, R.2: where a search for a start code ends. One that finds it has a byte behind it; one that has found nothing finds nothing again,
 -- at the same place (RULES 1.10).
 use mathlib.Core.Path.{◌≡◌, refl, sym, ap, ◌∙◌}
-use mathlib.Core.Bool.{Bool, true, false, cond, ◌||◌, or_true, true≢false, false≢true}
+use mathlib.Core.Bool.{Bool, true, false, cond, ◌||◌, or-true, true≢false, false≢true}
 use mathlib.Core.List.{List}
 use Prim.Native.Nat.{ℕ, zero, suc, ◌+◌, ◌-◌, ◌*◌, ◌≤◌, ◌<◌}
 use native.Mathlib.Omega.{arith}
@@ -90,7 +90,7 @@ sought-from c s (suc n) a h = go (found s a).code (found s a).at (code-ahead s a
         → Sought c s a
         (run (bind (cond (eq_z k c || eq_z k (negsuc 0)) (done (finish k)) (done (continue tt))) (continue_with (loop n (find_step c) (negsuc 0)))) s e)
     go (pos v) e p q x r = test (pos v) e (p refl) r (eq_z (pos v) c || false) (λ t. eq_z-is (pos v) c (or_false (eq_z (pos v) c) t))
-    go (negsuc zero) e p q x r = rw (or_true (eq_z (negsuc 0) c)) (miss refl (q refl))
+    go (negsuc zero) e p q x r = rw (or-true (eq_z (negsuc 0) c)) (miss refl (q refl))
     go (negsuc (suc v)) e p q x r = let z : suc (suc v) ≡ 1 = ap nat_abs (x refl) in let no : ⊥ = omega arith in absurd no
 
 pub sought : (c : ℤ) (s : List ℕ) (a : ℕ) → length s ≤ longest_stream → Sought c s a (run (find_start_code c) s a)
@@ -99,4 +99,4 @@ sought c s a h = sought-from c s stream_fuel a (omega arith)
 
 -- a search from where nothing is found
 pub still_barren : (c : ℤ) (s : List ℕ) (e : ℕ) → Barren s e → RunsAt (find_start_code c) s e (negsuc 0) e
-still_barren c s e h = at_find c h (or_true (eq_z (negsuc 0) c))
+still_barren c s e h = at_find c h (or-true (eq_z (negsuc 0) c))

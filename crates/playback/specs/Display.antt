@@ -3,7 +3,7 @@ use Rattle.std.specs.Prelude.{Bool, true, false, ◌&&◌, ◌||◌, List, ℕ, 
 use Rattle.std.specs.Float.{binary64}
 use Rattle.std.specs.Float.Ieee.{div, of_int}
 use Rattle.laws.specs.Loops.{Step, continue, finish}
-use Rattle.bits.specs.Programs.{if◌then◌else◌}
+use Rattle.bits.specs.Programs.{when◌then◌else◌}
 use Rattle.playback.specs.declared.outcome.Outcome.{Outcome}
 use Rattle.playback.specs.declared.outcome.Outcome.TheVariants.{Picture, Refused}
 use Rattle.playback.specs.declared.state.State.{State}
@@ -40,8 +40,8 @@ output_picture k x = outcome_state (Picture (shown_picture k (counted x))) (coun
 -- RULES 8.5: after a picture, decoded or not
 unfoldable pub shown : State → Step State OutcomeState
 shown x =
-    if eqb x.picture.picture_type 3 then finish (output_picture x.picture.stores.cur x)
-    else if has_reference_frame x then finish (output_picture x.picture.stores.fwd x)
+    when eqb x.picture.picture_type 3 then finish (output_picture x.picture.stores.cur x)
+    else when has_reference_frame x then finish (output_picture x.picture.stores.fwd x)
     else continue (has_reference_frame_as true x)
 
 -- RULES 8.8: the last type is I or P
@@ -55,5 +55,5 @@ is_waiting s x = has_reference_frame x && has_ended s (position x) && is_referen
 -- RULES 8.8, 8.11: no picture is found: the held one is flushed, with the time shown before, or the answer is 7
 unfoldable pub flushed : List ℕ → State → OutcomeState
 flushed s x =
-    if is_waiting s x then outcome_state (Picture (shown_picture x.picture.stores.bwd (has_reference_frame_as false x))) (has_reference_frame_as false x)
+    when is_waiting s x then outcome_state (Picture (shown_picture x.picture.stores.bwd (has_reference_frame_as false x))) (has_reference_frame_as false x)
     else outcome_state (Refused 7) x

@@ -1,13 +1,13 @@
 -- RULES Q3, 8.2, 8.3: the searches for a start code, of a sequence or of a picture.
 use Rattle.std.specs.Prelude.{Bool, not, ◌||◌, List, ℕ, ◌*◌, leb, ℤ, pos, negsuc, length}
-use Rattle.bits.specs.Programs.{run, eq_z, find_start_code, if◌then◌else◌}
+use Rattle.bits.specs.Programs.{run, eq_z, find_start_code, when◌then◌else◌}
 use Rattle.playback.specs.declared.state.State.{State}
 use Rattle.playback.specs.State.{position, start_code, with_search_result}
 
 -- RULES Q3, 8.2: the start code c is searched, unless the state has it already
 unfoldable pub ensure_start_code : ℤ → List ℕ → State → State
 ensure_start_code c s x =
-    if eq_z (start_code x) c then x
+    when eq_z (start_code x) c then x
     else let o = run (find_start_code c) s (position x) in with_search_result o.value o.at x
 
 -- RULES 8.2: the next picture

@@ -1,7 +1,7 @@
 -- RULES 8.2 to 8.8: one turn of the loop in `decode`, and the loop.
 use Rattle.std.specs.Prelude.{List, ℕ, ℤ, negsuc}
 use Rattle.laws.specs.Loops.{Step, continue, finish, iterate}
-use Rattle.bits.specs.Programs.{RunResult, run, eq_z, if◌then◌else◌}
+use Rattle.bits.specs.Programs.{RunResult, run, eq_z, when◌then◌else◌}
 use Rattle.picture_state.specs.declared.types.{Matrices.Matrices, Sizes.Sizes}
 use Rattle.picture_state.specs.Result.{Result, ok, error}
 use Rattle.picture_state.specs.Stop.{Stop, error_code}
@@ -58,8 +58,8 @@ decoded s z m x = after_picture x.state (picture_run s z m x)
 -- behind the search
 unfoldable pub searched : List ℕ → Sizes → Matrices → DecodingState → Step DecodingState LoopEnd
 searched s z m x =
-    if eq_z (start_code x.state) (negsuc 0) then with_store x.block_data x.store (finish (flushed s x.state))
-    else if is_followed s (position x.state) then decoded s z m x else finish (finished (Refused 7) x)
+    when eq_z (start_code x.state) (negsuc 0) then with_store x.block_data x.store (finish (flushed s x.state))
+    else when is_followed s (position x.state) then decoded s z m x else finish (finished (Refused 7) x)
 
 -- the search, of a turn
 abbrev pub after_picture_search : List ℕ → DecodingState → DecodingState

@@ -82,4 +82,5 @@ predicted-at {p} q s d h v interpolate from k fit =
     (λ y x. stored_sample interpolate (get_or d (address p + y * width p + x) 0) (sample s (width p) (odd h) (odd v) (from + y * width p + x))) k 0
     (omega (arith, size-from q)) (omega (arith, column_in q)) (omega (arith, block_in q))
     ∙ old-at d (address p) (width p) p.size k
-    (λ n. stored_sample interpolate n (sample s (width p) (odd h) (odd v) (from + row_of (address p) (width p) k * width p + column_of (address p) (width p) k)))
+    (λ n. stored_sample interpolate n
+    (sample s (width p) (odd h) (odd v) (from + row_of (address p) (width p) k * width p + column_of (address p) (width p) k)))

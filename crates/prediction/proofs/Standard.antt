@@ -154,7 +154,8 @@ module _ {p : BlockPosition} (k : BlockInPlane p) (h v : ℤ) (i : InPicture p h
             cond t (cond u (pel_past s (width p) c d) (rounded_div (pel_past s (width p) c d + pel_past s (width p) (c +ℤ pos 1) d) 2))
             (cond u (rounded_div (pel_past s (width p) c d + pel_past s (width p) c (d +ℤ pos 1)) 2)
             (rounded_div
-            (pel_past s (width p) c d + pel_past s (width p) (c +ℤ pos 1) d + pel_past s (width p) c (d +ℤ pos 1) + pel_past s (width p) (c +ℤ pos 1) (d +ℤ pos 1))
+            (pel_past s (width p) c d + pel_past s (width p) (c +ℤ pos 1) d + pel_past s (width p) c (d +ℤ pos 1)
+            + pel_past s (width p) (c +ℤ pos 1) (d +ℤ pos 1))
             4))
 
     module _ (d : List ℕ) (fit : bytes p ≤ length d) (ry : y < p.size) (rx : x < p.size) where

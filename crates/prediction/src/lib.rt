@@ -1,5 +1,6 @@
 // Prediction, and the writers of blocks.
 #![tactic(auto)]
+
 pub mod apart;
 pub mod planes;
 pub mod position;

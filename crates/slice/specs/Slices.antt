@@ -2,7 +2,7 @@
 use Rattle.std.specs.Prelude.{Bool, true, false, ℕ, ◌-◌, ◌*◌, eqb, pos, ◌+ℤ◌, ◌-ℤ◌, replicate}
 use Rattle.std.specs.Int.Signed.{le_z}
 use Rattle.laws.specs.Loops.{Step, continue, finish}
-use Rattle.bits.specs.Programs.{Prog, done, bind, bits, skips, non_zero, loop, stream_fuel, ◌>>=◌, ◌>>◌, if◌then◌else◌}
+use Rattle.bits.specs.Programs.{Prog, done, bind, bits, skips, non_zero, loop, stream_fuel, ◌>>=◌, ◌>>◌, when◌then◌else◌}
 use Rattle.picture_state.specs.declared.types.{Context.Context, Matrices.Matrices, Slice.Slice}
 use Rattle.picture_state.specs.State.{SliceState, with_slice, zeroed}
 use Rattle.picture_state.specs.Result.{Result, ok, error}
@@ -13,7 +13,7 @@ use Rattle.macroblock.specs.Macroblocks.{macroblock}
 unfoldable pub extra_step : Unit {0} → Prog (Step (Unit {0}) (Unit {0}))
 extra_step x = do
   b ← bits 1
-  if eqb b 0 then done (finish tt) else do
+  when eqb b 0 then done (finish tt) else do
     skips 8
     done (continue tt)
 
@@ -37,10 +37,10 @@ slice_loop_state first w = record { first = first; slice_state = w }
 unfoldable pub after_macroblock : Context → Result Stop SliceState → Prog (Step SliceLoopState (Result Stop SliceState))
 after_macroblock g (error e) = done (finish (error e))
 after_macroblock g (ok w) =
-    if is_last g w then done (finish (ok w))
+    when is_last g w then done (finish (ok w))
     else do
       more ← non_zero 23
-      if more then done (continue (slice_loop_state false w)) else done (finish (ok w))
+      when more then done (continue (slice_loop_state false w)) else done (finish (ok w))
 
 -- RULES 7.6: one macroblock, and whether another follows
 unfoldable pub slice_step : Context → Matrices → SliceLoopState → Prog (Step SliceLoopState (Result Stop SliceState))

@@ -7,9 +7,9 @@ use Rattle.code_lookup.proofs.Arms.{rest}
 use Rattle.code_lookup.proofs.lookup_dct_coeff.Statement.{statement}
 use Rattle.code_lookup.proofs.lookup_dct_coeff.Tie as tie
 
-pub lookup-dct-coeff-spec : {M : Type 1} → statement M
+pub lookup_dct_coeff_spec : {M : Type 1} → statement M
 unfolding all_below dct_coeff_lookup
-lookup-dct-coeff-spec =
+lookup_dct_coeff_spec =
     tie.close
     (tie.spec
     (λ c. cc) (λ c. cc) (λ c. cc) (λ c. cc) (λ c. cc) (λ c. cc) (λ c. cc) (λ c. cc) (λ c. cc) (λ c. cc) (λ c. cc) (λ c. cc) (λ c. cc) (λ c. cc) (λ c. cc)
@@ -21,4 +21,4 @@ lookup-dct-coeff-spec =
     (λ c. cc) (λ c. cc) (λ c. cc) (λ c. cc) (λ c. cc) (λ c. cc) (λ c. cc) (λ c. cc) (λ c. cc) (λ c. cc) (λ c. cc) (λ c. cc) (λ c. cc) (λ c. cc) (λ c. cc)
     (λ c. cc) (λ c. cc) (λ c. cc) (λ c. cc) (λ c. cc) (λ c. cc) (λ c. cc) (λ c. cc) (λ c. cc) (λ c. cc) (λ c. cc) (λ c. cc) (λ c. cc) (λ c. cc) (λ c. cc)
     (λ c. cc) (λ c. cc) (λ c. cc) (λ c. cc) (λ c. cc) (λ c. cc) (λ c. cc) (λ c. cc)
-    (λ c. rest 128 256 17 (λ x. get_or dct_coeff_lookup x 0) refl c.match.rest c.before.requires))
+    (λ c. rest 128 256 17 (λ x. get_or dct_coeff_lookup x 0) refl c.in_default.in_default-own.rest c.before.requires))

@@ -7,9 +7,9 @@ use Rattle.code_lookup.proofs.Arms.{rest}
 use Rattle.code_lookup.proofs.lookup_macroblock_address_increment.Statement.{statement}
 use Rattle.code_lookup.proofs.lookup_macroblock_address_increment.Tie as tie
 
-pub lookup-macroblock-address-increment-spec : {M : Type 1} → statement M
+pub lookup_macroblock_address_increment_spec : {M : Type 1} → statement M
 unfolding all_below macroblock_address_increment_lookup
-lookup-macroblock-address-increment-spec =
+lookup_macroblock_address_increment_spec =
     tie.close
     (tie.spec
     (λ c. cc) (λ c. cc) (λ c. cc) (λ c. cc) (λ c. cc) (λ c. cc) (λ c. cc) (λ c. cc) (λ c. cc) (λ c. cc) (λ c. cc) (λ c. cc) (λ c. cc) (λ c. cc) (λ c. cc)
@@ -21,4 +21,4 @@ lookup-macroblock-address-increment-spec =
     (λ c. cc) (λ c. cc) (λ c. cc) (λ c. cc) (λ c. cc) (λ c. cc) (λ c. cc) (λ c. cc) (λ c. cc) (λ c. cc) (λ c. cc) (λ c. cc) (λ c. cc) (λ c. cc) (λ c. cc)
     (λ c. cc) (λ c. cc) (λ c. cc) (λ c. cc) (λ c. cc) (λ c. cc) (λ c. cc) (λ c. cc) (λ c. cc) (λ c. cc) (λ c. cc) (λ c. cc) (λ c. cc) (λ c. cc) (λ c. cc)
     (λ c. cc) (λ c. cc) (λ c. cc) (λ c. cc) (λ c. cc) (λ c. cc) (λ c. cc) (λ c. cc)
-    (λ c. rest 128 256 17 (λ x. get_or macroblock_address_increment_lookup x 0) refl c.match.rest c.before.requires))
+    (λ c. rest 128 256 17 (λ x. get_or macroblock_address_increment_lookup x 0) refl c.in_default.in_default-own.rest c.before.requires))

@@ -15,22 +15,22 @@ use Rattle.laws.proofs.clamp_u8.Tie as tie
 abbrev z : tie.Start → ℤ
 z s = reread w32 s.args.n
 
-low-is : (c : tie.Joined1) → to_z w32 c.if1.low ≡ pos (up (z c.before))
+low-is : (c : tie.Joined-n-lt0) → to_z w32 c.if-n-lt0.low-bits ≡ pos (up (z c.before))
 low-is c =
-    ⊎_elim (λ w. ap (to_z w32) w.1 ∙ floor-yes (z c.before) w.0.taken) (λ w. ap (to_z w32) w.1 ∙ floor-no (z c.before) w.0.left)
-    c.if1.branch
+    ⊎_elim (λ w. ap (to_z w32) w.low-is-bits ∙ floor-yes (z c.before) w.if-n-lt0.true)
+    (λ w. ap (to_z w32) w.low-is-bits ∙ floor-no (z c.before) w.if-n-lt0.false) c.if-n-lt0.branch-raw
 
-within-is : (c : tie.Joined2) → to_z w32 c.if2.within ≡ pos (clamp255 (z c.before.before))
+within-is : (c : tie.Joined-low-gt255) → to_z w32 c.if-low-gt255.within-bits ≡ pos (clamp255 (z c.before.before))
 within-is c =
     let s = c.before.before in
-    ⊎_elim (λ w. ap (to_z w32) w.1 ∙ clamp-yes (z s) (low-is c.before) w.0.taken)
-    (λ w. ap (to_z w32) w.1 ∙ clamp-no (z s) (low-is c.before) w.0.left) c.if2.branch
+    ⊎_elim (λ w. ap (to_z w32) w.within-is-bits ∙ clamp-yes (z s) (low-is c.before) w.if-low-gt255.true)
+    (λ w. ap (to_z w32) w.within-is-bits ∙ clamp-no (z s) (low-is c.before) w.if-low-gt255.false) c.if-low-gt255.branch-raw
 
-cast-result : tie.Need-overflow-cast-result
+cast-result : tie.Need-overflow_cast-result
 cast-result c = clamp_cast (z c.before.before) (within-is c)
 
 returns : tie.Need-returns
 returns c = ap nat_abs (within-is c) ∙ ap clamp255 (to_z-of_z c.before.before.ranges.n)
 
-pub clamp-u8-spec : {M : Type 1} → statement M
-clamp-u8-spec = tie.close (tie.spec cast-result returns)
+pub clamp_u8_spec : {M : Type 1} → statement M
+clamp_u8_spec = tie.close (tie.spec cast-result returns)

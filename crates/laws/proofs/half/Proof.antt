@@ -6,7 +6,7 @@ use Rattle.laws.proofs.Bytes.{quot_fits, half_is}
 use Rattle.laws.proofs.half.Statement.{statement}
 use Rattle.laws.proofs.half.Tie as tie
 
-div-result : tie.Need-nonzero-div-result
+div-result : tie.Need-nonzero_div-result
 div-result c = (omega arith, rw (to_z-of_z c.ranges.n) (quot_fits 2 c.ranges.n))
 
 returns : tie.Need-returns

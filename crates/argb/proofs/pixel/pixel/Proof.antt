@@ -39,25 +39,25 @@ abbrev ρ : tie.Start → List (Input w32)
 ρ c = natural w32 c.args.y 255 (omega arith) ∷ natural w32 c.args.cr 255 (omega arith) ∷ natural w32 c.args.cb 255 (omega arith) ∷ []
 
 -- each clamp gives the byte of the rule
-red-is : (c : tie.After-clamp-u8) → let a = c.before.args in c.clamp-u8.result ≡ red a.y a.cr
+red-is : (c : tie.After-clamp_u8-rr) → let a = c.before.args in c.clamp_u8-rr.result ≡ red a.y a.cr
 unfolding red luma
-red-is c = c.clamp-u8.ensures ∙ (λ i. clamp255 (value (ρ c.before) r tt i))
+red-is c = c.clamp_u8-rr.ensures ∙ (λ i. clamp255 (value (ρ c.before) r tt i))
 
-green-is : (c : tie.After-clamp-u82) → let a = c.before.before.args in c.clamp-u82.result ≡ green a.y a.cr a.cb
+green-is : (c : tie.After-clamp_u8-gg) → let a = c.before.before.args in c.clamp_u8-gg.result ≡ green a.y a.cr a.cb
 unfolding green luma
-green-is c = c.clamp-u82.ensures ∙ (λ i. clamp255 (value (ρ c.before.before) g tt i))
+green-is c = c.clamp_u8-gg.ensures ∙ (λ i. clamp255 (value (ρ c.before.before) g tt i))
 
-blue-is : (c : tie.After-clamp-u83) → let a = c.before.before.before.args in c.clamp-u83.result ≡ blue a.y a.cb
+blue-is : (c : tie.After-clamp_u8-bb) → let a = c.before.before.before.args in c.clamp_u8-bb.result ≡ blue a.y a.cb
 unfolding blue luma
-blue-is c = c.clamp-u83.ensures ∙ (λ i. clamp255 (value (ρ c.before.before.before) b tt i))
+blue-is c = c.clamp_u8-bb.ensures ∙ (λ i. clamp255 (value (ρ c.before.before.before) b tt i))
 
 returns : tie.Need-returns
 unfolding argb
 returns c = omega (arith, red-is c.before.before, green-is c.before, blue-is c)
 
 -- no step leaves the width: `need` of its expression
-pub pixel-spec : {M : Type 1} → statement M
-pixel-spec =
+pub pixel_spec : {M : Type 1} → statement M
+pixel_spec =
     tie.close
     (tie.spec (λ c. search rules) (λ c. need (ρ c) cr128 tt) (λ c. search rules) (λ c. need (ρ c) cb128 tt) (λ c. search rules)
     (λ c. need (ρ c) y16 tt) (λ c. need (ρ c) (y16 ×̇ cst 76309) tt) (λ c. need (ρ c) (cr128 ×̇ cst 104597) tt) (λ c. need (ρ c) r tt)

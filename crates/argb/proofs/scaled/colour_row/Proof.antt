@@ -10,19 +10,19 @@ use Rattle.argb.proofs.scaled.colour_row.Statement.{statement}
 use Rattle.argb.proofs.scaled.colour_row.Tie as tie
 
 -- the pixel of a sample does not depend on the size that is shown
-abbrev invariant-loop : tie.invariant-loop
+abbrev invariant-loop : tie.invariant-loop-k
 invariant-loop y cr cb sy row₀ luma-width pairs y-row c-row k₀ row k =
     Stored row₀ 0 (λ x. sample_pixel (picture 0 0 luma-width y cr cb) x sy) luma-width row (2 * k)
 
-abbrev decreases-loop : tie.decreases-loop
+abbrev decreases-loop : tie.decreases-loop-k
 decreases-loop y cr cb sy row₀ luma-width pairs y-row c-row k₀ row k = pairs - k
 
 -- where the function began, from the head of the loop
-abbrev start : tie.At-loop invariant-loop decreases-loop → tie.Start invariant-loop decreases-loop
+abbrev start : tie.At-loop-k invariant-loop decreases-loop → tie.Start invariant-loop decreases-loop
 start l = l.before.before.before.before
 
 -- a turn, at the pair k
-module _ (t : tie.In-loop invariant-loop decreases-loop) where
+module _ (t : tie.In-loop-k invariant-loop decreases-loop) where
   abbrev s : tie.Start invariant-loop decreases-loop
   s = start t.before
 
@@ -33,44 +33,44 @@ module _ (t : tie.In-loop invariant-loop decreases-loop) where
   p0 = let a = s.args in picture 0 0 a.size.luma_width a.y.now a.cr.now a.cb.now
 
   abbrev k : ℕ
-  k = t.before.loop.k
+  k = t.before.loop-k.k
 
   one : Inside p (2 * k) s.args.sy
-  one = sample-inside s.pre.0 (2 * k) s.args.sy (omega arith) s.pre.1
+  one = sample-inside s.requires.0 (2 * k) s.args.sy (omega arith) s.requires.1
 
   two : Inside p (2 * k + 1) s.args.sy
-  two = sample-inside s.pre.0 (2 * k + 1) s.args.sy (omega arith) s.pre.1
+  two = sample-inside s.requires.0 (2 * k + 1) s.args.sy (omega arith) s.requires.1
 
-mul-y-row : tie.Need-overflow-mul-y-row invariant-loop decreases-loop
+mul-y-row : tie.Need-overflow_mul-y_row invariant-loop decreases-loop
 mul-y-row c =
     let a = c.before.before.before.args in
     omega (arith, product-most a.sy a.size.luma_width (omega arith) (omega arith))
 
-mul-c-row : tie.Need-overflow-mul-c-row invariant-loop decreases-loop
+mul-c-row : tie.Need-overflow_mul-c_row invariant-loop decreases-loop
 mul-c-row c =
     let a = c.before.before.before.args in
     omega (arith, product-most (a.sy / 2) (a.size.luma_width / 2) (omega arith) (omega arith))
 
-loop-again : tie.Need-loop-preserved invariant-loop decreases-loop
+loop-again : tie.Need-loop-k-preserved invariant-loop decreases-loop
 loop-again c =
-    let b = c.before.before in
+    let b = c.before.before.before in
     let t = b.before.before.before.before in
     let a = (s t).args in
-    pair-on (k t) t.before.loop.invariant (omega arith) (b.pixel.ensures ∙ at_pair (p0 t) a.sy (2 * k t) (k t) (omega arith))
-    (c.pixel2.ensures ∙ at_pair (p0 t) a.sy (2 * k t + 1) (k t) (omega arith))
+    pair-on (k t) t.before.loop-k.invariant (omega arith) (b.pixel.ensures ∙ at_pair (p0 t) a.sy (2 * k t) (k t) (omega arith))
+    (c.pixel-in-loop-k.ensures ∙ at_pair (p0 t) a.sy (2 * k t + 1) (k t) (omega arith))
 
 returns : tie.Need-returns invariant-loop decreases-loop
 unfolding sample_pixel
-returns c = all-stored c.before.loop.invariant (omega (arith, c.loop-test.false, (start c.before).pre.0.even))
+returns c = all-stored c.before.loop-k.invariant (omega (arith, c.loop-k-test.false, (start c.before).requires.0.even))
 
-pub colour-row-spec : {M : Type 1} → statement M
-colour-row-spec =
+pub colour_row_spec : {M : Type 1} → statement M
+colour_row_spec =
     tie.close
     (tie.spec invariant-loop decreases-loop mul-y-row mul-c-row (λ c. none-stored)
     (λ c. omega (arith, one c)) (λ c. omega (arith, one c.before)) (λ c. omega (arith, one c.before)) (λ c. omega (arith, one c.before.before))
     (λ c. omega arith) (λ c. omega (arith, one c.before.before)) (λ c. omega (arith, one c.before.before.before)) (λ c κs. tt)
     (λ c. omega arith) (λ c. omega arith) (λ c. omega arith)
-    (λ c. omega arith) (λ c. omega arith) (λ c. omega (arith, two c.before.before.before.before))
-    (λ c. omega (arith, two c.before.before.before.before.before)) (λ c κs. tt)
+    (λ c. omega arith) (λ c. omega arith) (λ c. omega (arith, two c.before.before.before.before.before))
+    (λ c. omega (arith, two c.before.before.before.before.before.before)) (λ c κs. tt)
     (λ c. omega arith) (λ c. omega arith) (λ c. omega arith) (λ c. omega arith) (λ c. omega arith) (λ c. omega arith)
     loop-again returns)

@@ -5,8 +5,8 @@ use borrow.Author.Rules.{rules}
 use Rattle.bits.proofs.reader.byte_or_0.Statement.{statement}
 use Rattle.bits.proofs.reader.byte_or_0.Tie as tie
 
-returns-2 : tie.Need-returns-2
-returns-2 c = (sym (get_or-eq_default c.before.before.args.s.now 0 c.if1.false), omega arith)
+returns-2 : tie.Need-returns-else-i-s
+returns-2 c = (sym (get_or-eq_default c.before.before.args.s.now 0 c.if-i-s.false), omega arith)
 
-pub byte-or-0-spec : {M : Type 1} → statement M
-byte-or-0-spec = tie.close (tie.spec (λ c κs. search rules) (λ c. search rules) returns-2)
+pub byte_or_0_spec : {M : Type 1} → statement M
+byte_or_0_spec = tie.close (tie.spec (λ c κs. search rules) (λ c. search rules) returns-2)

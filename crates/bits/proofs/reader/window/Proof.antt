@@ -4,28 +4,28 @@ use Rattle.bits.proofs.reader.window.Statement.{statement}
 use Rattle.bits.proofs.reader.window.Tie as tie
 
 -- the first byte, where five are inside and where some are behind the end
-abbrev first : tie.After-five-bytes → tie.After-byte
+abbrev first : tie.After-five_bytes → tie.After-byte
 first c = c.before.before.before.before.before
 
-abbrev first-or-0 : tie.After-five-bytes2 → tie.After-byte-or-0
+abbrev first-or-0 : tie.After-five_bytes-2 → tie.After-byte_or_0
 first-or-0 c = c.before.before.before.before.before
 
-returns : tie.Need-returns
+returns : tie.Need-returns-then-b-s
 returns c =
     let x = first c in
     let a = x.before.before.before.args in
-    five-bytes a.s.now a.b x.byte.ensures c.before.before.before.before.byte2.ensures c.before.before.before.byte3.ensures
-    c.before.before.byte4.ensures c.before.byte5.ensures c.five-bytes.ensures
+    five-bytes a.s.now a.b x.byte.ensures c.before.before.before.before.byte-then-b-s.ensures c.before.before.before.byte-then-b-s-2.ensures
+    c.before.before.byte-then-b-s-3.ensures c.before.byte-then-b-s-4.ensures c.five_bytes.ensures
 
-returns-2 : tie.Need-returns-2
+returns-2 : tie.Need-returns
 returns-2 c =
     let x = first-or-0 c in
     let a = x.before.before.before.args in
-    five-bytes a.s.now a.b x.byte-or-0.ensures c.before.before.before.before.byte-or-02.ensures
-    c.before.before.before.byte-or-03.ensures c.before.before.byte-or-04.ensures c.before.byte-or-05.ensures c.five-bytes2.ensures
+    five-bytes a.s.now a.b x.byte_or_0.ensures c.before.before.before.before.byte_or_0-2.ensures
+    c.before.before.before.byte_or_0-3.ensures c.before.before.byte_or_0-4.ensures c.before.byte_or_0-5.ensures c.five_bytes-2.ensures
 
-pub window-spec : {M : Type 1} → statement M
-window-spec =
+pub window_spec : {M : Type 1} → statement M
+window_spec =
     tie.close
     (tie.spec (λ c. search rules) (λ c κs. search rules) (λ c. search rules) (λ c κs. search rules) (λ c. search rules)
     (λ c κs. search rules) (λ c. search rules) (λ c κs. search rules) (λ c. search rules) (λ c κs. search rules) (λ c κs. search rules)

@@ -2,11 +2,11 @@ use native.Mathlib.Omega.{arith}
 use Rattle.blocks.proofs.blocks.predictor_of.Statement.{statement}
 use Rattle.blocks.proofs.blocks.predictor_of.Tie as tie
 
-returns : tie.Need-returns
+returns : tie.Need-returns-then-number-lt4
 returns c = omega arith
 
-returns-2 : tie.Need-returns-2
+returns-2 : tie.Need-returns
 returns-2 c = omega arith
 
-pub predictor-of-spec : {M : Type 1} → statement M
-predictor-of-spec = tie.close (tie.spec returns (λ c. omega arith) returns-2)
+pub predictor_of_spec : {M : Type 1} → statement M
+predictor_of_spec = tie.close (tie.spec returns (λ c. omega arith) returns-2)

@@ -6,44 +6,44 @@ use Rattle.blocks.proofs.BlockLoop.{AtBlock, at_first, at_next, at-stop, at-end}
 use Rattle.blocks.proofs.blocks.read_blocks.Statement.{statement}
 use Rattle.blocks.proofs.blocks.read_blocks.Tie as tie
 
-abbrev invariant-loop : tie.invariant-loop
+abbrev invariant-loop : tie.invariant-loop-number
 invariant-loop s store₀ values₀ tables coded from₀ state₀ number₀ store values from state number =
     AtBlock coded tables s from₀ (slice_state state₀ values₀ store₀) from state values store number
 
-abbrev decreases-loop : tie.decreases-loop
+abbrev decreases-loop : tie.decreases-loop-number
 decreases-loop s store₀ values₀ tables coded from₀ state₀ number₀ store values from state number = 6 - number
 
-loop-holds : tie.Need-loop-init invariant-loop decreases-loop
+loop-holds : tie.Need-loop-number-init invariant-loop decreases-loop
 loop-holds c = at_first c.before.before.requires.0
 
-block-of-pattern-requires : tie.Need-block-of-pattern-requires invariant-loop decreases-loop
+block-of-pattern-requires : tie.Need-block_of_pattern-b-requires invariant-loop decreases-loop
 block-of-pattern-requires c κs =
     let t = c.before.before in
-    (t.before.loop.invariant.ready, (t.before.before.before.before.requires.1, omega arith))
+    (t.before.loop-number.invariant.ready, (t.before.before.before.before.requires.1, omega arith))
 
-same_length : tie.Need-same-length invariant-loop decreases-loop
+same_length : tie.Need-shape_of-store-then-stop-ne0 invariant-loop decreases-loop
 same_length c =
     let b = c.before.before.before in
-    omega (arith, b.block-of-pattern.auto.1.1.0, b.before.before.before.before.loop.invariant.long)
+    omega (arith, b.block_of_pattern-b.auto.store, b.before.before.before.before.loop-number.invariant.long)
 
-returns : tie.Need-returns invariant-loop decreases-loop
+returns : tie.Need-returns-then-stop-ne0 invariant-loop decreases-loop
 returns c =
     let b = c.before.before.before in
     let t = b.before.before.before in
-    at-stop t.before.loop.invariant (omega (arith, t.loop-test.true)) b.block-of-pattern.ensures c.if1.true
+    at-stop t.before.loop-number.invariant (omega (arith, t.loop-number-test.true)) b.block_of_pattern-b.ensures c.if-stop-ne0.true
 
-loop-again : tie.Need-loop-preserved invariant-loop decreases-loop
+loop-again : tie.Need-loop-number-preserved invariant-loop decreases-loop
 loop-again c =
     let l = c.before.before in
     let b = l.before.before.before in
     let t = b.before.before.before in
-    at_next t.before.loop.invariant (omega (arith, t.loop-test.true)) b.block-of-pattern.ensures l.if1.false b.block-of-pattern.auto.1.1.0
+    at_next t.before.loop-number.invariant (omega (arith, t.loop-number-test.true)) b.block_of_pattern-b.ensures l.if-stop-ne0.false b.block_of_pattern-b.auto.store
 
-returns-2 : tie.Need-returns-2 invariant-loop decreases-loop
-returns-2 c = let i = c.before.loop.invariant in record { runs = at-end i c.loop-test.false; ready = i.ready }
+returns-2 : tie.Need-returns invariant-loop decreases-loop
+returns-2 c = let i = c.before.loop-number.invariant in record { runs = at-end i c.loop-number-test.false; ready = i.ready }
 
-pub read-blocks-spec : {M : Type 1} → statement M
-read-blocks-spec =
+pub read_blocks_spec : {M : Type 1} → statement M
+read_blocks_spec =
     tie.close
     (tie.spec
     invariant-loop
@@ -55,5 +55,5 @@ read-blocks-spec =
     (λ c. omega arith)
     (λ c. omega arith)
     loop-again
-    (λ c. c.before.loop.invariant.long)
+    (λ c. c.before.loop-number.invariant.long)
     returns-2)

@@ -9,5 +9,5 @@ use Rattle.blocks.proofs.blocks.weight_of.Tie as tie
 returns : tie.Need-returns
 returns c = shl_one w32 (5 - c.args.number) (omega arith)
 
-pub weight-of-spec : {M : Type 1} → statement M
-weight-of-spec = tie.close (tie.spec (λ c. search rules) (λ c. search rules) (λ c. search rules) returns)
+pub weight_of_spec : {M : Type 1} → statement M
+weight_of_spec = tie.close (tie.spec (λ c. search rules) (λ c. search rules) (λ c. search rules) returns)

@@ -14,64 +14,64 @@ use Rattle.blocks.proofs.writes.write_results.Statement.{statement}
 use Rattle.blocks.proofs.writes.write_results.Tie as tie
 
 -- the entry, where the plane is known; where the block's place is known, and the plane from there
-abbrev entry : tie.After-plane-length → tie.Start
+abbrev entry : tie.After-plane_length → tie.Start
 entry c = c.before.before.before.before.before
 
-abbrev placed : tie.After-slice-known2 → tie.After-block-width
+abbrev placed : tie.After-slice_known-2-1 → tie.After-block_width-dw
 placed c = c.before.before.before.before.before
 
-abbrev known : tie.After-slice-known2 → tie.After-plane-length
+abbrev known : tie.After-slice_known-2-1 → tie.After-plane_length
 known c = (placed c).before.before
 
-m-is : (c : tie.After-macroblock-at) → let a = c.before.before.args in
-    c.macroblock-at.result ≡ macroblock_at a.g.sizes.mb_width a.g.sizes.mb_height (nat_abs a.address)
+m-is : (c : tie.After-macroblock_at-m) → let a = c.before.before.args in
+    c.macroblock_at-m.result ≡ macroblock_at a.g.sizes.mb_width a.g.sizes.mb_height (nat_abs a.address)
 m-is c =
     let s = c.before.before in
-    c.macroblock-at.ensures.0
+    c.macroblock_at-m.ensures.0
     ∙ ap (λ (z : ℤ). macroblock_at s.args.g.sizes.mb_width s.args.g.sizes.mb_height (nat_abs z)) (to_z-of_z s.ranges.address)
 
-cast-macroblock-at : tie.Need-overflow-cast-macroblock-at
+cast-macroblock-at : tie.Need-overflow_cast-address
 cast-macroblock-at c =
     let s = c.before in
     rw (to_z-of_z s.ranges.address)
     (s.requires.1.0.natural, record { fits = omega (arith, s.requires.1.0.below, mul-le-mul s.requires.0.across s.requires.0.down) })
 
-plane-start-requires : tie.Need-plane-start-requires
+plane-start-requires : tie.Need-plane_start-start-requires
 plane-start-requires c κs = let s = c.before.before.before in (omega (arith, s.requires.0.stores.cur), size-most s.requires.0)
 
-plane-length-requires : tie.Need-plane-length-requires
+plane-length-requires : tie.Need-plane_length-requires
 plane-length-requires c κs = size-most c.before.before.before.before.requires.0
 
-add-end : tie.Need-overflow-add-end
+add-end : tie.Need-overflow_add-end
 add-end c =
     record {
-      fits = omega (arith, plane-most (entry c).requires.0 c.before.before.plane-of.result c.before.plane-start.ensures c.plane-length.ensures);
+      fits = omega (arith, plane-most (entry c).requires.0 c.before.before.plane_of-plane.result c.before.plane_start-start.ensures c.plane_length.ensures);
     }
 
-part-results-end : tie.Need-slice-bounds-results-end
+part-results-end : tie.Need-slice_bounds-results-end
 part-results-end c =
     let p = c.before.before in
-    omega (arith, plane-most (entry p).requires.0 p.before.before.plane-of.result p.before.plane-start.ensures p.plane-length.ensures)
+    omega (arith, plane-most (entry p).requires.0 p.before.before.plane_of-plane.result p.before.plane_start-start.ensures p.plane_length.ensures)
 
 -- start and length of the plane
-start_is : (c : tie.After-plane-length) → let a = (entry c).args in
-    c.before.plane-start.result ≡ plane_start a.g.stores.cur (plane_of a.number) a.g.sizes.mb_size
-start_is c = rw c.before.before.plane-of.ensures at c.before.plane-start.ensures
+start_is : (c : tie.After-plane_length) → let a = (entry c).args in
+    c.before.plane_start-start.result ≡ plane_start a.g.stores.cur (plane_of a.number) a.g.sizes.mb_size
+start_is c = rw c.before.before.plane_of-plane.ensures at c.before.plane_start-start.ensures
 
-length-is : (c : tie.After-plane-length) → let a = (entry c).args in
-    c.plane-length.result ≡ plane_length (plane_of a.number) a.g.sizes.mb_size
-length-is c = rw c.before.before.plane-of.ensures at c.plane-length.ensures
+length-is : (c : tie.After-plane_length) → let a = (entry c).args in
+    c.plane_length.result ≡ plane_length (plane_of a.number) a.g.sizes.mb_size
+length-is c = rw c.before.before.plane_of-plane.ensures at c.plane_length.ensures
 
 results-requires : tie.Need-results-requires
 results-requires c κs =
     let p = c.before.before.before.before in
     let s = entry p in (
-      c.before.before.block-width.ensures.1,
+      c.before.before.block_width-dw.ensures.1,
       (
-        block_in-part s.pre.0 _ s.args.number (nat_abs s.args.address) (m-is p.before.before.before)
-            (start_is p) (length-is p) c.before.before.block-width.ensures.0
-            c.before.before.before.block-address.ensures.1,
-        s.pre.1.1,
+        block_in-part s.requires.0 _ s.args.number (nat_abs s.args.address) (m-is p.before.before.before)
+            (start_is p) (length-is p) c.before.before.block_width-dw.ensures.0
+            c.before.before.before.block_address-di.ensures.1,
+        s.requires.1.1,
       ),
     )
 
@@ -79,12 +79,12 @@ returns : tie.Need-returns
 returns c =
     let p = known c in
     let s = entry p in
-    in-store s.pre.0 _ s.args.number (nat_abs s.args.address) (m-is p.before.before.before)
-    (start_is p) (length-is p) (placed c).block-width.ensures.0
-    (placed c).before.block-address.ensures.0 s.args.q (block_coefficients s.args.values.now s.args.n) c.before.before.results.ensures
+    in-store s.requires.0 _ s.args.number (nat_abs s.args.address) (m-is p.before.before.before)
+    (start_is p) (length-is p) (placed c).block_width-dw.ensures.0
+    (placed c).before.block_address-di.ensures.0 s.args.q (block_coefficients s.args.values.now s.args.n) c.before.before.results.ensures
 
-pub write-results-spec : {M : Type 1} → statement M
-write-results-spec =
+pub write_results_spec : {M : Type 1} → statement M
+write_results_spec =
     tie.close
     (tie.spec cast-macroblock-at (λ c κs. search rules) (λ c κs. search rules) plane-start-requires plane-length-requires add-end
     (λ c κs. search rules) (λ c κs. search rules) (λ c. search rules) (λ c. search rules) part-results-end results-requires

@@ -18,10 +18,10 @@ here l = record { is = lent-part l 246 68 (omega arith) places.vector; places = 
 
 returns : tie.Need-returns
 unfolding motion motion_value
-returns c = c.read-vlc.ensures motion_index motion_value (here c.before.before.before.before.requires.1) tt
+returns c = c.read_vlc.ensures motion_index motion_value (here c.before.before.before.before.requires.1) tt
 
-pub read-motion-spec : {M : Type 1} → statement M
-read-motion-spec =
+pub read_motion_spec : {M : Type 1} → statement M
+read_motion_spec =
     tie.close
     (tie.spec (λ c. search rules) (λ c. search rules) (λ c. search rules)
     (λ c κs. let s = c.before.before.before in (s.requires.0, joined_leading (here s.requires.1) good-motion)) returns)

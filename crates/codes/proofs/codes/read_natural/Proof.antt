@@ -5,7 +5,7 @@ use Rattle.codes.specs.Walk.{walk, vlc}
 use Rattle.codes.proofs.codes.read_natural.Statement.{statement}
 use Rattle.codes.proofs.codes.read_natural.Tie as tie
 
-requires : tie.Need-read-natural-from-requires
+requires : tie.Need-read_natural_from-requires
 requires c κs =
     let s = c.before in
     let a = s.args in
@@ -14,7 +14,7 @@ requires c κs =
 
 returns : tie.Need-returns
 unfolding vlc walk
-returns c = c.read-natural-from.ensures
+returns c = c.read_natural_from.ensures
 
-pub read-natural-spec : {M : Type 1} → statement M
-read-natural-spec = tie.close (tie.spec requires returns)
+pub read_natural_spec : {M : Type 1} → statement M
+read_natural_spec = tie.close (tie.spec requires returns)

@@ -15,11 +15,11 @@ read-entry : (t : List ℕ) (intra t₀ : Bool) (place : ℕ) → intra ≡ t₀
     → get_or t (cond t₀ intra_matrix_at non_intra_matrix_at + place) 0 ≡ get_or (matrix_of t intra) place 0
 read-entry t intra t₀ place e h = sym (matrix-at t t₀ place h) ∙ ap (λ (b : Bool). get_or (matrix_of t b) place 0) (sym e)
 
-returns : tie.Need-returns
-returns c = let s = c.before.before in read-entry _ s.args.intra true s.args.position c.before.if1.true s.requires.1
+returns : tie.Need-returns-then-intra
+returns c = let s = c.before.before in read-entry _ s.args.intra true s.args.position c.before.if-intra.true s.requires.1
 
-returns-2 : tie.Need-returns-2
-returns-2 c = let s = c.before.before in read-entry _ s.args.intra false s.args.position c.before.if1.false s.requires.1
+returns-2 : tie.Need-returns
+returns-2 c = let s = c.before.before in read-entry _ s.args.intra false s.args.position c.before.if-intra.false s.requires.1
 
 pub entry_spec : {M : Type 1} → statement M
 entry_spec =

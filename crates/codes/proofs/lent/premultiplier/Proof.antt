@@ -13,7 +13,7 @@ use Rattle.codes.proofs.Parts.{premultiplier-at}
 use Rattle.codes.proofs.lent.premultiplier.Statement.{statement}
 use Rattle.codes.proofs.lent.premultiplier.Tie as tie
 
-small : (c : tie.After-result) → get_or c.before.args.tables.now (638 + c.before.args.position) 0 ≤ 62
+small : (c : tie.After-result-1) → get_or c.before.args.tables.now (638 + c.before.args.position) 0 ≤ 62
 small c = let s = c.before in omega (arith, premultiplier-at s.requires.0 s.args.position s.requires.1, premultiplier-small s.args.position)
 
 returns : tie.Need-returns
@@ -23,6 +23,6 @@ returns c =
     (natural-num w32 _ 62 (small c) tt).is ∙ ap pos (premultiplier-at s.requires.0 n s.requires.1)
     ∙ sym (natural (get_or premultiplier_matrix n (pos 0)) (premultiplier-natural n))
 
-pub premultiplier-spec : {M : Type 1} → statement M
-premultiplier-spec =
+pub premultiplier_spec : {M : Type 1} → statement M
+premultiplier_spec =
     tie.close (tie.spec (λ c. search rules) (λ c. search rules) (λ c. search rules) (λ c. record { sfits = omega (arith, small c) }) returns)

@@ -21,37 +21,37 @@ use Rattle.codes.proofs.matrices.bounded.Tie as tie
 abbrev inside : List ℤ → ℕ → Bool
 inside c k = leb (nat_abs (get_or c k (pos 0))) (2048 * nat_abs (get_or premultiplier_matrix k (pos 0)))
 
-abbrev invariant-loop : tie.invariant-loop
+abbrev invariant-loop : tie.invariant-loop-i
 invariant-loop block premultipliers all₀ i₀ all i = (i ≤ 64) × (all ≡ all_below i (inside block))
 
-abbrev decreases-loop : tie.decreases-loop
+abbrev decreases-loop : tie.decreases-loop-i
 decreases-loop block premultipliers all₀ i₀ all i = 64 - i
 
-tested : (c : tie.After-within invariant-loop decreases-loop) → let l = c.before.before.before.before in
-    c.within.result ≡ inside l.before.before.args.block.now l.loop.i
+tested : (c : tie.After-within-inside invariant-loop decreases-loop) → let l = c.before.before.before.before in
+    c.within-inside.result ≡ inside l.before.before.args.block.now l.loop-i.i
 tested c =
     let l = c.before.before.before.before in
-    c.within.ensures
-    ∙ rw (premultiplier-read l.before.premultiplier-matrix.ensures l.loop.i, to_z-of_z {w = w32} (sfits_of c.before.within-arg2.given))
+    c.within-inside.ensures
+    ∙ rw (premultiplier-read l.before.premultiplier_matrix-premultipliers.ensures l.loop-i.i, to_z-of_z {w = w32} (sfits_of c.before.within-arg-in-loop-i-1.given))
 
-within-requires : tie.Need-within-requires invariant-loop decreases-loop
+within-requires : tie.Need-within-inside-requires invariant-loop decreases-loop
 within-requires c κs =
     let l = c.before.before.before in
-    let i = l.loop.i in
-    rw (premultiplier-read l.before.premultiplier-matrix.ensures i) (premultiplier-natural i, premultiplier-small i)
+    let i = l.loop-i.i in
+    rw (premultiplier-read l.before.premultiplier_matrix-premultipliers.ensures i) (premultiplier-natural i, premultiplier-small i)
 
-loop-again : tie.Need-loop-preserved invariant-loop decreases-loop
+loop-again : tie.Need-loop-i-preserved invariant-loop decreases-loop
 unfolding all_below
 loop-again c =
     let l = c.before.before.before.before in
-    (omega arith, rw (add-one l.loop.i, l.loop.invariant.1, tested c))
+    (omega arith, rw (add-one l.loop-i.i, l.loop-i.invariant.1, tested c))
 
 returns : tie.Need-returns invariant-loop decreases-loop
 unfolding bounded
 returns c =
     let l = c.before in
-    let end : l.loop.i ≡ 64 = omega arith in
-    l.loop.invariant.1 ∙ ap (λ (n : ℕ). all_below n (inside l.before.before.args.block.now)) end
+    let end : l.loop-i.i ≡ 64 = omega arith in
+    l.loop-i.invariant.1 ∙ ap (λ (n : ℕ). all_below n (inside l.before.before.args.block.now)) end
 
 pub bounded_spec : {M : Type 1} → statement M
 unfolding all_below

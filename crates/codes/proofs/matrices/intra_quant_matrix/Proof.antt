@@ -7,5 +7,5 @@ returns : tie.Need-returns
 unfolding intra_quant_matrix
 returns c = refl
 
-pub intra-quant-matrix-spec : {M : Type 1} → statement M
-intra-quant-matrix-spec = tie.close (tie.spec returns)
+pub intra_quant_matrix_spec : {M : Type 1} → statement M
+intra_quant_matrix_spec = tie.close (tie.spec returns)

@@ -7,5 +7,5 @@ returns : tie.Need-returns
 unfolding non_intra_quant_matrix
 returns c = refl
 
-pub non-intra-quant-matrix-spec : {M : Type 1} → statement M
-non-intra-quant-matrix-spec = tie.close (tie.spec returns)
+pub non_intra_quant_matrix_spec : {M : Type 1} → statement M
+non_intra_quant_matrix_spec = tie.close (tie.spec returns)

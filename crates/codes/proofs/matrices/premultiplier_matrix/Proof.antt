@@ -7,5 +7,5 @@ returns : tie.Need-returns
 unfolding premultiplier_matrix
 returns c = refl
 
-pub premultiplier-matrix-spec : {M : Type 1} → statement M
-premultiplier-matrix-spec = tie.close (tie.spec returns)
+pub premultiplier_matrix_spec : {M : Type 1} → statement M
+premultiplier_matrix_spec = tie.close (tie.spec returns)

@@ -22,15 +22,15 @@ tested : (p z : ℤ) → T (non_neg p) → (le_z (neg_ℤ (pos 2048 *ℤ p)) z &
 tested (pos k) z t = abs-test (2048 * k) z
 tested (negsuc k) z t = absurd t
 
-mul_most : tie.Need-overflow-mul-most
+mul_most : tie.Need-overflow_mul-most
 mul_most c = need (ρ c) most tt
 
-sub-result : tie.Need-overflow-sub-result
+sub-result : tie.Need-overflow_sub-result
 sub-result c = need (ρ c) (neg most) tt
 
 returns : tie.Need-returns
 returns c =
     rw (value (ρ c) (neg most) tt, value (ρ c) most tt, to_z-of_z {w = w32} c.ranges.z) (tested c.args.premultiplier c.args.z c.requires.0)
 
-pub within-spec : {M : Type 1} → statement M
-within-spec = tie.close (tie.spec mul_most sub-result returns)
+pub within_spec : {M : Type 1} → statement M
+within_spec = tie.close (tie.spec mul_most sub-result returns)

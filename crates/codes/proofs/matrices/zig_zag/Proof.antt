@@ -7,5 +7,5 @@ returns : tie.Need-returns
 unfolding zig_zag down_from diagonals
 returns c = refl
 
-pub zig-zag-spec : {M : Type 1} → statement M
-zig-zag-spec = tie.close (tie.spec returns)
+pub zig_zag_spec : {M : Type 1} → statement M
+zig_zag_spec = tie.close (tie.spec returns)

@@ -8,5 +8,5 @@ returns : tie.Need-returns
 unfolding picture_rate div of_bits of_int
 returns c = refl
 
-pub picture-rate-spec : {M : Type 1} → statement M
-picture-rate-spec = tie.close (tie.spec returns)
+pub picture_rate_spec : {M : Type 1} → statement M
+picture_rate_spec = tie.close (tie.spec returns)

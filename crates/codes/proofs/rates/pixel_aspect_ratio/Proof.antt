@@ -8,5 +8,5 @@ returns : tie.Need-returns
 unfolding pixel_aspect_ratio div of_bits of_int
 returns c = refl
 
-pub pixel-aspect-ratio-spec : {M : Type 1} → statement M
-pixel-aspect-ratio-spec = tie.close (tie.spec returns)
+pub pixel_aspect_ratio_spec : {M : Type 1} → statement M
+pixel_aspect_ratio_spec = tie.close (tie.spec returns)

@@ -6,5 +6,5 @@ returns : tie.Need-returns
 unfolding walk
 returns c = c.walk_from.ensures
 
-pub walk-spec : {M : Type 1} → statement M
-walk-spec = tie.close (tie.spec (λ c κs. let s = c.before.before in (s.requires.0, (s.requires.1, s.requires.1.two))) returns)
+pub walk_spec : {M : Type 1} → statement M
+walk_spec = tie.close (tie.spec (λ c κs. let s = c.before.before in (s.requires.0, (s.requires.1, s.requires.1.two))) returns)

@@ -22,14 +22,14 @@ kept q f p Complete k = let z : ⊥ = ⊎_elim (λ h. omega arith) (λ h. omega 
 kept q f p Dropped k = refl
 kept q f p DcOutOfRange k = refl
 
-returns : tie.Need-returns
+returns : tie.Need-returns-in-Complete
 unfolding block_data_after
-returns c = rw c.before.enum_told.given.1
+returns c = rw c.before.in-Complete.is
 
-returns-2 : tie.Need-returns-2
+returns-2 : tie.Need-returns-in_default
 returns-2 c =
     let a = c.before.args in
-    kept a.q (block_coefficients a.values.now a.block.n) a.block.predictor a.block.end c.match.keys2
+    kept a.q (block_coefficients a.values.now a.block.n) a.block.predictor a.block.end c.in_default.in_default-own.keys2
 
-pub block-data-after-spec : {M : Type 1} → statement M
-block-data-after-spec = tie.close (tie.spec (λ c. search rules) returns returns-2)
+pub block_data_after_spec : {M : Type 1} → statement M
+block_data_after_spec = tie.close (tie.spec (λ c. search rules) returns returns-2)

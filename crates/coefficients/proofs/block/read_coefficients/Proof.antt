@@ -21,94 +21,94 @@ use Rattle.coefficients.proofs.Sizes.{coefficient-small}
 use Rattle.coefficients.proofs.block.read_coefficients.Statement.{statement}
 use Rattle.coefficients.proofs.block.read_coefficients.Tie as tie
 
-abbrev invariant-loop : tie.invariant-loop
+abbrev invariant-loop : tie.invariant-loop-run
 invariant-loop s tables values₀ q first from₀ n₀ values from n =
     ReaderInBounds s from × AtPair q (matrix_of tables q.intra) (block_coefficients values₀ first) s from₀ (block_coefficients values n) from
 
-abbrev decreases-loop : tie.decreases-loop
+abbrev decreases-loop : tie.decreases-loop-run
 decreases-loop s tables values₀ q first from₀ n₀ values from n = 64 - n
 
-loop-holds : tie.Need-loop-init invariant-loop decreases-loop
+loop-holds : tie.Need-loop-run-init invariant-loop decreases-loop
 loop-holds c = let s = c.before in (s.requires.0, pair-start s.requires.1.1.0)
 
-returns : tie.Need-returns invariant-loop decreases-loop
+returns : tie.Need-returns-in_default invariant-loop decreases-loop
 returns c =
-    let x = c.before.before.before in
+    let x = c.before.before in
     let l = x.before in
-    reading l.before.before.requires.0 (pair-whole l.loop.invariant.1 (rw c.enum_told.given.1 at x.read-coefficient.ensures.runs))
+    reading l.before.before.requires.0 (pair-whole l.loop-run.invariant.1 (rw c.in_default.is at x.read_coefficient-read.ensures.runs))
 
 -- what was read, where it is a pair
-module _ (c : tie.After-known-told invariant-loop decreases-loop) where
-  abbrev read : tie.After-read-coefficient invariant-loop decreases-loop
-  read = c.before.before.before.before
+module _ (c : tie.In-RunLevel invariant-loop decreases-loop) where
+  abbrev read : tie.After-read_coefficient-read invariant-loop decreases-loop
+  read = c.before.before
 
-  abbrev at-loop : tie.At-loop invariant-loop decreases-loop
+  abbrev at-loop : tie.At-loop-run invariant-loop decreases-loop
   at-loop = read.before
 
   abbrev begun : tie.Start invariant-loop decreases-loop
   begun = at-loop.before.before
 
   abbrev run : ℕ
-  run = c.before.coefficient.given.0.0
+  run = c.in-RunLevel.run'
 
   abbrev level : ℤ
-  level = c.before.coefficient.given.0.1.0
+  level = c.in-RunLevel.level
 
-  pair_read : Runs (coefficient at-loop.loop.n) begun.args.s.now at-loop.loop.from (RunLevel run level)
-      read.read-coefficient.result.reader
+  pair_read : Runs (coefficient at-loop.loop-run.n) begun.args.s.now at-loop.loop-run.from (RunLevel run level)
+      read.read_coefficient-read.result.reader
   pair_read =
-      subst (λ (x : Coefficient). Runs (coefficient at-loop.loop.n) begun.args.s.now at-loop.loop.from x
-      read.read-coefficient.result.reader)
-      c.before.coefficient.given.1 read.read-coefficient.ensures.runs
+      subst (λ (x : Coefficient). Runs (coefficient at-loop.loop-run.n) begun.args.s.now at-loop.loop-run.from x
+      read.read_coefficient-read.result.reader)
+      c.in-RunLevel.is read.read_coefficient-read.ensures.runs
 
   small : (run ≤ 255) × (nat_abs level ≤ 256)
-  small = given_by (coefficient-small at-loop.loop.n) pair_read
+  small = given_by (coefficient-small at-loop.loop-run.n) pair_read
 
-add_at : tie.Need-overflow-add-at invariant-loop decreases-loop
+add_at : tie.Need-overflow_add-at invariant-loop decreases-loop
 add_at c = omega (arith, small c)
 
-returns-2 : tie.Need-returns-2 invariant-loop decreases-loop
+returns-2 : tie.Need-returns-then-at-ge64 invariant-loop decreases-loop
 returns-2 c =
     let k = c.before in
-    reading (begun k).requires.0 (pair-dropped (at-loop k).loop.invariant.1 (pair_read k) c.if1.true)
+    reading (begun k).requires.0 (pair-dropped (at-loop k).loop-run.invariant.1 (pair_read k) c.if-at-ge64.true)
 
-inside : (c : tie.After-zig-zag-position invariant-loop decreases-loop) → c.zig-zag-position.result < 64
-inside c = rw c.zig-zag-position.ensures (zig_zag-inside _)
+inside : (c : tie.After-zig_zag_position-position invariant-loop decreases-loop) → c.zig_zag_position-position.result < 64
+inside c = rw c.zig_zag_position-position.ensures (zig_zag-inside _)
 
-premultiplied-requires : tie.Need-premultiplied-requires invariant-loop decreases-loop
+premultiplied-requires : tie.Need-premultiplied-v-requires invariant-loop decreases-loop
 premultiplied-requires c κs =
     let k = c.before.before in
     let l = (small k).1 in
     ((begun k).requires.1.0, (rw (rd w32 (num l) tt).is l, (begun k).requires.1.1.1, inside c))
 
-loop-less : tie.Need-loop-smaller invariant-loop decreases-loop
+loop-less : tie.Need-loop-run-smaller invariant-loop decreases-loop
 loop-less c = omega arith
 
-loop-again : tie.Need-loop-preserved invariant-loop decreases-loop
+loop-again : tie.Need-loop-run-preserved invariant-loop decreases-loop
 loop-again c =
     let p = c.before in
     let k = p.before.before in
     let a = (begun k).args in
-    let e = to_z-of_z {w = w32} (sfits_of c.premultiplied.type-inv) ∙ (rw (rd w32 (num {s = level k} (small k).1) tt).is at c.premultiplied.ensures) in
-    rw (e, p.zig-zag-position.ensures) (
-      (read k).read-coefficient.ensures.inside,
-      pair-on (at-loop k).loop.invariant.1 (pair_read k) p.before.if1.false,
+    let e = to_z-of_z (sfits_of {w = w32} c.premultiplied-v.type_inv) ∙ (rw (rd w32 (num {s = level k} (small k).1) tt).is at c.premultiplied-v.ensures) in
+    rw (e, p.zig_zag_position-position.ensures) (
+      (read k).read_coefficient-read.ensures.inside,
+      pair-on (at-loop k).loop-run.invariant.1 (pair_read k) p.before.if-at-ge64.false,
     )
 
-pub read-coefficients-spec : {M : Type 1} → statement M
-read-coefficients-spec =
+pub read_coefficients_spec : {M : Type 1} → statement M
+read_coefficients_spec =
     tie.close
     (tie.spec
     invariant-loop
     decreases-loop
     loop-holds
-    (λ c κs. (c.loop.invariant.0, c.before.before.requires.1.0))
+    (λ c κs. (c.loop-run.invariant.0, c.before.before.requires.1.0))
     (λ c. search rules)
     (λ c. search rules)
     returns
     add_at
     returns-2
-    (λ c κs. ((begun c.before).pre.1.0, c.if1.false))
+    (λ c κs. ((begun c.before).requires.1.0, c.if-at-ge64.false))
     premultiplied-requires
     (λ c. omega (arith, inside c.before))
     (λ c. inside c.before)

@@ -11,11 +11,11 @@ use Rattle.coefficients.proofs.coefficient.read_escape.Tie as tie
 returns : tie.Need-returns
 unfolding escape
 returns c =
-    let l = c.before.before.read-escape-level.ensures in
+    let l = c.before.before.read_escape_level-second.ensures in
     let x = c.before.before.before.before in
     rw (rd w32 (num (given_by escape-level-small l.runs)) tt).is
-    (reading x.before.before.requires (r-call _ x.read.ensures.runs (r-call _ l.runs r-done)))
+    (reading x.before.before.requires (r-call _ x.read-first.ensures.runs (r-call _ l.runs r-done)))
 
-pub read-escape-spec : {M : Type 1} → statement M
-read-escape-spec =
-    tie.close (tie.spec (λ c κs. c.before.requires) (λ c. search rules) (λ c κs. c.before.read.ensures.inside) returns)
+pub read_escape_spec : {M : Type 1} → statement M
+read_escape_spec =
+    tie.close (tie.spec (λ c κs. c.before.requires) (λ c. search rules) (λ c κs. c.before.read-first.ensures.inside) returns)

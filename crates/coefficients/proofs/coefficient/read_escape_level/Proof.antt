@@ -24,78 +24,78 @@ less = var 0 ∸ cst 256
 eight : {s : List ℕ} {from to : Reader} {v : ℕ} → Runs (read_at_most32 8) s from v to → v ≤ 255
 eight r = omega (arith, given_by (g-reads 8) r)
 
-read-requires : tie.Need-read-requires
+read-requires : tie.Need-read-first-requires
 read-requires c κs = c.before.requires
 
-read-requires-2 : tie.Need-read-requires-2
-read-requires-2 c κs = c.before.before.read.ensures.inside
+read-requires-2 : tie.Need-read-more-requires
+read-requires-2 c κs = c.before.before.read-first.ensures.inside
 
-cast-level : tie.Need-overflow-cast-level
-cast-level c = eval-fits (ρ c.before.before.read2.result.value (eight c.before.before.read2.ensures.runs)) (var 0) tt
+cast-level : tie.Need-overflow_cast-level
+cast-level c = eval-fits (ρ c.before.before.read-more.result.value (eight c.before.before.read-more.ensures.runs)) (var 0) tt
 
-returns : tie.Need-returns
+returns : tie.Need-returns-then-field-eq0
 unfolding escape_level
 returns c =
     let m = c.before.before in
     let x = m.before.before.before in
-    let n = m.read2.result.value in
-    rw (value (ρ n (eight m.read2.ensures.runs)) (var 0) tt)
+    let n = m.read-more.result.value in
+    rw (value (ρ n (eight m.read-more.ensures.runs)) (var 0) tt)
     (reading x.before.before.requires
-    (r-call _ x.read.ensures.runs (r-yes _ (eq-eqb _ _ m.before.if1.true) (r-call _ m.read2.ensures.runs r-done))))
+    (r-call _ x.read-first.ensures.runs (r-yes _ (eq-eqb _ _ m.before.if-field-eq0.true) (r-call _ m.read-more.ensures.runs r-done))))
 
-cast-level-2 : tie.Need-overflow-cast-level-2
-cast-level-2 c = let x = c.before.before.before.read in eval-fits (ρ x.result.value (eight x.ensures.runs)) (var 0) tt
+cast-level-2 : tie.Need-overflow_cast-level-then-field-lt128
+cast-level-2 c = let x = c.before.before.before.read-first in eval-fits (ρ x.result.value (eight x.ensures.runs)) (var 0) tt
 
-returns-2 : tie.Need-returns-2
+returns-2 : tie.Need-returns-then-field-lt128
 unfolding escape_level
 returns-2 c =
     let x = c.before.before.before in
-    let n = x.read.result.value in
-    rw (value (ρ n (eight x.read.ensures.runs)) (var 0) tt)
+    let n = x.read-first.result.value in
+    rw (value (ρ n (eight x.read-first.ensures.runs)) (var 0) tt)
     (reading x.before.before.requires
-    (r-call _ x.read.ensures.runs
-    (r-no _ (ne_eqb _ _ c.before.if1.false) (r-no _ (ne_eqb n 128 (λ e. omega arith)) (r-no _ (le-ltb 128 n (omega arith)) r-done)))))
+    (r-call _ x.read-first.ensures.runs
+    (r-no _ (ne_eqb _ _ c.before.if-field-eq0.false) (r-no _ (ne_eqb n 128 (λ e. omega arith)) (r-no _ (le-ltb 128 n (omega arith)) r-done)))))
 
-cast-level-3 : tie.Need-overflow-cast-level-3
-cast-level-3 c = let x = c.before.before.before.before.read in eval-fits (ρ x.result.value (eight x.ensures.runs)) (var 0) tt
+cast-level-3 : tie.Need-overflow_cast-level-then-field-gt128
+cast-level-3 c = let x = c.before.before.before.before.read-first in eval-fits (ρ x.result.value (eight x.ensures.runs)) (var 0) tt
 
-sub-level : tie.Need-overflow-sub-level
-sub-level c = let x = c.before.before.before.before.read in need (ρ x.result.value (eight x.ensures.runs)) less tt
+sub-level : tie.Need-overflow_sub-level
+sub-level c = let x = c.before.before.before.before.read-first in need (ρ x.result.value (eight x.ensures.runs)) less tt
 
-returns-3 : tie.Need-returns-3
+returns-3 : tie.Need-returns-then-field-gt128
 unfolding escape_level
 returns-3 c =
     let x = c.before.before.before.before in
-    let n = x.read.result.value in
-    rw (value (ρ n (eight x.read.ensures.runs)) less tt)
+    let n = x.read-first.result.value in
+    rw (value (ρ n (eight x.read-first.ensures.runs)) less tt)
     (reading x.before.before.requires
-    (r-call _ x.read.ensures.runs
-    (r-no _ (ne_eqb _ _ c.before.before.if1.false) (r-no _ (ne_eqb n 128 (λ e. omega arith)) (r-yes _ (lt-ltb 128 n c.if3.true) r-done)))))
+    (r-call _ x.read-first.ensures.runs
+    (r-no _ (ne_eqb _ _ c.before.before.if-field-eq0.false) (r-no _ (ne_eqb n 128 (λ e. omega arith)) (r-yes _ (lt-ltb 128 n c.if-field-gt128.true) r-done)))))
 
-read-requires-3 : tie.Need-read-requires-3
-read-requires-3 c κs = c.before.before.before.before.read.ensures.inside
+read-requires-3 : tie.Need-read-more-requires-2
+read-requires-3 c κs = c.before.before.before.before.read-first.ensures.inside
 
-cast-level-4 : tie.Need-overflow-cast-level-4
-cast-level-4 c = let x = c.before.before.read3 in eval-fits (ρ x.result.value (eight x.ensures.runs)) (var 0) tt
+cast-level-4 : tie.Need-overflow_cast-level-2
+cast-level-4 c = let x = c.before.before.read-more-2 in eval-fits (ρ x.result.value (eight x.ensures.runs)) (var 0) tt
 
-sub-level-2 : tie.Need-overflow-sub-level-2
-sub-level-2 c = let x = c.before.before.read3 in need (ρ x.result.value (eight x.ensures.runs)) less tt
+sub-level-2 : tie.Need-overflow_sub-level-2
+sub-level-2 c = let x = c.before.before.read-more-2 in need (ρ x.result.value (eight x.ensures.runs)) less tt
 
-returns-4 : tie.Need-returns-4
+returns-4 : tie.Need-returns
 unfolding escape_level
 returns-4 c =
     let m = c.before.before in
     let i = m.before in
     let x = i.before.before.before.before in
-    let n = m.read3.result.value in
-    rw (value (ρ n (eight m.read3.ensures.runs)) less tt)
+    let n = m.read-more-2.result.value in
+    rw (value (ρ n (eight m.read-more-2.ensures.runs)) less tt)
     (reading x.before.before.requires
-    (r-call _ x.read.ensures.runs
-    (r-no _ (ne_eqb _ _ i.before.before.if1.false)
-    (r-yes _ (eq-eqb x.read.result.value 128 (omega arith)) (r-call _ m.read3.ensures.runs r-done)))))
+    (r-call _ x.read-first.ensures.runs
+    (r-no _ (ne_eqb _ _ i.before.before.if-field-eq0.false)
+    (r-yes _ (eq-eqb x.read-first.result.value 128 (omega arith)) (r-call _ m.read-more-2.ensures.runs r-done)))))
 
-pub read-escape-level-spec : {M : Type 1} → statement M
-read-escape-level-spec =
+pub read_escape_level_spec : {M : Type 1} → statement M
+read_escape_level_spec =
     tie.close
     (tie.spec
     read-requires

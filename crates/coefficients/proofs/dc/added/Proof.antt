@@ -43,41 +43,41 @@ mask s = ap (bit_and s.args.differential) (shl_one w32 (s.args.size - 1) (omega 
 as-formula : (s : tie.Start) → by_top_bit s.args.size s.args.differential ≡ added s.args.size s.args.differential
 as-formula s = sym (added_is s.args.size s.args.differential s.requires.0 s.requires.1 s.requires.2)
 
-cast-result : tie.Need-overflow-cast-result
+cast-result : tie.Need-overflow_cast-result
 cast-result c = eval-fits (ρ c.before) (var 0) tt
 
-returns : tie.Need-returns
+returns : tie.Need-returns-then-differential-size-ne0
 unfolding by_top_bit
 returns c =
     let s = c.before in
     let e = value (ρ s) (var 0) tt in
-    let b = bit-yes s.args.differential (s.args.size - 1) (λ z. c.if1.true (mask s ∙ z)) in
+    let b = bit-yes s.args.differential (s.args.size - 1) (λ z. c.if-differential-size-ne0.true (mask s ∙ z)) in
     let r : pos s.args.differential ≡ by_top_bit s.args.size s.args.differential = rw b in
     (e ∙ r ∙ as-formula s, omega (arith, ap nat_abs e, small s))
 
-cast-result-2 : tie.Need-overflow-cast-result-2
+cast-result-2 : tie.Need-overflow_cast-result-2
 cast-result-2 c = eval-fits (ρ c.before) (var 0) tt
 
-add-result : tie.Need-overflow-add-result
+add-result : tie.Need-overflow_add-result
 add-result c = need (ρ c.before) more tt
 
-sub-result : tie.Need-overflow-sub-result
+sub-result : tie.Need-overflow_sub-result
 sub-result c = need (ρ c.before) less tt
 
-returns-2 : tie.Need-returns-2
+returns-2 : tie.Need-returns
 unfolding by_top_bit
 returns-2 c =
     let s = c.before in
     let d = s.args.differential in
     let e = value (ρ s) less tt in
-    let b = bit-no d (s.args.size - 1) (sym (mask s) ∙ c.if1.false) in
+    let b = bit-no d (s.args.size - 1) (sym (mask s) ∙ c.if-differential-size-ne0.false) in
     let n : nat_abs (pos (d + 1) -ℤ pos (2 ^ s.args.size)) ≤ 255
     = abs-by 255 (lit (d + 1) ⊖ lit (2 ^ s.args.size)) (omega arith) (omega (arith, power s)) in
     let r : pos (d + 1) -ℤ pos (2 ^ s.args.size) ≡ by_top_bit s.args.size d = rw b in
     (e ∙ r ∙ as-formula s, omega (arith, ap nat_abs e))
 
-pub added-spec : {M : Type 1} → statement M
-added-spec =
+pub added_spec : {M : Type 1} → statement M
+added_spec =
     tie.close
     (tie.spec
     (λ c. search rules)

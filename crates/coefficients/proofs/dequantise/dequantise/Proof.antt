@@ -23,29 +23,29 @@ abbrev ρ : tie.After-doubled → List (Input w32)
     ∷ natural w32 c.before.args.entry 255 (omega arith)
     ∷ []
 
-mul-product : tie.Need-overflow-mul-product
+mul-product : tie.Need-overflow_mul-product
 mul-product c = need (ρ c) scaled tt
 
-mul-product-2 : tie.Need-overflow-mul-product-2
+mul-product-2 : tie.Need-overflow_mul-product-2
 mul-product-2 c = need (ρ c) product tt
 
-made-odd-requires : tie.Need-made-odd-requires
+made-odd-requires : tie.Need-made_odd-requires
 made-odd-requires c κs = let x = num_of (ρ c) (shr 4 product) tt in omega (arith, ap nat_abs x.is, x.bound)
 
 returns : tie.Need-returns
 unfolding dequantised
 returns c =
     let d = c.before.before in
-    let m = c.before.made-odd in
-    rw (to_z-of_z (sfits_of c.clipped.type-inv)) (
+    let m = c.before.made_odd in
+    rw (to_z-of_z (sfits_of {w = w32} c.clipped.type_inv)) (
       c.clipped.ensures.0
-          ∙ ap clipped (to_z-of_z (sfits_of m.type-inv) ∙ m.ensures ∙ ap made_odd (value (ρ d) (shr 4 product) tt))
+          ∙ ap clipped (to_z-of_z (sfits_of {w = w32} m.type_inv) ∙ m.ensures ∙ ap made_odd (value (ρ d) (shr 4 product) tt))
           ∙ rw (d.doubled.ensures.0, to_z-of_z d.before.ranges.level),
       c.clipped.ensures.1,
     )
 
-pub dequantise-spec : {M : Type 1} → statement M
-dequantise-spec =
+pub dequantise_spec : {M : Type 1} → statement M
+dequantise_spec =
     tie.close
     (tie.spec
     (λ c κs. search rules)

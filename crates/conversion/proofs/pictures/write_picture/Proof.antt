@@ -8,23 +8,23 @@ use Rattle.conversion.proofs.Planes.{size_few, picture-whole}
 use Rattle.conversion.proofs.pictures.write_picture.Statement.{statement}
 use Rattle.conversion.proofs.pictures.write_picture.Tie as tie
 
-plane-requires : tie.Need-plane-requires
+plane-requires : tie.Need-plane-y-requires
 plane-requires c κs = let p = c.before.before.requires in ((p.1.1.0, size_few p.0), p.1.0)
 
-plane-requires-2 : tie.Need-plane-requires-2
+plane-requires-2 : tie.Need-plane-cr-requires
 plane-requires-2 c κs = let p = c.before.before.before.requires in ((p.1.1.0, size_few p.0), p.1.0)
 
-plane-requires-3 : tie.Need-plane-requires-3
+plane-requires-3 : tie.Need-plane-cb-requires
 plane-requires-3 c κs = let p = c.before.before.before.before.requires in ((p.1.1.0, size_few p.0), p.1.0)
 
 -- the planes as they are cut are those of the picture
-cut : (c : tie.After-plane3) → let y = c.before.before in let s = y.before.before.before in let q = s.args.q in
+cut : (c : tie.After-plane-cb) → let y = c.before.before in let s = y.before.before.before in let q = s.args.q in
     picture q.width q.height (q.sizes.mb_width * 16)
-    y.plane.result.now c.before.plane2.result.now c.plane3.result.now
+    y.plane-y.result.now c.before.plane-cr.result.now c.plane-cb.result.now
     ≡ picture_in q s.args.store.now s.args.index
-cut c = rw (c.before.before.plane.ensures, c.before.plane2.ensures, c.plane3.ensures)
+cut c = rw (c.before.before.plane-y.ensures, c.before.plane-cr.ensures, c.plane-cb.ensures)
 
-write-rgb-scaled-requires : tie.Need-write-rgb-scaled-requires
+write-rgb-scaled-requires : tie.Need-write_rgb_scaled-requires
 write-rgb-scaled-requires c κs =
     let p = c.before.before in
     let s = p.before.before.before.before.before in
@@ -36,10 +36,10 @@ write-rgb-scaled-requires c κs =
 returns : tie.Need-returns
 returns c =
     let x = c.before.before in
-    rw (x.write-rgb-scaled.ensures, cut x.before.before.before)
+    rw (x.write_rgb_scaled.ensures, cut x.before.before.before)
 
-pub write-picture-spec : {M : Type 1} → statement M
-write-picture-spec =
+pub write_picture_spec : {M : Type 1} → statement M
+write_picture_spec =
     tie.close
     (tie.spec
     plane-requires

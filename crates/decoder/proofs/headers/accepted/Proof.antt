@@ -8,7 +8,7 @@ unfolding accepted
 returns c =
     let a = c.before.before in
     let r = a.before in
-    rw (c.position.ensures, a.aspect-of.ensures, r.rate-of.ensures, r.before.before.before.before.sizes-of.ensures)
+    rw (c.position-position.ensures, a.aspect_of.ensures, r.rate_of.ensures, r.before.before.before.before.sizes_of.ensures)
 
-pub accepted-spec : {M : Type 1} → statement M
-accepted-spec = tie.close (tie.spec (λ c κs. search rules) (λ c κs. search rules) (λ c κs. search rules) (λ c κs. search rules) returns)
+pub accepted_spec : {M : Type 1} → statement M
+accepted_spec = tie.close (tie.spec (λ c κs. search rules) (λ c κs. search rules) (λ c κs. search rules) (λ c κs. search rules) returns)

@@ -8,11 +8,11 @@ returns c =
     let q = c.before in
     let v = q.before in
     let n = v.before in
-    possible-by _ n.possible-numbers.ensures v.possible-display.ensures q.possible-sequence.ensures c.possible-picture.ensures
-    n.before.bounded.ensures
+    possible-by _ n.possible_numbers-numbers.ensures v.possible_display-display.ensures q.possible_sequence-sequence.ensures c.possible_picture-picture.ensures
+    n.before.bounded-left.ensures
 
-pub possible-with-spec : {M : Type 1} → statement M
-possible-with-spec =
+pub possible_with_spec : {M : Type 1} → statement M
+possible_with_spec =
     tie.close
     (tie.spec
     (λ c κs. search rules)

@@ -5,7 +5,7 @@ use Rattle.decoder.proofs.record.fresh.Tie as tie
 
 returns : tie.Need-returns
 unfolding fresh
-returns c = rw (c.before.fresh-sequence.ensures, c.fresh-state.ensures)
+returns c = rw (c.before.fresh_sequence-sequence.ensures, c.fresh_state-state.ensures)
 
-pub fresh-spec : {M : Type 1} → statement M
-fresh-spec = tie.close (tie.spec (λ c κs. search rules) (λ c κs. search rules) returns)
+pub fresh_spec : {M : Type 1} → statement M
+fresh_spec = tie.close (tie.spec (λ c κs. search rules) (λ c κs. search rules) returns)

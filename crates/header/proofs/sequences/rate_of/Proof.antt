@@ -5,7 +5,7 @@ use Rattle.header.proofs.sequences.rate_of.Statement.{statement}
 use Rattle.header.proofs.sequences.rate_of.Tie as tie
 
 returns : tie.Need-returns
-returns c = rw c.picture-rate.ensures (rate_any c.before.args.code (omega arith))
+returns c = rw c.picture_rate-table.ensures (rate_any c.before.args.code (omega arith))
 
-pub rate-of-spec : {M : Type 1} → statement M
-rate-of-spec = tie.close (tie.spec (λ c κs. search rules) (λ c. search rules) (λ c. search rules) returns)
+pub rate_of_spec : {M : Type 1} → statement M
+rate_of_spec = tie.close (tie.spec (λ c κs. search rules) (λ c. search rules) (λ c. search rules) returns)

@@ -16,21 +16,21 @@ returns c =
     let marker = buffer.before in
     let bit-rate = marker.before in
     let rate = bit-rate.before in
-    let intra = rw i.before.intra-quant-matrix.ensures at i.read-matrix.ensures.runs in
-    let other = rw o.before.non-intra-quant-matrix.ensures at o.read-matrix2.ensures.runs in (
+    let intra = rw i.before.intra_quant_matrix.ensures at i.read_matrix-intra.ensures.runs in
+    let other = rw o.before.non_intra_quant_matrix.ensures at o.read_matrix-other.ensures.runs in (
       record {
         runs =
-            r-call _ (r-reads 4 (omega arith) rate.before.read.ensures.runs) (r-call _ (r-reads 4 (omega arith) rate.read2.ensures.runs)
-            (r-call _ (r-reads 18 (omega arith) bit-rate.read3.ensures.runs) (r-call _ marker.read-bit.ensures.runs
-            (r-call _ (r-reads 10 (omega arith) buffer.read4.ensures.runs) (r-call _ constrained.read-bit2.ensures.runs
+            r-call _ (r-reads 4 (omega arith) rate.before.read-first.ensures.runs) (r-call _ (r-reads 4 (omega arith) rate.read-second.ensures.runs)
+            (r-call _ (r-reads 18 (omega arith) bit-rate.read-bit_rate.ensures.runs) (r-call _ marker.read_bit-marker.ensures.runs
+            (r-call _ (r-reads 10 (omega arith) buffer.read-buffer.ensures.runs) (r-call _ constrained.read_bit-constrained.ensures.runs
             (r-call _ intra (r-call _ other r-done)))))));
-        inside = o.read-matrix2.ensures.inside;
+        inside = o.read_matrix-other.ensures.inside;
       },
-      omega (arith, given_by (g-reads 4) rate.read2.ensures.runs),
+      omega (arith, given_by (g-reads 4) rate.read-second.ensures.runs),
     )
 
-pub read-rest-spec : {M : Type 1} → statement M
-read-rest-spec =
+pub read_rest_spec : {M : Type 1} → statement M
+read_rest_spec =
     tie.close
     (tie.spec
     (λ c κs. search rules)

@@ -10,8 +10,8 @@ returns : tie.Need-returns
 unfolding size
 returns c =
     let b = c.before.before.before in
-    let w = b.before.read.ensures in
-    let h = b.read2.ensures in (
+    let w = b.before.read-first.ensures in
+    let h = b.read-second.ensures in (
       record {
         runs = r-call _ (r-reads 12 (omega arith) w.runs) (r-call _ (r-reads 12 (omega arith) h.runs) r-done);
         inside = h.inside;
@@ -19,5 +19,5 @@ returns c =
       (omega (arith, given_by (g-reads 12) w.runs), omega (arith, given_by (g-reads 12) h.runs)),
     )
 
-pub read-size-spec : {M : Type 1} → statement M
-read-size-spec = tie.close (tie.spec (λ c κs. search rules) (λ c κs. search rules) (λ c. search rules) (λ c. search rules) returns)
+pub read_size_spec : {M : Type 1} → statement M
+read_size_spec = tie.close (tie.spec (λ c κs. search rules) (λ c κs. search rules) (λ c. search rules) (λ c. search rules) returns)

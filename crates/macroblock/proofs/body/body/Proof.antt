@@ -6,61 +6,61 @@ use Rattle.macroblock.proofs.body.body.Statement.{statement}
 use Rattle.macroblock.proofs.body.body.Tie as tie
 
 -- the entry, and where the head has been read
-abbrev start : tie.After-read-macroblock-type → tie.Start
+abbrev start : tie.After-read_macroblock_type-t → tie.Start
 start t = t.before.before.before
 
-abbrev headed : tie.After-predict-unless-intra → tie.After-read-head
+abbrev headed : tie.After-predict_unless_intra → tie.After-read_head-h
 headed u = u.before.before.before.before
 
 -- where the prediction went on
-abbrev predicted : tie.After-enum-told → tie.After-predict-unless-intra
-predicted n = n.before.before.before.before
+abbrev predicted : tie.In-Done → tie.After-predict_unless_intra
+predicted n = n.before.before.before
 
-read-head-requires : tie.Need-read-head-requires
+read-head-requires : tie.Need-read_head-h-requires
 read-head-requires c κs =
-    let p = (start c).requires in
-    (c.read-macroblock-type.ensures.inside, (p.1, p.0.reads.slice))
+    let p = (start c.before).requires in
+    (c.read_macroblock_type-t.ensures.inside, (p.1, p.0.reads.slice))
 
-predict-unless-intra-requires : tie.Need-predict-unless-intra-requires
+predict-unless-intra-requires : tie.Need-predict_unless_intra-requires
 predict-unless-intra-requires c κs =
     let h = c.before.before.before in
-    let t = h.before in
+    let t = h.before.before in
     let r = (start t).requires.0 in
-    let k = headed-possible r t.read-macroblock-type.ensures h.read_head.ensures in
-    (r.store_fits, (headed-here r t.read-macroblock-type.ensures h.read_head.ensures, k))
+    let k = headed-possible r t.read_macroblock_type-t.ensures h.read_head-h.ensures in
+    (r.store_fits, (headed-here r t.read_macroblock_type-t.ensures h.read_head-h.ensures, k))
 
-returns : tie.Need-returns
+returns : tie.Need-returns-in_default
 returns c =
-    let u = c.before.before.before.before in
+    let u = c.before.before.before in
     let h = headed u in
-    let t = h.before in
-    body_refused (start t).pre.0 t.read-macroblock-type.ensures h.read_head.ensures u.predict-unless-intra.ensures
-    u.predict-unless-intra.auto.0 (matrices_in (start t).args.tables.now) c.enum-told2.given.1
+    let t = h.before.before in
+    body_refused (start t).requires.0 t.read_macroblock_type-t.ensures h.read_head-h.ensures u.predict_unless_intra.ensures
+    u.predict_unless_intra.auto.store (matrices_in (start t).args.tables.now) c.in_default.is
 
-read-blocks-requires : tie.Need-read-blocks-requires
+read-blocks-requires : tie.Need-read_blocks-requires
 read-blocks-requires c κs =
     let p = c.before.before.before in
-    let u = predicted p.before in
+    let u = predicted p.before.before in
     let h = headed u in
-    let t = h.before in
-    let k = blocks-ready (start t).pre.0 t.read-macroblock-type.ensures h.read_head.ensures u.predict-unless-intra.ensures
-    u.predict-unless-intra.kept.0 p.read-pattern.ensures in
-    (k, (start t).pre.1)
+    let t = h.before.before in
+    let k = blocks-ready (start t).requires.0 t.read_macroblock_type-t.ensures h.read_head-h.ensures u.predict_unless_intra.ensures
+    u.predict_unless_intra.auto.store p.read_pattern-p.ensures in
+    (k, (start t).requires.1)
 
-returns-2 : tie.Need-returns-2
+returns-2 : tie.Need-returns
 returns-2 c =
     let b = c.before.before in
     let f = b.before.before.before in
     let p = f.before in
-    let u = predicted p.before in
+    let u = predicted p.before.before in
     let h = headed u in
-    let t = h.before in
-    body-on (start t).pre.0 t.read-macroblock-type.ensures h.read_head.ensures u.predict-unless-intra.ensures
-    u.predict-unless-intra.kept.0 p.read-pattern.ensures (matrices_in (start t).args.tables.now) p.before.enum_told.given.1
-    (rw f.flag.ensures at b.read-blocks.ensures)
+    let t = h.before.before in
+    body-on (start t).requires.0 t.read_macroblock_type-t.ensures h.read_head-h.ensures u.predict_unless_intra.ensures
+    u.predict_unless_intra.auto.store p.read_pattern-p.ensures (matrices_in (start t).args.tables.now) p.before.in-Done.is
+    (rw f.flag-intra.ensures at b.read_blocks.ensures)
 
-pub body-spec : {M : Type 1} → statement M
-body-spec =
+pub body_spec : {M : Type 1} → statement M
+body_spec =
     tie.close
     (tie.spec
     (λ c κs. search rules)

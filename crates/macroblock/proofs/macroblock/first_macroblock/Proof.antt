@@ -12,44 +12,44 @@ use Rattle.macroblock.proofs.macroblock.first_macroblock.Statement.{statement}
 use Rattle.macroblock.proofs.macroblock.first_macroblock.Tie as tie
 
 -- the entry, and where the address has been reached
-abbrev start : tie.After-address-plus → tie.Start
+abbrev start : tie.After-address_plus-here → tie.Start
 start f = f.before.before.before
 
-abbrev reached : tie.After-is-outside → tie.After-address-plus
+abbrev reached : tie.After-is_outside → tie.After-address_plus-here
 reached o = o.before.before
 
 -- the test, in the definition's terms
-tested : (o : tie.After-is-outside) → let size = (start (reached o)).args.g.sizes.mb_size in
-    let a = (reached o).address-plus.result.macroblock_address in
-    o.is-outside.result ≡ (lt_z a (pos 0) || le_z (pos size) a)
+tested : (o : tie.After-is_outside) → let size = (start (reached o)).args.g.sizes.mb_size in
+    let a = (reached o).address_plus-here.result.macroblock_address in
+    o.is_outside.result ≡ (lt_z a (pos 0) || le_z (pos size) a)
 tested o =
     let f = reached o in
     let size = (start f).args.g.sizes.mb_size in
-    o.is-outside.ensures ∙ ap (λ (z : ℤ). lt_z z (pos 0) || le_z (pos size) z) (address_read (further-possible (start f).pre.0 f.address-plus.ensures))
+    o.is_outside.ensures ∙ ap (λ (z : ℤ). lt_z z (pos 0) || le_z (pos size) z) (address_read (further-possible (start f).requires.0 f.address_plus-here.ensures))
 
-is-outside-requires : tie.Need-is-outside-requires
+is-outside-requires : tie.Need-is_outside-requires
 is-outside-requires c κs = size-most (start c.before).requires.0.store_fits
 
-returns : tie.Need-returns
+returns : tie.Need-returns-then-is_outside
 returns c =
     let o = c.before in
     let f = reached o in
-    first_nowhere (start f).pre.0 f.address-plus.ensures (tested o) (matrices_in (start f).args.tables.now) c.if1.true
+    first_nowhere (start f).requires.0 f.address_plus-here.ensures (tested o) (matrices_in (start f).args.tables.now) c.if-is_outside.true
 
 body-requires : tie.Need-body-requires
 body-requires c κs =
     let i = c.before.before in
     let f = reached i.before in
-    (first-ready (start f).pre.0 f.address-plus.ensures (tested i.before) i.if1.false, (start f).pre.1)
+    (first-ready (start f).requires.0 f.address_plus-here.ensures (tested i.before) i.if-is_outside.false, (start f).requires.1)
 
-returns-2 : tie.Need-returns-2
+returns-2 : tie.Need-returns
 returns-2 c =
     let b = c.before.before in
     let i = b.before.before.before in
     let f = reached i.before in
-    first_body (start f).pre.0 f.address-plus.ensures (tested i.before) (matrices_in (start f).args.tables.now) i.if1.false b.body.ensures
+    first_body (start f).requires.0 f.address_plus-here.ensures (tested i.before) (matrices_in (start f).args.tables.now) i.if-is_outside.false b.body.ensures
 
-pub first-macroblock-spec : {M : Type 1} → statement M
-first-macroblock-spec =
+pub first_macroblock_spec : {M : Type 1} → statement M
+first_macroblock_spec =
     tie.close
     (tie.spec (λ c κs. search rules) is-outside-requires returns body-requires (λ c. search rules) returns-2)

@@ -15,13 +15,13 @@ use Rattle.macroblock.proofs.macroblock.later_macroblock.Tie as tie
 abbrev start : tie.After-past → tie.Start
 start o = o.before.before.before.before
 
-abbrev inside : tie.After-advance → tie.Else1
+abbrev inside : tie.After-advance-a → tie.Else-past
 inside a = a.before.before
 
-abbrev stopped : tie.Then2 → tie.After-advance
+abbrev stopped : tie.Then-stop-ne0 → tie.After-advance-a
 stopped z = z.before.before.before.before
 
-abbrev advanced : tie.Else2 → tie.After-advance
+abbrev advanced : tie.Else-stop-ne0 → tie.After-advance-a
 advanced z = z.before.before.before.before
 
 -- the test, in the definition's terms
@@ -36,42 +36,42 @@ past-requires c κs =
     let k = c.before.before.before.requires.0 in
     (size-most k.store_fits, rw (address_read k.reads.slice) k.adds)
 
-returns : tie.Need-returns
-returns c = let o = c.before in later-past (start o).requires.0 (matrices_in (start o).args.tables.now) (sym (tested o) ∙ c.if1.true)
+returns : tie.Need-returns-then-past
+returns c = let o = c.before in later-past (start o).requires.0 (matrices_in (start o).args.tables.now) (sym (tested o) ∙ c.if-past.true)
 
 -- there are more macroblocks, where the advance begins
-more : (i : tie.Else1) → let a = (start i.before).args in le_z (pos a.g.sizes.mb_size) (a.state.macroblock_address +ℤ pos a.n) ≡ false
-more i = sym (tested i.before) ∙ i.if1.false
+more : (i : tie.Else-past) → let a = (start i.before).args in le_z (pos a.g.sizes.mb_size) (a.state.macroblock_address +ℤ pos a.n) ≡ false
+more i = sym (tested i.before) ∙ i.if-past.false
 
-advance-requires : tie.Need-advance-requires
+advance-requires : tie.Need-advance-a-requires
 advance-requires c κs =
     let i = c.before in
     let k = (start i.before).requires.0 in
     (k.store_fits, (k.reads.slice, more i))
 
-returns-2 : tie.Need-returns-2
+returns-2 : tie.Need-returns-then-stop-ne0
 returns-2 c =
     let v = stopped c in
     let s = start (inside v).before in
-    later-stop s.pre.0 (more (inside v)) v.advance.ensures v.advance.kept.0 (matrices_in s.args.tables.now) c.if2.true
+    later-stop s.requires.0 (more (inside v)) v.advance-a.ensures v.advance-a.auto.store (matrices_in s.args.tables.now) c.if-stop-ne0.true
 
 body-requires : tie.Need-body-requires
 body-requires c κs =
     let z = c.before.before in
     let v = advanced z in
     let s = start (inside v).before in
-    (later-ready s.pre.0 (more (inside v)) v.advance.ensures v.advance.kept.0 z.if2.false, s.pre.1)
+    (later-ready s.requires.0 (more (inside v)) v.advance-a.ensures v.advance-a.auto.store z.if-stop-ne0.false, s.requires.1)
 
-returns-3 : tie.Need-returns-3
+returns-3 : tie.Need-returns
 returns-3 c =
     let b = c.before.before in
     let z = b.before.before.before in
     let v = advanced z in
     let s = start (inside v).before in
-    later-body s.pre.0 (more (inside v)) v.advance.ensures v.advance.kept.0 (matrices_in s.args.tables.now) z.if2.false b.body.ensures
+    later-body s.requires.0 (more (inside v)) v.advance-a.ensures v.advance-a.auto.store (matrices_in s.args.tables.now) z.if-stop-ne0.false b.body.ensures
 
-pub later-macroblock-spec : {M : Type 1} → statement M
-later-macroblock-spec =
+pub later_macroblock_spec : {M : Type 1} → statement M
+later_macroblock_spec =
     tie.close
     (tie.spec
     past-requires

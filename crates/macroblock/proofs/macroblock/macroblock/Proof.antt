@@ -5,29 +5,29 @@ use Rattle.macroblock.proofs.Laters.{begun, between, macroblock-first, macrobloc
 use Rattle.macroblock.proofs.macroblock.macroblock.Statement.{statement}
 use Rattle.macroblock.proofs.macroblock.macroblock.Tie as tie
 
-abbrev start : tie.After-read-increment → tie.Start
+abbrev start : tie.After-read_increment-n → tie.Start
 start n = n.before.before.before
 
-returns : tie.Need-returns
+returns : tie.Need-returns-then-first
 returns c =
     let f = c.before.before in let i = f.before.before.before in let n = i.before.before in
-    macroblock-first (start n).requires.0 n.read-increment.ensures (matrices_in (start n).args.tables.now) i.if1.true f.first-macroblock.ensures
+    macroblock-first (start n).requires.0 n.read_increment-n.ensures (matrices_in (start n).args.tables.now) i.if-first.true f.first_macroblock.ensures
 
-returns-2 : tie.Need-returns-2
+returns-2 : tie.Need-returns
 returns-2 c =
     let f = c.before.before in let i = f.before.before.before in let n = i.before.before in
-    macroblock-later (start n).requires.0 n.read-increment.ensures (matrices_in (start n).args.tables.now) i.if1.false f.later-macroblock.ensures
+    macroblock-later (start n).requires.0 n.read_increment-n.ensures (matrices_in (start n).args.tables.now) i.if-first.false f.later_macroblock.ensures
 
-pub macroblock-spec : {M : Type 1} → statement M
-macroblock-spec =
+pub macroblock_spec : {M : Type 1} → statement M
+macroblock_spec =
     tie.close
     (tie.spec
     (λ c κs. search rules)
     (λ c κs.
-    let i = c.before.before in let n = i.before.before in (begun (start n).requires.0 n.read-increment.ensures i.if1.true, (start n).requires.1))
+    let i = c.before.before in let n = i.before.before in (begun (start n).requires.0 n.read_increment-n.ensures i.if-first.true, (start n).requires.1))
     (λ c. search rules)
     returns
     (λ c κs.
-    let i = c.before.before in let n = i.before.before in (between (start n).requires.0 n.read-increment.ensures i.if1.false, (start n).requires.1))
+    let i = c.before.before in let n = i.before.before in (between (start n).requires.0 n.read_increment-n.ensures i.if-first.false, (start n).requires.1))
     (λ c. search rules)
     returns-2)

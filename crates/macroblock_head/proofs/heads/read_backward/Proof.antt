@@ -4,13 +4,13 @@ use borrow.Author.Rules.{rules}
 use Rattle.macroblock_head.proofs.heads.read_backward.Statement.{statement}
 use Rattle.macroblock_head.proofs.heads.read_backward.Tie as tie
 
-returns : tie.Need-returns
+returns : tie.Need-returns-then-m
 unfolding backward
-returns c = let r = c.read_vector.ensures in record { runs = r-yes _ c.before.if1.true r.runs; inside = r.inside }
+returns c = let r = c.read_vector.ensures in record { runs = r-yes _ c.before.if-m.true r.runs; inside = r.inside }
 
-returns-2 : tie.Need-returns-2
+returns-2 : tie.Need-returns
 unfolding backward
-returns-2 c = record { runs = r-no _ c.if1.false r-done; inside = c.before.before.requires.0 }
+returns-2 c = record { runs = r-no _ c.if-m.false r-done; inside = c.before.before.requires.0 }
 
-pub read-backward-spec : {M : Type 1} → statement M
-read-backward-spec = tie.close (tie.spec (λ c κs. search rules) returns returns-2)
+pub read_backward_spec : {M : Type 1} → statement M
+read_backward_spec = tie.close (tie.spec (λ c κs. search rules) returns returns-2)

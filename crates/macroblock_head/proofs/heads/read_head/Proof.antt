@@ -5,39 +5,39 @@ use Rattle.macroblock_head.proofs.heads.read_head.Statement.{statement}
 use Rattle.macroblock_head.proofs.heads.read_head.Tie as tie
 
 -- where the scale has been read, from the test of the flag "intra"
-abbrev scaled : tie.After-flag → tie.After-read-scale
+abbrev scaled : tie.After-flag → tie.After-read_scale-q
 scaled f = f.before.before.before
 
-abbrev start : tie.After-read-scale → tie.Start
+abbrev start : tie.After-read_scale-q → tie.Start
 start q = q.before.before.before
 
-returns : tie.Need-returns
+returns : tie.Need-returns-then-flag
 returns c =
     let f = c.before.before in
     let q = scaled f in
     let a = (start q).args in
-    head-still a.t a.before q.before.flagged.ensures q.read-scale.ensures a.picture-type
-    (sym f.flag.ensures ∙ c.before.if1.true) c.vectors-reset.ensures
+    head-still a.t a.before q.before.flagged.ensures q.read_scale-q.ensures a.picture_type
+    (sym f.flag.ensures ∙ c.before.if-flag.true) c.vectors_reset-state.ensures
 
-read-vectors-requires : tie.Need-read-vectors-requires
+read-vectors-requires : tie.Need-read_vectors-requires
 read-vectors-requires c κs =
     let q = scaled c.before.before in
     let a = (start q).args in
-    let p = (start q).pre in
-    let k = scaled-possible a.t a.before q.before.flagged.ensures q.read-scale.ensures p.1.1 in
-    (q.read-scale.ensures.inside, (p.1.0, rw c.reset.ensures (record { forward = k.forward; backward = k.backward })))
+    let p = (start q).requires in
+    let k = scaled-possible a.t a.before q.before.flagged.ensures q.read_scale-q.ensures p.1.1 in
+    (q.read_scale-q.ensures.inside, (p.1.0, rw c.reset-fresh.ensures (record { forward = k.forward; backward = k.backward })))
 
-returns-2 : tie.Need-returns-2
+returns-2 : tie.Need-returns
 returns-2 c =
     let r = c.before in
     let f = r.before.before in
     let q = scaled f in
     let a = (start q).args in
-    head-vectors a.t a.before q.before.flagged.ensures q.read-scale.ensures a.picture-type
-    (sym f.flag.ensures ∙ r.before.if1.false) r.reset.ensures c.read-vectors.ensures
+    head-vectors a.t a.before q.before.flagged.ensures q.read_scale-q.ensures a.picture_type
+    (sym f.flag.ensures ∙ r.before.if-flag.false) r.reset-fresh.ensures c.read_vectors.ensures
 
-pub read-head-spec : {M : Type 1} → statement M
-read-head-spec =
+pub read_head_spec : {M : Type 1} → statement M
+read_head_spec =
     tie.close
     (tie.spec (λ c κs. search rules) (λ c κs. search rules) (λ c κs. search rules) (λ c κs. search rules) returns (λ c κs. search rules)
     read-vectors-requires returns-2)

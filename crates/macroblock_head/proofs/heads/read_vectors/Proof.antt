@@ -8,8 +8,8 @@ returns : tie.Need-returns
 unfolding vectors
 returns c =
     let b = c.before.before.before in
-    let r = b.read-backward.ensures in
-    record { runs = r-call _ b.before.read-forward.ensures.runs (r-call _ r.runs r-done); inside = r.inside }
+    let r = b.read_backward-b.ensures in
+    record { runs = r-call _ b.before.read_forward-f.ensures.runs (r-call _ r.runs r-done); inside = r.inside }
 
-pub read-vectors-spec : {M : Type 1} → statement M
-read-vectors-spec = tie.close (tie.spec (λ c κs. search rules) (λ c κs. search rules) returns)
+pub read_vectors_spec : {M : Type 1} → statement M
+read_vectors_spec = tie.close (tie.spec (λ c κs. search rules) (λ c κs. search rules) returns)

@@ -5,5 +5,5 @@ use Rattle.macroblock_head.proofs.heads.reset.Tie as tie
 returns : tie.Need-returns
 returns c = refl
 
-pub reset-spec : {M : Type 1} → statement M
-reset-spec = tie.close (tie.spec returns)
+pub reset_spec : {M : Type 1} → statement M
+reset_spec = tie.close (tie.spec returns)

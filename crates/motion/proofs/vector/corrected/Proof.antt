@@ -35,10 +35,10 @@ module _ (s : tie.Start) where
   f = 2 ^ s.args.r
 
   scaled : f ≤ 64
-  scaled = pow_mono s.pre.0
+  scaled = pow_mono s.requires.0
 
   abbrev ρ : List (Input w32)
-  ρ = signed w32 s.args.motion 2048 s.pre.1
+  ρ = signed w32 s.args.motion 2048 s.requires.1
       ∷ local w32 (1 * f % 4294967296 * 16 % 4294967296) (pos (16 * f)) 1024 (record { is = omega (arith, scaled); bound = omega (arith, scaled) })
       ∷ local w32 (1 * f % 4294967296 * 32 % 4294967296) (pos (32 * f)) 2048 (record { is = omega (arith, scaled); bound = omega (arith, scaled) })
       ∷ []
@@ -51,27 +51,27 @@ module _ (s : tie.Start) where
       rw (test ρ top motion tt tt e, test ρ motion bottom tt tt g, value ρ less tt, value ρ more tt, value ρ motion tt)
 
 -- the results first, the one without a correction before the others: a wrong test or correction is refused at the result that it makes wrong
-returns-3 : tie.Need-returns-3
-returns-3 c = chosen c.before.before c.before.if1.false c.if2.false
+returns-3 : tie.Need-returns
+returns-3 c = chosen c.before.before c.before.if-motion-fscale.false c.if-motion-fscale-2.false
 
-returns : tie.Need-returns
-returns c = chosen c.before c.if1.true refl
+returns : tie.Need-returns-then-motion-fscale
+returns c = chosen c.before c.if-motion-fscale.true refl
 
-returns-2 : tie.Need-returns-2
-returns-2 c = chosen c.before.before c.before.if1.false c.if2.true
+returns-2 : tie.Need-returns-then-motion-fscale-2
+returns-2 c = chosen c.before.before c.before.if-motion-fscale.false c.if-motion-fscale-2.true
 
-sub-if1 : tie.Need-overflow-sub-if1
+sub-if1 : tie.Need-overflow_sub-fscale
 sub-if1 c = need (ρ c) top tt
 
-sub-result : tie.Need-overflow-sub-result
+sub-result : tie.Need-overflow_sub-result
 sub-result c = need (ρ c.before) less tt
 
-sub-if2 : tie.Need-overflow-sub-if2
+sub-if2 : tie.Need-overflow_sub-fscale-2
 sub-if2 c = need (ρ c.before) bottom tt
 
-add-result : tie.Need-overflow-add-result
+add-result : tie.Need-overflow_add-result
 add-result c = need (ρ c.before.before) more tt
 
-pub corrected-spec : {M : Type 1} → statement M
-corrected-spec =
+pub corrected_spec : {M : Type 1} → statement M
+corrected_spec =
     tie.close (tie.spec (λ c. search rules) (λ c. search rules) sub-if1 sub-result returns sub-if2 add-result returns-2 returns-3)

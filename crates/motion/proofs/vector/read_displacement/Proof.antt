@@ -1,5 +1,5 @@
 use mathlib.Core.Path.{◌≡◌, ap}
-use mathlib.Core.Bool.{true, false, ◌||◌, or_true}
+use mathlib.Core.Bool.{true, false, ◌||◌, or-true}
 use mathlib.Core.Logic.{⊎_elim}
 use Prim.Native.Nat.{ℕ, ◌≤◌, ◌<◌}
 use native.Mathlib.Omega.{arith}
@@ -25,21 +25,21 @@ module _ (m : ℤ) (r : ℕ) where
   no_code e = rw (eq_z-yes m (pos 0) e)
 
   no_bits : eqb r 0 ≡ true → (eq_z m (pos 0) || eqb r 0) ≡ true
-  no_bits e = rw e (or_true (eq_z m (pos 0)))
+  no_bits e = rw e (or-true (eq_z m (pos 0)))
 
   both : 0 < nat_abs m → eqb r 0 ≡ false → (eq_z m (pos 0) || eqb r 0) ≡ false
   both h e = rw (eq_z-no m (pos 0) (λ z. omega (arith, ap nat_abs z)), e)
 
 -- the code that was read
-module _ (x : tie.After-read-motion) where
+module _ (x : tie.After-read_motion-code) where
   abbrev m : ℤ
-  m = x.read-motion.result.value
+  m = x.read_motion-code.result.value
 
   abbrev r : ℕ
   r = x.before.before.args.r
 
   small : nat_abs m ≤ 16
-  small = given_by motion-most x.read-motion.ensures.runs
+  small = given_by motion-most x.read_motion-code.ensures.runs
 
   fits : SFits w32 m
   fits = let b = abs-of (v m) small in fits_by (v m) (omega arith) (omega arith)
@@ -47,33 +47,35 @@ module _ (x : tie.After-read-motion) where
   some : (of_z w32 m ≡ 0 → ⊥) → 0 < nat_abs m
   some g = omega (arith, nat_abs-is m, not-zero w32 m g)
 
-returns : tie.Need-returns
+returns : tie.Need-returns-then-m_code-eq0
 unfolding displacement
 returns c =
     let x = c.before.before.before in
-    let t = ⊎_elim (λ w. no_code (m x) (r x) (zero_bits w32 (fits x) w.taken)) (λ w. no_bits (m x) (r x) w.1.taken) c.if1.branch in
-    rw (to_z-of_z (fits x)) (reading x.before.before.requires.0 (r-call _ x.read-motion.ensures.runs (r-yes _ t r-done)))
+    let t =
+    ⊎_elim (λ w. no_code (m x) (r x) (zero_bits w32 (fits x) w.if-m_code-eq0.true)) (λ w. no_bits (m x) (r x) w.if-r-eq0.true-raw)
+    c.then-m_code-eq0.branch-raw in
+    rw (to_z-of_z (fits x)) (reading x.before.before.requires.0 (r-call _ x.read_motion-code.ensures.runs (r-yes _ t r-done)))
 
 -- the code from where its residual has been read
-abbrev code : tie.After-read → tie.After-read-motion
+abbrev code : tie.After-read-residual → tie.After-read_motion-code
 code c = c.before.before.before.before.before
 
-displacement-requires : tie.Need-displacement-requires
+displacement-requires : tie.Need-displacement-d-requires
 displacement-requires c κs =
     let y = c.before in
     let x = code y in
-    let coded = some x y.before.before.if1.false in
-    (x.before.before.pre.1.1, (rw (to_z-of_z (fits x)) (coded, small x), given_by (g-reads (r x)) y.read.ensures.runs))
+    let coded = some x y.before.before.if-m_code-eq0.false in
+    (x.before.before.requires.1.1, (rw (to_z-of_z (fits x)) (coded, small x), given_by (g-reads (r x)) y.read-residual.ensures.runs))
 
-returns-2 : tie.Need-returns-2
+returns-2 : tie.Need-returns
 unfolding displacement
 returns-2 c =
     let y = c.before.before in
     let x = code y in
-    let t = both (m x) (r x) (some x y.before.before.if1.false) y.before.if2.false in
-    let b = r-reads (r x) (omega arith) y.read.ensures.runs in
-    rw (to_z-of_z (sfits_of c.displacement.type-inv), c.displacement.ensures, to_z-of_z (fits x))
-    (reading x.before.before.pre.0 (r-call _ x.read-motion.ensures.runs (r-no _ t (r-call _ b r-done))))
+    let t = both (m x) (r x) (some x y.before.before.if-m_code-eq0.false) y.before.if-r-eq0.false-raw in
+    let b = r-reads (r x) (omega arith) y.read-residual.ensures.runs in
+    rw (to_z-of_z (sfits_of {w = w32} c.displacement-d.type_inv), c.displacement-d.ensures, to_z-of_z (fits x))
+    (reading x.before.before.requires.0 (r-call _ x.read_motion-code.ensures.runs (r-no _ t (r-call _ b r-done))))
 
-pub read-displacement-spec : {M : Type 1} → statement M
-read-displacement-spec = tie.close (tie.spec (λ c κs. search rules) returns (λ c κs. search rules) displacement-requires returns-2)
+pub read_displacement_spec : {M : Type 1} → statement M
+read_displacement_spec = tie.close (tie.spec (λ c κs. search rules) returns (λ c κs. search rules) displacement-requires returns-2)

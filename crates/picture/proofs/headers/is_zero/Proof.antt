@@ -13,5 +13,5 @@ zero_of false full f = refl
 returns : tie.Need-returns
 returns c = let d = c.before.before.args.d in zero_of d.present d.full_pel_vector d.f_code
 
-pub is-zero-spec : {M : Type 1} → statement M
-is-zero-spec = tie.close (tie.spec returns)
+pub is_zero_spec : {M : Type 1} → statement M
+is_zero_spec = tie.close (tie.spec returns)

@@ -14,15 +14,15 @@ returns c =
     let d = f.before in
     let t = d.before in
     let r = t.before in
-    let back = rw z.is_zero.ensures at b.read-direction2.ensures.runs in
+    let back = rw z.is_zero.ensures at b.read_direction-b.ensures.runs in
     record {
-      runs = r-call _ (r-reads 10 (omega arith) r.read.ensures.runs) (r-call _ (r-reads 3 (omega arith) t.read2.ensures.runs)
-          (r-call _ (r-reads 16 (omega arith) d.read3.ensures.runs) (r-call _ f.read-direction.ensures.runs (r-call _ back r-done))));
-      inside = b.read-direction2.ensures.inside;
+      runs = r-call _ (r-reads 10 (omega arith) r.read-temporal.ensures.runs) (r-call _ (r-reads 3 (omega arith) t.read-t.ensures.runs)
+          (r-call _ (r-reads 16 (omega arith) d.read-delay.ensures.runs) (r-call _ f.read_direction-f.ensures.runs (r-call _ back r-done))));
+      inside = b.read_direction-b.ensures.inside;
     }
 
-pub read-picture-header-spec : {M : Type 1} → statement M
-read-picture-header-spec =
+pub read_picture_header_spec : {M : Type 1} → statement M
+read_picture_header_spec =
     tie.close
     (tie.spec
     (λ c κs. search rules)

@@ -4,12 +4,12 @@ use Rattle.picture.proofs.PictureLoop.{below-first, from_first}
 use Rattle.picture.proofs.pictures.is_slice.Statement.{statement}
 use Rattle.picture.proofs.pictures.is_slice.Tie as tie
 
-returns : tie.Need-returns
-returns c = sym (below-first c.before.args.code (rw (to_z-of_z c.before.ranges.code) at c.if1.true))
+returns : tie.Need-returns-then-code-lt1
+returns c = sym (below-first c.before.args.code (rw (to_z-of_z c.before.ranges.code) at c.if-code-lt1.true))
 
-returns-2 : tie.Need-returns-2
+returns-2 : tie.Need-returns
 returns-2 c =
-    rw (to_z-of_z c.before.ranges.code) (from_first c.before.args.code (rw (to_z-of_z c.before.ranges.code) at c.if1.false))
+    rw (to_z-of_z c.before.ranges.code) (from_first c.before.args.code (rw (to_z-of_z c.before.ranges.code) at c.if-code-lt1.false))
 
-pub is-slice-spec : {M : Type 1} → statement M
-is-slice-spec = tie.close (tie.spec returns returns-2)
+pub is_slice_spec : {M : Type 1} → statement M
+is_slice_spec = tie.close (tie.spec returns returns-2)

@@ -14,11 +14,11 @@ same : (e b : Bool) → b ≡ false → e ≡ (e && not b)
 same true b q = rw q
 same false b q = refl
 
-returns : tie.Need-returns
-returns c = none (is_extra c.before.args.code) _ c.if1.true
+returns : tie.Need-returns-then-begun
+returns c = none (is_extra c.before.args.code) _ c.if-begun.true
 
-returns-2 : tie.Need-returns-2
-returns-2 c = rw (to_z-of_z c.before.before.ranges.code) at c.is-extra.ensures ∙ same (is_extra c.before.before.args.code) _ c.before.if1.false
+returns-2 : tie.Need-returns
+returns-2 c = rw (to_z-of_z c.before.before.ranges.code) at c.is_extra.ensures ∙ same (is_extra c.before.before.args.code) _ c.before.if-begun.false
 
-pub passes-over-spec : {M : Type 1} → statement M
-passes-over-spec = tie.close (tie.spec returns (λ c κs. search rules) returns-2)
+pub passes_over_spec : {M : Type 1} → statement M
+passes_over_spec = tie.close (tie.spec returns (λ c κs. search rules) returns-2)

@@ -18,7 +18,7 @@ elements (x ∷ xs) (u ∷ us) p zero = p.0.1
 elements (x ∷ xs) (u ∷ us) p (suc k) = elements xs us p.1 k
 
 returns : tie.Need-returns
-returns c = let g = c.well-formed.0 in (g.1.0.1, elements c.args.matrix g.0 g.1.1)
+returns c = let g = c.well_formed.0 in (g.1.0.1, elements c.args.matrix g.0 g.1.1)
 
-pub has-bytes-spec : {M : Type 1} → statement M
-has-bytes-spec = tie.close (tie.spec returns)
+pub has_bytes_spec : {M : Type 1} → statement M
+has_bytes_spec = tie.close (tie.spec returns)

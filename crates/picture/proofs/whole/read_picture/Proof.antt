@@ -30,49 +30,49 @@ held_as p z k q =
     }
 
 -- where the header has been read, and the entry
-abbrev header : tie.After-with-header → tie.After-read-picture-header
+abbrev header : tie.After-with_header-headed → tie.After-read_picture_header-h
 header w = w.before.before
 
-abbrev start : tie.After-read-picture-header → tie.Start
+abbrev start : tie.After-read_picture_header-h → tie.Start
 start h = h.before.before.before
 
-read-slices-in-roles-requires : tie.Need-read-slices-in-roles-requires
+read-slices-in-roles-requires : tie.Need-read_slices_in_roles-requires
 read-slices-in-roles-requires c κs =
     let w = c.before.before.before.before in
     let h = header w in
     let s = start h in
     let a = s.args in
-    let r = h.read-picture-header.ensures in
-    let k = headed-possible s.pre.1.0 (given_by header-fits r.runs) in
-    rw w.with-header.ensures (r.inside, (k, (s.pre.1.1.0, held_as a.p a.sizes s.pre.1.1.1 k)))
+    let r = h.read_picture_header-h.ensures in
+    let k = headed-possible s.requires.1.0 (given_by header-fits r.runs) in
+    rw w.with_header-headed.ensures (r.inside, (k, (s.requires.1.1.0, held_as a.p a.sizes s.requires.1.1.1 k)))
 
-returns : tie.Need-returns
+returns : tie.Need-returns-then-is_decoded
 unfolding picture
 returns c =
     let d = c.before.before in
     let t = d.before.before.before in
     let w = t.before.before in
     let h = header w in
-    let r = d.read-slices-in-roles.ensures in
+    let r = d.read_slices_in_roles.ensures in
     record {
       runs =
-          t_call _ h.read-picture-header.ensures.runs
-          (t-yes _ (sym t.before.is-decoded.ensures ∙ t.if1.true) (rw w.with-header.ensures at r.runs));
+          t_call _ h.read_picture_header-h.ensures.runs
+          (t-yes _ (sym t.before.is_decoded.ensures ∙ t.if-is_decoded.true) (rw w.with_header-headed.ensures at r.runs));
       inside = r.inside;
     }
 
-returns-2 : tie.Need-returns-2
+returns-2 : tie.Need-returns
 unfolding picture
 returns-2 c =
     let w = c.before.before in
     let h = header w in
-    let r = h.read-picture-header.ensures in
+    let r = h.read_picture_header-h.ensures in
     record {
-      runs = rw w.with-header.ensures (t_call _ r.runs (t-no _ (sym c.before.is-decoded.ensures ∙ c.if1.false) (t-done refl)));
+      runs = rw w.with_header-headed.ensures (t_call _ r.runs (t-no _ (sym c.before.is_decoded.ensures ∙ c.if-is_decoded.false) (t-done refl)));
       inside = r.inside;
     }
 
-pub read-picture-spec : {M : Type 1} → statement M
-read-picture-spec =
+pub read_picture_spec : {M : Type 1} → statement M
+read_picture_spec =
     tie.close
     (tie.spec (λ c κs. search rules) (λ c κs. search rules) (λ c κs. search rules) read-slices-in-roles-requires (λ c. search rules) returns returns-2)

@@ -4,11 +4,11 @@ use borrow.Author.Tests.{eq-eqb, ne_eqb}
 use Rattle.picture.proofs.whole.with_direction.Statement.{statement}
 use Rattle.picture.proofs.whole.with_direction.Tie as tie
 
-returns : tie.Need-returns
-returns c = rw (c.before.before.if1.true, eq-eqb _ 0 c.if2.true) refl
+returns : tie.Need-returns-then-d-eq0
+returns c = rw (c.before.before.if-d.true, eq-eqb _ 0 c.if-d-eq0.true) refl
 
-returns-2 : tie.Need-returns-2
-returns-2 c = let e = c.before in rw (e.before.before.if1.true, ne_eqb _ 0 e.if2.false) refl
+returns-2 : tie.Need-returns-then-d
+returns-2 c = let e = c.before in rw (e.before.before.if-d.true, ne_eqb _ 0 e.if-d-eq0.false) refl
 
-pub with-direction-spec : {M : Type 1} → statement M
-with-direction-spec = tie.close (tie.spec returns (λ c. search rules) returns-2 (λ c. search rules))
+pub with_direction_spec : {M : Type 1} → statement M
+with_direction_spec = tie.close (tie.spec returns (λ c. search rules) returns-2 (λ c. search rules))

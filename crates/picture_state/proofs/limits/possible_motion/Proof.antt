@@ -8,11 +8,11 @@ returns : tie.Need-returns
 returns c =
     let s = c.before.before in
     rw (
-      c.before.between.ensures,
-      c.between2.ensures,
-      to_z-of_z {w = w32} (sfits_of s.before.struct_told.given.1.1.1.0.1),
-      to_z-of_z {w = w32} (sfits_of s.struct-told2.given.1.1.1.1.0.1),
+      c.before.between-across.ensures,
+      c.between-down.ensures,
+      to_z-of_z {w = w32} (sfits_of s.before.struct_told-1.given.1.1.1.0.1),
+      to_z-of_z {w = w32} (sfits_of s.struct_told-2-1.given.1.1.1.1.0.1),
     )
 
-pub possible-motion-spec : {M : Type 1} → statement M
-possible-motion-spec = tie.close (tie.spec (λ c κs. search rules) (λ c κs. search rules) returns)
+pub possible_motion_spec : {M : Type 1} → statement M
+possible_motion_spec = tie.close (tie.spec (λ c κs. search rules) (λ c κs. search rules) returns)

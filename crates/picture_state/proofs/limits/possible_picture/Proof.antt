@@ -8,12 +8,12 @@ returns : tie.Need-returns
 returns c =
     let b = c.before.before in
     rw (
-      c.possible-slice.ensures,
-      b.between.ensures,
-      c.before.possible-stores.ensures,
-      to_z-of_z {w = w32} (sfits_of b.before.struct_told.given.1.0.1),
+      c.possible_slice-slice.ensures,
+      b.between-inside.ensures,
+      c.before.possible_stores-stores.ensures,
+      to_z-of_z {w = w32} (sfits_of b.before.struct_told-1.given.1.0.1),
     )
 
-pub possible-picture-spec : {M : Type 1} → statement M
-possible-picture-spec =
+pub possible_picture_spec : {M : Type 1} → statement M
+possible_picture_spec =
     tie.close (tie.spec (λ c κs. search rules) (λ c κs. search rules) (λ c κs. search rules) returns)

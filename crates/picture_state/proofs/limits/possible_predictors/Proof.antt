@@ -11,16 +11,16 @@ returns c =
     let b = c.before.before in
     let a = b.before.before in
     rw (
-      a.dc-in-range.ensures,
-      b.dc-in-range2.ensures,
-      c.dc-in-range3.ensures,
-      to_z-of_z {w = w32} (sfits_of a.before.dc-in-range-arg.given),
-      to_z-of_z {w = w32} (sfits_of b.before.dc-in-range-arg2.given),
-      to_z-of_z {w = w32} (sfits_of c.before.dc-in-range-arg3.given),
+      a.dc_in_range-y.ensures,
+      b.dc_in_range-cr.ensures,
+      c.dc_in_range-cb.ensures,
+      to_z-of_z {w = w32} (sfits_of a.before.dc_in_range-arg-1.given),
+      to_z-of_z {w = w32} (sfits_of b.before.dc_in_range-arg-2-1.given),
+      to_z-of_z {w = w32} (sfits_of c.before.dc_in_range-arg-3-1.given),
     )
 
-pub possible-predictors-spec : {M : Type 1} → statement M
-possible-predictors-spec =
+pub possible_predictors_spec : {M : Type 1} → statement M
+possible_predictors_spec =
     tie.close
     (tie.spec
     (λ c. search rules)

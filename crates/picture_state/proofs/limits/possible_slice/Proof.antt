@@ -8,15 +8,15 @@ returns : tie.Need-returns
 returns c =
     let b = c.before.before.before in
     rw (
-      b.between.ensures,
-      c.before.before.possible-motion.ensures,
-      c.before.possible-motion2.ensures,
-      c.possible-predictors.ensures,
-      to_z-of_z {w = w32} (sfits_of b.before.before.struct_told.given.1.0.1),
+      b.between-inside.ensures,
+      c.before.before.possible_motion-forward.ensures,
+      c.before.possible_motion-backward.ensures,
+      c.possible_predictors-predictors.ensures,
+      to_z-of_z {w = w32} (sfits_of b.before.before.struct_told-1.given.1.0.1),
     )
 
-pub possible-slice-spec : {M : Type 1} → statement M
-possible-slice-spec =
+pub possible_slice_spec : {M : Type 1} → statement M
+possible_slice_spec =
     tie.close
     (tie.spec
     (λ c κs. search rules)

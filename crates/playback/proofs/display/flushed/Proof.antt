@@ -11,7 +11,7 @@ use Rattle.playback.proofs.display.flushed.Tie as tie
 abbrev ends : OutcomeState → Step State OutcomeState
 ends g = finish g
 
-returns : tie.Need-returns
+returns : tie.Need-returns-then-held-ended
 returns c =
     let t = c.before in
     let x = t.before in
@@ -19,19 +19,19 @@ returns c =
     let h = i.before in
     let p = h.before in
     let d = p.before.before.args.d in
-    steps_as (rw (t.shown-picture.ensures, x.has-reference-frame-as.ensures) at c.finished.ensures)
-    (ap ends (flush-yes _ d (rw (h.has_ended.ensures.0, p.from-position.ensures) at i.if1.true)))
+    steps_as (rw (t.shown_picture.ensures, x.has_reference_frame_as-x.ensures) at c.finished.ensures)
+    (ap ends (flush-yes _ d (rw (h.has_ended-ended.ensures.0, p.from_position.ensures) at i.if-held-ended.true)))
 
-returns-2 : tie.Need-returns-2
+returns-2 : tie.Need-returns
 returns-2 c =
     let i = c.before in
     let h = i.before in
     let p = h.before in
     let d = p.before.before.args.d in
-    steps_as c.finished2.ensures (ap ends (flush-no _ d (rw (h.has_ended.ensures.0, p.from-position.ensures) at i.if1.false)))
+    steps_as c.finished-2.ensures (ap ends (flush-no _ d (rw (h.has_ended-ended.ensures.0, p.from_position.ensures) at i.if-held-ended.false)))
 
-pub flushed-spec : {M : Type 1} → statement M
-flushed-spec =
+pub flushed_spec : {M : Type 1} → statement M
+flushed_spec =
     tie.close
     (tie.spec
     (λ c κs. search rules)

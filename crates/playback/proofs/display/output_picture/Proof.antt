@@ -7,7 +7,7 @@ returns : tie.Need-returns
 unfolding output_picture
 returns c =
     let t = c.before in
-    rw (t.shown-picture.ensures, t.before.counted.ensures) at c.finished.ensures
+    rw (t.shown_picture.ensures, t.before.counted-x.ensures) at c.finished.ensures
 
-pub output-picture-spec : {M : Type 1} → statement M
-output-picture-spec = tie.close (tie.spec (λ c κs. search rules) (λ c κs. search rules) (λ c κs. search rules) returns)
+pub output_picture_spec : {M : Type 1} → statement M
+output_picture_spec = tie.close (tie.spec (λ c κs. search rules) (λ c κs. search rules) (λ c κs. search rules) returns)

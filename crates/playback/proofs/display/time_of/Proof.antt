@@ -8,5 +8,5 @@ returns : tie.Need-returns
 unfolding time_of
 returns c = refl
 
-pub time-of-spec : {M : Type 1} → statement M
-time-of-spec = tie.close (tie.spec (λ c. search rules) returns)
+pub time_of_spec : {M : Type 1} → statement M
+time_of_spec = tie.close (tie.spec (λ c. search rules) returns)

@@ -5,5 +5,5 @@ use Rattle.playback.proofs.outcome.shown_picture.Tie as tie
 returns : tie.Need-returns
 returns c = refl
 
-pub shown-picture-spec : {M : Type 1} → statement M
-shown-picture-spec = tie.close (tie.spec returns)
+pub shown_picture_spec : {M : Type 1} → statement M
+shown_picture_spec = tie.close (tie.spec returns)

@@ -6,7 +6,7 @@ use Rattle.playback.proofs.state.fresh_state.Tie as tie
 
 returns : tie.Need-returns
 unfolding fresh_state of_int of_bits
-returns c = rw c.fresh-picture.ensures
+returns c = rw c.fresh_picture-picture.ensures
 
-pub fresh-state-spec : {M : Type 1} → statement M
-fresh-state-spec = tie.close (tie.spec (λ c κs. search rules) returns)
+pub fresh_state_spec : {M : Type 1} → statement M
+fresh_state_spec = tie.close (tie.spec (λ c κs. search rules) returns)

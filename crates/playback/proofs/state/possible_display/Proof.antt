@@ -7,5 +7,5 @@ returns : tie.Need-returns
 unfolding possible_display
 returns c = refl
 
-pub possible-display-spec : {M : Type 1} → statement M
-possible-display-spec = tie.close (tie.spec returns)
+pub possible_display_spec : {M : Type 1} → statement M
+possible_display_spec = tie.close (tie.spec returns)

@@ -10,22 +10,22 @@ use Rattle.playback.proofs.steps.decoded.Statement.{statement}
 use Rattle.playback.proofs.steps.decoded.Tie as tie
 
 -- the entry, and where the picture has been read
-abbrev entry : tie.After-from-position → tie.Start
-entry r = r.before.before.before
+abbrev entry : tie.After-from_position-reader → tie.Start
+entry r = r.before.before.before.before
 
-abbrev from : tie.After-read-picture → tie.After-from-position
-from r = r.before.before.before
+abbrev from : tie.After-read_picture-p → tie.After-from_position-reader
+from r = r.before.before.before.before
 
-abbrev read : tie.After-position → tie.After-read-picture
-read e = e.before.before.before.before
+abbrev read : tie.After-position-position → tie.After-read_picture-p
+read e = e.before.before.before.before.before
 
-read-picture-requires : tie.Need-read-picture-requires
+read-picture-requires : tie.Need-read_picture-p-requires
 read-picture-requires c κs =
-    let p = c.before.before in
+    let p = c.before.before.before in
     let s = entry p in
-    let f = s.pre.0 in
+    let f = s.requires.0 in
     let t = f.picture.stores in (
-      rw p.from-position.ensures (record { position = f.position; stream = s.pre.1.0 }),
+      rw p.from_position-reader.ensures (record { position = f.position; stream = s.requires.1.0 }),
       (
         f.picture,
         (
@@ -35,38 +35,38 @@ read-picture-requires c κs =
             down = f.down;
             size = f.size;
             stores = record { cur = t.cur; fwd = t.fwd; bwd = t.bwd; cur-fwd = t.cur-fwd; cur-bwd = t.cur-bwd };
-            whole = s.pre.1.1;
+            whole = s.requires.1.1;
           },
         ),
       ),
     )
 
-returns : tie.Need-returns
+returns : tie.Need-returns-then-stop-ne0
 returns c =
     let r = read c.before in
     let b = from r in
     let a = (entry b).args in
-    let p = r.read-picture.result in
+    let p = r.read_picture-p.result in
     decoded-out a.s.now a.sizes (matrices a.intra.now a.other.now) (decoding_state a.d a.values.now a.store.now)
-    p.picture r.read-picture.last.1.1.1.0 r.read-picture.last.1.1.0 p.stop
-    (t-from_reader b.from-position.ensures r.read-picture.ensures.runs) c.if1.true _
+    p.picture r.read_picture-p.new.values r.read_picture-p.new.store p.stop
+    (t-from_reader b.from_position-reader.ensures r.read_picture-p.ensures.runs) c.if-stop-ne0.true _
 
-returns-2 : tie.Need-returns-2
+returns-2 : tie.Need-returns
 returns-2 c =
     let i = c.before in
     let q = i.before in
     let r = read q in
     let b = from r in
     let a = (entry b).args in
-    let p = r.read-picture.result in
-    let left = r.read-picture.last.1.1.1.0 in
-    let l = r.read-picture.last.1.1.0 in
-    step-of left l (rw q.position.ensures at c.shown.ensures)
+    let p = r.read_picture-p.result in
+    let left = r.read_picture-p.new.values in
+    let l = r.read_picture-p.new.store in
+    step-of left l (rw q.position-position.ensures at c.shown.ensures)
     ∙ decoded-on a.s.now a.sizes (matrices a.intra.now a.other.now) (decoding_state a.d a.values.now a.store.now)
-    p.picture left l p.stop (t-from_reader b.from-position.ensures r.read-picture.ensures.runs) i.if1.false
+    p.picture left l p.stop (t-from_reader b.from_position-reader.ensures r.read_picture-p.ensures.runs) i.if-stop-ne0.false
 
-pub decoded-spec : {M : Type 1} → statement M
-decoded-spec =
+pub decoded_spec : {M : Type 1} → statement M
+decoded_spec =
     tie.close
     (tie.spec
     (λ c κs. search rules)

@@ -1,7 +1,7 @@
 -- `turns::picture_step` meets its contract: none is found, or the last one is not followed, or it is decoded.
 use mathlib.Core.Path.{refl, sym, ◌∙◌}
 use lib.IntN.{pos}
-use borrow.Author.Tests.{not_true, not_false}
+use borrow.Author.Tests.{not-true, not-false}
 use borrow.Author.Rules.{rules}
 use Rattle.picture_state.specs.declared.types.Matrices.{Matrices}
 use Rattle.picture_state.specs.Promises.{matrices}
@@ -14,67 +14,67 @@ use Rattle.playback.proofs.steps.picture_step.Statement.{statement}
 use Rattle.playback.proofs.steps.picture_step.Tie as tie
 
 -- the entry, what the turn is given, and the tests
-abbrev entry : tie.After-next-code → tie.Start
+abbrev entry : tie.After-next_code-d → tie.Start
 entry n = n.before.before.before
 
-abbrev given : tie.After-next-code → DecodingState
+abbrev given : tie.After-next_code-d → DecodingState
 given n = let a = (entry n).args in decoding_state a.before a.values.now a.store.now
 
-abbrev both : tie.After-next-code → Matrices
+abbrev both : tie.After-next_code-d → Matrices
 both n = let a = (entry n).args in matrices a.intra.now a.other.now
 
-abbrev ahead : tie.After-from-position → tie.After-has-code
-ahead p = p.before.before
+abbrev ahead : tie.After-from_position → tie.After-has_code
+ahead p = p.before.before.before
 
-next-code-requires : tie.Need-next-code-requires
+next-code-requires : tie.Need-next_code-d-requires
 next-code-requires c κs = let p = c.before.before.requires in (p.0.position, p.1.0)
 
 -- the state behind the search fits
-next-fit : (n : tie.After-next-code) → let a = (entry n).args in FitState a.sizes n.next-code.result a.values.now
-next-fit n = let s = entry n in next_fits s.args.before s.pre.0 (pos 0) refl s.args.s.now s.pre.1.0 _ n.next-code.ensures
+next-fit : (n : tie.After-next_code-d) → let a = (entry n).args in FitState a.sizes n.next_code-d.result a.values.now
+next-fit n = let s = entry n in next_fits s.args.before s.requires.0 (pos 0) refl s.args.s.now s.requires.1.0 _ n.next_code-d.ensures
 
-returns : tie.Need-returns
+returns : tie.Need-returns-then-has_code
 returns c =
     let h = c.before.before in
-    let n = h.before in
+    let n = h.before.before in
     let a = (entry n).args in
     step-of a.values.now a.store.now c.flushed.ensures
-    ∙ step-none a.s.now a.sizes (both n) (given n) n.next-code.ensures (sym h.has_code.ensures ∙ c.before.if1.true)
+    ∙ step-none a.s.now a.sizes (both n) (given n) n.next_code-d.ensures (sym h.has_code.ensures ∙ c.before.if-has_code.true)
 
-is-followed-requires : tie.Need-is-followed-requires
+is-followed-requires : tie.Need-is_followed-requires
 is-followed-requires c κs =
-    let n = (ahead c).before in
-    rw c.from-position.ensures (record { position = (next-fit n).position; stream = (entry n).pre.1.0 })
+    let n = (ahead c).before.before in
+    rw c.from_position.ensures (record { position = (next-fit n).position; stream = (entry n).requires.1.0 })
 
-returns-2 : tie.Need-returns-2
+returns-2 : tie.Need-returns-then-not-is_followed
 returns-2 c =
     let f = c.before.before in
     let p = f.before in
     let h = ahead p in
-    let n = h.before in
+    let n = h.before.before in
     let a = (entry n).args in
     step-of a.values.now a.store.now c.finished.ensures
-    ∙ step-last a.s.now a.sizes (both n) (given n) n.next-code.ensures (sym h.has_code.ensures ∙ p.before.if1.false)
-    (sym (rw p.from-position.ensures at f.is-followed.ensures) ∙ not_true _ c.before.if2.true)
+    ∙ step-last a.s.now a.sizes (both n) (given n) n.next_code-d.ensures (sym h.has_code.ensures ∙ p.before.before.if-has_code.false)
+    (sym (rw p.from_position.ensures at f.is_followed.ensures) ∙ not-true _ c.before.if-not-is_followed.true-raw)
 
 decoded-requires : tie.Need-decoded-requires
-decoded-requires c κs = let n = (ahead c.before.before.before.before).before in (next-fit n, (entry n).pre.1)
+decoded-requires c κs = let n = (ahead c.before.before.before.before).before.before in (next-fit n, (entry n).requires.1)
 
-returns-3 : tie.Need-returns-3
+returns-3 : tie.Need-returns
 returns-3 c =
     let d = c.before.before in
     let t = d.before.before.before in
     let f = t.before in
     let p = f.before in
     let h = ahead p in
-    let n = h.before in
+    let n = h.before.before in
     let a = (entry n).args in
     d.decoded.ensures
-    ∙ step-decoded a.s.now a.sizes (both n) (given n) n.next-code.ensures (sym h.has_code.ensures ∙ p.before.if1.false)
-    (sym (rw p.from-position.ensures at f.is-followed.ensures) ∙ not_false _ t.if2.false)
+    ∙ step-decoded a.s.now a.sizes (both n) (given n) n.next_code-d.ensures (sym h.has_code.ensures ∙ p.before.before.if-has_code.false)
+    (sym (rw p.from_position.ensures at f.is_followed.ensures) ∙ not-false _ t.if-not-is_followed.false-raw)
 
-pub picture-step-spec : {M : Type 1} → statement M
-picture-step-spec =
+pub picture_step_spec : {M : Type 1} → statement M
+picture_step_spec =
     tie.close
     (tie.spec
     next-code-requires

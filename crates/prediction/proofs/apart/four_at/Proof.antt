@@ -13,10 +13,10 @@ returns c =
     let average = c.before.before.before.before in
     let s = average.before.before.before.before in
     let a = s.args in
-    c.stored-sample.ensures ∙ ap (stored_sample a.interpolate (get_or a.store.now a.o 0)) (rw s.requires.1 at c.before.average4.ensures)
+    c.stored_sample.ensures ∙ ap (stored_sample a.interpolate (get_or a.store.now a.o 0)) (rw s.requires.1 at c.before.average4.ensures)
 
-pub four-at-spec : {M : Type 1} → statement M
-four-at-spec =
+pub four_at_spec : {M : Type 1} → statement M
+four_at_spec =
     tie.close
     (tie.spec (λ c. omega arith) (λ c. omega arith) (λ c. omega arith) (λ c. omega arith) (λ c. omega arith) (λ c. omega arith)
     (λ c. omega arith) (λ c. omega arith) (λ c. omega arith) (λ c κs. search rules) (λ c κs. search rules) returns)

@@ -11,9 +11,9 @@ returns : tie.Need-returns
 returns c =
     let average = c.before.before.before in
     let a = average.before.before.before.args in
-    c.stored-sample.ensures ∙ ap (stored_sample a.interpolate (get_or a.store.now a.o 0)) c.before.average2.ensures
+    c.stored_sample.ensures ∙ ap (stored_sample a.interpolate (get_or a.store.now a.o 0)) c.before.average2.ensures
 
-pub pair-at-spec : {M : Type 1} → statement M
-pair-at-spec =
+pub pair_at_spec : {M : Type 1} → statement M
+pair_at_spec =
     tie.close
     (tie.spec (λ c. omega arith) (λ c. omega arith) (λ c. omega arith) (λ c. omega arith) (λ c κs. search rules) (λ c κs. search rules) returns)

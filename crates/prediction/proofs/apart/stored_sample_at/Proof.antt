@@ -3,11 +3,11 @@ use native.Mathlib.Omega.{arith}
 use Rattle.prediction.proofs.apart.stored_sample_at.Statement.{statement}
 use Rattle.prediction.proofs.apart.stored_sample_at.Tie as tie
 
-four-at-requires : tie.Need-four-at-requires
-four-at-requires c κs = let e = c.before.before.requires.1 c.if1.true in ((omega (arith, e.0), omega arith), e.1)
+four-at-requires : tie.Need-four_at-requires
+four-at-requires c κs = let e = c.before.before.requires.1 c.if-four.true in ((omega (arith, e.0), omega arith), e.1)
 
-pub stored-sample-at-spec : {M : Type 1} → statement M
-stored-sample-at-spec =
+pub stored_sample_at_spec : {M : Type 1} → statement M
+stored_sample_at_spec =
     tie.close
-    (tie.spec four-at-requires (λ c. rw c.before.if1.true c.four-at.ensures) (λ c κs. (omega arith, omega arith))
-    (λ c. rw c.before.if1.false c.pair-at.ensures))
+    (tie.spec four-at-requires (λ c. rw c.before.if-four.true c.four_at.ensures) (λ c κs. (omega arith, omega arith))
+    (λ c. rw c.before.if-four.false c.pair_at.ensures))

@@ -4,8 +4,8 @@ use Rattle.prediction.proofs.Macroblocks.{store-most}
 use Rattle.prediction.proofs.planes.plane_start.Statement.{statement}
 use Rattle.prediction.proofs.planes.plane_start.Tie as tie
 
-pub plane-start-spec : {M : Type 1} → statement M
-plane-start-spec =
+pub plane_start_spec : {M : Type 1} → statement M
+plane_start_spec =
     tie.close
     (tie.spec
     (λ c. omega arith)
@@ -13,10 +13,10 @@ plane-start-spec =
     (λ c. omega arith)
     (λ c. omega arith)
     (λ c. omega arith)
-    (λ c. let s = c.before.before in omega (arith, store-most s.args.k s.args.n s.requires.0))
+    (λ c. let s = c.before in omega (arith, store-most s.args.k s.args.n s.requires.0))
     (λ c. omega arith)
     (λ c. omega arith)
-    (λ c. let s = c.before.before in omega (arith, store-most s.args.k s.args.n s.requires.0))
-    (λ c. rw c.enum_told.given.1 (omega arith))
-    (λ c. rw c.enum-told2.given.1)
-    (λ c. rw c.enum-told3.given.1))
+    (λ c. let s = c.before in omega (arith, store-most s.args.k s.args.n s.requires.0))
+    (λ c. rw c.in-Y.is (omega arith))
+    (λ c. rw c.in-Cr.is)
+    (λ c. rw c.in-Cb.is))

@@ -21,7 +21,7 @@ small c = omega (arith, parity w32 c.args.n c.ranges.n)
 read : (c : tie.Start) → to_z w32 (bit c) ≡ pos (bit c)
 read c = (natural-num w32 (bit c) 1 (small c) tt).is
 
-cast-result : tie.Need-overflow-cast-result
+cast-result : tie.Need-overflow_cast-result
 cast-result c = cast_unsigned (read c) (omega (arith, small c))
 
 returns : tie.Need-returns
@@ -29,5 +29,5 @@ returns c =
     let e = ap nat_abs (read c) in
     (omega (arith, small c, e), ap (λ (n : ℕ). eqb n 1) e ∙ odd-one w32 c.ranges.n)
 
-pub half-sample-spec : {M : Type 1} → statement M
-half-sample-spec = tie.close (tie.spec cast-result returns)
+pub half_sample_spec : {M : Type 1} → statement M
+half_sample_spec = tie.close (tie.spec cast-result returns)

@@ -15,37 +15,37 @@ use Rattle.prediction.proofs.predict.copy_block.Tie as tie
 
 -- ---- once the four numbers of the block are known
 
-module _ (o : tie.After-half-sample2) where
+module _ (o : tie.After-half_sample-below) where
   abbrev entry : tie.Start
   entry = o.before.before.before.before.before
 
-  width_is : o.before.before.before.width.result ≡ width entry.args.p
-  width_is = o.before.before.before.width.ensures
+  width_is : o.before.before.before.width-dw.result ≡ width entry.args.p
+  width_is = o.before.before.before.width-dw.ensures
 
-  address_is : o.before.before.address.result ≡ address entry.args.p
-  address_is = o.before.before.address.ensures
+  address_is : o.before.before.address-di.result ≡ address entry.args.p
+  address_is = o.before.before.address-di.ensures
 
-  right_is : (o.before.half-sample.result ≤ 1) × (eqb o.before.half-sample.result 1 ≡ odd entry.args.h)
-  right_is = let e = o.before.half-sample.ensures in (e.0, e.1 ∙ ap odd (to_z-of_z entry.fits.h))
+  right_is : (o.before.half_sample-right.result ≤ 1) × (eqb o.before.half_sample-right.result 1 ≡ odd entry.args.h)
+  right_is = let e = o.before.half_sample-right.ensures in (e.0, e.1 ∙ ap odd (to_z-of_z entry.ranges.h))
 
-  below-is : (o.half-sample2.result ≤ 1) × (eqb o.half-sample2.result 1 ≡ odd entry.args.v)
-  below-is = let e = o.half-sample2.ensures in (e.0, e.1 ∙ ap odd (to_z-of_z entry.fits.v))
+  below-is : (o.half_sample-below.result ≤ 1) × (eqb o.half_sample-below.result 1 ≡ odd entry.args.v)
+  below-is = let e = o.half_sample-below.ensures in (e.0, e.1 ∙ ap odd (to_z-of_z entry.ranges.v))
 
   -- the block's ends
   source : entry.args.from + entry.args.at ≤ length entry.args.store.now
-  source = let s = entry in omega (arith, source_in s.pre.0 (s.args.at + reach s.args.p s.args.h s.args.v) s.pre.1.1.1, s.pre.1.0)
+  source = let s = entry in omega (arith, source_in s.requires.0 (s.args.at + reach s.args.p s.args.h s.args.v) s.requires.1.1.1, s.requires.1.0)
 
   target : entry.args.to + address entry.args.p ≤ length entry.args.store.now
-  target = let s = entry in omega (arith, block_in s.pre.0, s.pre.1.0)
+  target = let s = entry in omega (arith, block_in s.requires.0, s.requires.1.0)
 
-predict-disjoint-requires : tie.Need-predict-disjoint-requires
+predict-disjoint-requires : tie.Need-predict_disjoint-requires
 predict-disjoint-requires c κs =
     let o = c.before in
     let s = entry o in
     let a = s.args in
-    let k = s.pre.0 in
+    let k = s.requires.0 in
     let fits = apart_fits k a.store.now a.from a.to a.at a.h a.v (width_is o) (address_is o) (right_is o) (below-is o)
-    s.pre.1.0.0 s.pre.1.0.1 s.pre.1.1.1 s.pre.1.1.0 in
+    s.requires.1.0.0 s.requires.1.0.1 s.requires.1.1.1 s.requires.1.1.0 in
     (k.size, (((right_is o).0, (below-is o).0), fits))
 
 returns : tie.Need-returns
@@ -54,11 +54,11 @@ returns c =
     let o = r.before.before in
     let s = entry o in
     let a = s.args in
-    apart-copied s.pre.0 a.store.now a.from a.to a.at a.h a.v (width_is o) (address_is o) (right_is o) (below-is o)
-    s.pre.1.0.0 s.pre.1.0.1 s.pre.1.1.1 a.interpolate r.predict-disjoint.ensures
+    apart-copied s.requires.0 a.store.now a.from a.to a.at a.h a.v (width_is o) (address_is o) (right_is o) (below-is o)
+    s.requires.1.0.0 s.requires.1.0.1 s.requires.1.1.1 a.interpolate r.predict_disjoint.ensures
 
-pub copy-block-spec : {M : Type 1} → statement M
-copy-block-spec =
+pub copy_block_spec : {M : Type 1} → statement M
+copy_block_spec =
     tie.close
     (tie.spec (λ c κs. search rules) (λ c κs. search rules) (λ c κs. search rules) (λ c κs. search rules)
     (λ c. omega (arith, source c.before)) (λ c. omega (arith, target c.before, address_is c.before)) predict-disjoint-requires

@@ -12,14 +12,14 @@ use Rattle.prediction.proofs.predict.predict_one_plane.Statement.{statement}
 use Rattle.prediction.proofs.predict.predict_one_plane.Tie as tie
 
 -- once the place is known: where the planes' starts are, and the entry
-abbrev started : tie.After-block → tie.After-plane-start2
+abbrev started : tie.After-block-p → tie.After-plane_start-target
 started k = k.before.before
 
-abbrev entry : tie.After-block → tie.Start
+abbrev entry : tie.After-block-p → tie.Start
 entry k = (started k).before.before.before.before
 
-place_is : (k : tie.After-block) → let a = (entry k).args in k.block.result ≡ block_position_of a.m (block_size a.q)
-place_is k = k.block.ensures ∙ ap (block_position_of (entry k).args.m) k.before.block_size.ensures
+place_is : (k : tie.After-block-p) → let a = (entry k).args in k.block-p.result ≡ block_position_of a.m (block_size a.q)
+place_is k = k.block-p.ensures ∙ ap (block_position_of (entry k).args.m) k.before.block_size.ensures
 
 -- a plane ends in the store, with the place and the start that the code has
 room : {p r : BlockPosition} {a b n : ℕ} → p ≡ r → a ≡ b → b + bytes r ≤ n → a + bytes p ≤ n
@@ -29,26 +29,26 @@ room ep ea h = rw (ep, ea) h
 beside : {p r : BlockPosition} {a b c d : ℕ} → p ≡ r → a ≡ b → c ≡ d → (b + bytes r ≤ d) ⊎ (d + bytes r ≤ b) → (a + bytes p ≤ c) ⊎ (c + bytes p ≤ a)
 beside ep ea ec h = rw (ep, ea, ec) h
 
-plane-start-requires : tie.Need-plane-start-requires
+plane-start-requires : tie.Need-plane_start-source-requires
 plane-start-requires c κs = let s = c.before.before in (s.requires.1.0.0, count_most s.requires.0)
 
-plane-start-requires-2 : tie.Need-plane-start-requires-2
+plane-start-requires-2 : tie.Need-plane_start-target-requires
 plane-start-requires-2 c κs = let s = c.before.before.before in (s.requires.1.0.1, count_most s.requires.0)
 
-predict-plane-requires : tie.Need-predict-plane-requires
+predict-plane-requires : tie.Need-predict_plane-requires
 predict-plane-requires c κs =
     let k = c.before in
     let s = entry k in
-    let from = plane_in s.args.m s.args.q s.args.from s.pre.1.0.0 in
-    let to = plane_in s.args.m s.args.q s.args.to s.pre.1.0.1 in (
-      rw (place_is k) (placed s.pre.0 s.args.q),
+    let from = plane_in s.args.m s.args.q s.args.from s.requires.1.0.0 in
+    let to = plane_in s.args.m s.args.q s.args.to s.requires.1.0.1 in (
+      rw (place_is k) (placed s.requires.0 s.args.q),
       (
-        rw (to_z-of_z s.fits.h, to_z-of_z s.fits.v) s.pre.1.1.0,
+        rw (to_z-of_z s.ranges.h, to_z-of_z s.ranges.v) s.requires.1.1.0,
         (
-          room (place_is k) (started k).before.plane-start.ensures (omega arith),
-          room (place_is k) (started k).plane-start2.ensures (omega arith),
-          beside (place_is k) (started k).before.plane-start.ensures (started k).plane-start2.ensures
-              (planes-apart s.args.m s.args.q s.args.from s.args.to s.pre.1.0.2),
+          room (place_is k) (started k).before.plane_start-source.ensures (omega arith),
+          room (place_is k) (started k).plane_start-target.ensures (omega arith),
+          beside (place_is k) (started k).before.plane_start-source.ensures (started k).plane_start-target.ensures
+              (planes-apart s.args.m s.args.q s.args.from s.args.to s.requires.1.0.2),
         ),
       ),
     )
@@ -57,13 +57,13 @@ returns : tie.Need-returns
 returns c =
     let k = c.before.before.before.before in
     let s = entry k in
-    let r = c.before.before.predict-plane.ensures in
-    let e = alike s.args.interpolate s.args.store.now (place_is k) (started k).before.plane-start.ensures (started k).plane-start2.ensures
-    (to_z-of_z s.fits.h) (to_z-of_z s.fits.v) in
+    let r = c.before.before.predict_plane.ensures in
+    let e = alike s.args.interpolate s.args.store.now (place_is k) (started k).before.plane_start-source.ensures (started k).plane_start-target.ensures
+    (to_z-of_z s.ranges.h) (to_z-of_z s.ranges.v) in
     (r.0 ∙ ap (λ (o : PredictionOutcome). o.answer) e, r.1 ∙ ap (λ (o : PredictionOutcome). o.store) e)
 
-pub predict-one-plane-spec : {M : Type 1} → statement M
-predict-one-plane-spec =
+pub predict_one_plane_spec : {M : Type 1} → statement M
+predict_one_plane_spec =
     tie.close
     (tie.spec
     (λ c. omega arith)

@@ -4,8 +4,8 @@ use borrow.Author.Rules.{rules}
 use Rattle.prediction.proofs.samples.stored_sample.Statement.{statement}
 use Rattle.prediction.proofs.samples.stored_sample.Tie as tie
 
-returns : tie.Need-returns
-returns c = c.average2.ensures ∙ rw c.before.if1.true
+returns : tie.Need-returns-then-interpolate
+returns c = c.average2.ensures ∙ rw c.before.if-interpolate.true
 
-pub stored-sample-spec : {M : Type 1} → statement M
-stored-sample-spec = tie.close (tie.spec (λ c κs. search rules) returns (λ c. search rules))
+pub stored_sample_spec : {M : Type 1} → statement M
+stored_sample_spec = tie.close (tie.spec (λ c κs. search rules) returns (λ c. search rules))

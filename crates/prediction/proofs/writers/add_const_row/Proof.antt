@@ -22,23 +22,23 @@ returns : tie.Need-returns
 returns c =
     let r8 = c.before.before.before.before.before in let r7 = r8.before in let r6 = r7.before in let r5 = r6.before in
     let r4 = r5.before in let r3 = r4.before in let r2 = r3.before in let r1 = r2.before in
-    let s = r1.before.before.before in
+    let s = r1.before.before in
     let a = s.args in
-    eight-row a.d.now a.at (λ x. clamp255 (pos (get_or a.d.now (a.at + x) 0) +ℤ reread w32 a.value)) c.before.before.put-eight.ensures
-    r1.added-const.ensures r2.added-const2.ensures r3.added-const3.ensures r4.added-const4.ensures
-    r5.added-const5.ensures r6.added-const6.ensures r7.added-const7.ensures r8.added-const8.ensures
+    eight-row a.d.now a.at (λ x. clamp255 (pos (get_or a.d.now (a.at + x) 0) +ℤ reread w32 a.value)) c.before.before.put_eight.ensures
+    r1.added_const.ensures r2.added_const-2.ensures r3.added_const-3.ensures r4.added_const-4.ensures
+    r5.added_const-5.ensures r6.added_const-6.ensures r7.added_const-7.ensures r8.added_const-8.ensures
     ∙ ap (λ (z : ℤ). store_row a.d.now a.at (λ x. clamp255 (pos (get_or a.d.now (a.at + x) 0) +ℤ z)) 8) (to_z-of_z s.ranges.value)
 
-pub add-const-row-spec : {M : Type 1} → statement M
-add-const-row-spec =
+pub add_const_row_spec : {M : Type 1} → statement M
+add_const_row_spec =
     tie.close
     (tie.spec
+    (λ c κs. asked c.before (omega arith))
     (λ c κs. asked c.before.before (omega arith))
     (λ c κs. asked c.before.before.before (omega arith))
     (λ c κs. asked c.before.before.before.before (omega arith))
-    (λ c κs. asked c.before.before.before.before.before (omega arith))
+    (λ c κs. let fourth = c.before.before.before.before in asked fourth.before (omega arith))
     (λ c κs. let fourth = c.before.before.before.before in asked fourth.before.before (omega arith))
     (λ c κs. let fourth = c.before.before.before.before in asked fourth.before.before.before (omega arith))
     (λ c κs. let fourth = c.before.before.before.before in asked fourth.before.before.before.before (omega arith))
-    (λ c κs. let fourth = c.before.before.before.before in asked fourth.before.before.before.before.before (omega arith))
     (λ c κs. omega arith) (λ c. omega arith) returns)

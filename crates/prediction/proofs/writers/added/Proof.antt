@@ -14,11 +14,11 @@ use Rattle.prediction.proofs.writers.added.Tie as tie
 sum : (c : tie.Start) → Num (to_z w32 c.args.old +ℤ reread w32 c.args.value) (pos c.args.old +ℤ c.args.value) 131327
 sum c = natural-num w32 c.args.old 255 (omega arith) tt ⊞ arg w32 c.ranges.value c.requires
 
-add-clamp-u8 : tie.Need-overflow-add-clamp-u8
+add-clamp-u8 : tie.Need-overflow_add-old
 add-clamp-u8 c = fits w32 (sum c) tt
 
 returns : tie.Need-returns
-returns c = c.clamp-u8.ensures ∙ ap clamp255 (rd w32 (sum c.before) tt).is
+returns c = c.clamp_u8.ensures ∙ ap clamp255 (rd w32 (sum c.before) tt).is
 
-pub added-spec : {M : Type 1} → statement M
-added-spec = tie.close (tie.spec (λ c. omega arith) add-clamp-u8 (λ c κs. omega arith) returns)
+pub added_spec : {M : Type 1} → statement M
+added_spec = tie.close (tie.spec (λ c. omega arith) add-clamp-u8 (λ c κs. omega arith) returns)

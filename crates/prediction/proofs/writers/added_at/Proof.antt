@@ -13,12 +13,12 @@ use Rattle.prediction.proofs.writers.added_at.Statement.{statement}
 use Rattle.prediction.proofs.writers.added_at.Tie as tie
 
 -- the entry, where the result is known
-abbrev entry : tie.After-added-arg → tie.Start
+abbrev entry : tie.After-added-arg-1 → tie.Start
 entry c = c.before.before.before
 
-same : (c : tie.After-added-arg)
+same : (c : tie.After-added-arg-1)
     → let a = (entry c).args in reread w32 (get_or a.s.now (a.from + a.k) (pos 0)) ≡ get_or a.s.now (a.from + a.k) (pos 0)
-same c = to_z-of_z (record { sfits = c.added-arg.given })
+same c = to_z-of_z {w = w32} (record { sfits = c.added-arg-1.given })
 
 added-requires : tie.Need-added-requires
 added-requires c κs = rw (same c) ((entry c).requires.1.entry ((entry c).args.from + (entry c).args.k) (omega arith))
@@ -28,7 +28,7 @@ returns c =
     let a = (entry c.before).args in
     c.added.ensures ∙ ap (λ (z : ℤ). clamp255 (pos (get_or a.d.now (a.at + a.k) 0) +ℤ z)) (same c.before)
 
-pub added-at-spec : {M : Type 1} → statement M
-added-at-spec =
+pub added_at_spec : {M : Type 1} → statement M
+added_at_spec =
     tie.close
     (tie.spec (λ c. search rules) (λ c. search rules) (λ c. search rules) (λ c. search rules) (λ c. search rules) added-requires returns)

@@ -14,5 +14,5 @@ returns c =
     let s = c.before.before.before in
     c.added.ensures ∙ ap (λ (z : ℤ). clamp255 (pos (get_or s.args.d.now (s.args.at + s.args.k) 0) +ℤ z)) (to_z-of_z s.ranges.value)
 
-pub added-const-spec : {M : Type 1} → statement M
-added-const-spec = tie.close (tie.spec (λ c. search rules) (λ c. search rules) (λ c κs. search rules) returns)
+pub added_const_spec : {M : Type 1} → statement M
+added_const_spec = tie.close (tie.spec (λ c. search rules) (λ c. search rules) (λ c κs. search rules) returns)

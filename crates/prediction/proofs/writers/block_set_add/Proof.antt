@@ -9,22 +9,22 @@ use Rattle.prediction.proofs.RowsWritten.{RowsWritten, no_line, in-line, line_on
 use Rattle.prediction.proofs.writers.block_set_add.Statement.{statement}
 use Rattle.prediction.proofs.writers.block_set_add.Tie as tie
 
-abbrev invariant-loop : tie.invariant-loop
+abbrev invariant-loop : tie.invariant-loop-y
 invariant-loop d₀ di dw s y₀ d y = RowsWritten d₀ di dw 8 8 (λ old y x. clamp255 (pos old +ℤ get_or s (y * 8 + x) (pos 0))) d y
 
-abbrev decreases-loop : tie.decreases-loop
+abbrev decreases-loop : tie.decreases-loop-y
 decreases-loop d₀ di dw s y₀ d y = 8 - y
 
-pub block-set-add-spec : {M : Type 1} → statement M
+pub block_set_add_spec : {M : Type 1} → statement M
 unfolding add_block
-block-set-add-spec =
+block_set_add_spec =
     tie.close
     (tie.spec invariant-loop decreases-loop (λ c. no_line (omega arith) (omega arith))
-    (λ c. omega (arith, in-line c.before.before.loop.invariant c.before.loop-test.true))
-    (λ c. omega (arith, in-line c.before.before.loop.invariant c.before.loop-test.true))
+    (λ c. omega (arith, in-line c.before.before.loop-y.invariant c.before.loop-y-test.true))
+    (λ c. omega (arith, in-line c.before.before.loop-y.invariant c.before.loop-y-test.true))
     (λ c. omega arith)
     (λ c κs.
-    (omega (arith, in-line c.before.before.loop.invariant c.before.loop-test.true), (omega arith, c.before.before.before.before.requires.1.1)))
+    (omega (arith, in-line c.before.before.loop-y.invariant c.before.loop-y-test.true), (omega arith, c.before.before.before.before.requires.1.1)))
     (λ c. omega arith) (λ c. omega arith)
-    (λ c. let t = c.before.before.before.before in line_on t.before.loop.invariant t.loop-test.true c.before.before.add_row.ensures)
-    (λ c. c.before.loop.invariant.long) (λ c. lines-all c.before.loop.invariant c.loop-test.false))
+    (λ c. let t = c.before.before.before.before in line_on t.before.loop-y.invariant t.loop-y-test.true c.before.before.add_row.ensures)
+    (λ c. c.before.loop-y.invariant.long) (λ c. lines-all c.before.loop-y.invariant c.loop-y-test.false))

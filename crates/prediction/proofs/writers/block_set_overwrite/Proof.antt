@@ -9,21 +9,21 @@ use Rattle.prediction.proofs.RowsWritten.{RowsWritten, no_line, in-line, line_on
 use Rattle.prediction.proofs.writers.block_set_overwrite.Statement.{statement}
 use Rattle.prediction.proofs.writers.block_set_overwrite.Tie as tie
 
-abbrev invariant-loop : tie.invariant-loop
+abbrev invariant-loop : tie.invariant-loop-y
 invariant-loop d₀ di dw s y₀ d y = RowsWritten d₀ di dw 8 8 (λ old y x. clamp255 (get_or s (y * 8 + x) (pos 0))) d y
 
-abbrev decreases-loop : tie.decreases-loop
+abbrev decreases-loop : tie.decreases-loop-y
 decreases-loop d₀ di dw s y₀ d y = 8 - y
 
-pub block-set-overwrite-spec : {M : Type 1} → statement M
+pub block_set_overwrite_spec : {M : Type 1} → statement M
 unfolding overwrite
-block-set-overwrite-spec =
+block_set_overwrite_spec =
     tie.close
     (tie.spec invariant-loop decreases-loop (λ c. no_line (omega arith) (omega arith))
-    (λ c. omega (arith, in-line c.before.before.loop.invariant c.before.loop-test.true))
-    (λ c. omega (arith, in-line c.before.before.loop.invariant c.before.loop-test.true))
+    (λ c. omega (arith, in-line c.before.before.loop-y.invariant c.before.loop-y-test.true))
+    (λ c. omega (arith, in-line c.before.before.loop-y.invariant c.before.loop-y-test.true))
     (λ c. omega arith)
-    (λ c κs. omega (arith, in-line c.before.before.loop.invariant c.before.loop-test.true))
+    (λ c κs. omega (arith, in-line c.before.before.loop-y.invariant c.before.loop-y-test.true))
     (λ c. omega arith) (λ c. omega arith)
-    (λ c. let t = c.before.before.before.before in line_on t.before.loop.invariant t.loop-test.true c.before.before.overwrite-row.ensures)
-    (λ c. c.before.loop.invariant.long) (λ c. lines-all c.before.loop.invariant c.loop-test.false))
+    (λ c. let t = c.before.before.before.before in line_on t.before.loop-y.invariant t.loop-y-test.true c.before.before.overwrite_row.ensures)
+    (λ c. c.before.loop-y.invariant.long) (λ c. lines-all c.before.loop-y.invariant c.loop-y-test.false))

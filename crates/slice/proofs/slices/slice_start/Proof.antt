@@ -4,17 +4,17 @@ use Rattle.slice.proofs.SliceLoop.{rows, rows_fit, start_fits, start_is}
 use Rattle.slice.proofs.slices.slice_start.Statement.{statement}
 use Rattle.slice.proofs.slices.slice_start.Tie as tie
 
-mul-address : tie.Need-overflow-mul-address
+mul-address : tie.Need-overflow_mul-address
 mul-address c =
     let s = c.before.before.before in
     omega (arith, rows s.args.number s.args.g.sizes.mb_width s.requires.0.1 s.requires.1)
 
-cast-address : tie.Need-overflow-cast-address
+cast-address : tie.Need-overflow_cast-address
 cast-address c =
     let s = c.before.before.before in
     rows_fit s.args.number s.args.g.sizes.mb_width s.requires.0.1 s.requires.1
 
-sub-address-2 : tie.Need-overflow-sub-address-2
+sub-address-2 : tie.Need-overflow_sub-address-2
 sub-address-2 c =
     let s = c.before.before.before in
     start_fits s.args.number s.args.g.sizes.mb_width s.requires.0.1 s.requires.1
@@ -23,10 +23,10 @@ returns : tie.Need-returns
 returns c =
     let z = c.before.before in
     let s = z.before in
-    rw (start_is s.args.number s.args.g.sizes.mb_width s.requires.0.1 s.requires.1, z.zeroed.ensures, c.before.zeroed2.ensures)
+    rw (start_is s.args.number s.args.g.sizes.mb_width s.requires.0.1 s.requires.1, z.zeroed-forward.ensures, c.before.zeroed-backward.ensures)
 
-pub slice-start-spec : {M : Type 1} → statement M
-slice-start-spec =
+pub slice_start_spec : {M : Type 1} → statement M
+slice_start_spec =
     tie.close
     (tie.spec
     (λ c κs. search rules)

@@ -7,13 +7,13 @@ use Rattle.transform.proofs.butterfly.butterfly.Statement.{statement}
 use Rattle.transform.proofs.butterfly.butterfly.Tie as tie
 
 -- behind the fourth of the eight inputs, and where the function began
-abbrev fourth : tie.After-struct-told8 → tie.After-struct-told4
+abbrev fourth : tie.After-struct_told-8-1 → tie.After-struct_told-4-1
 fourth c = c.before.before.before.before
 
-abbrev start : tie.After-struct-told8 → tie.Start
+abbrev start : tie.After-struct_told-8-1 → tie.Start
 start c = (fourth c).before.before.before.before
 
-abbrev ins : tie.After-struct-told8 → List (Input w32)
+abbrev ins : tie.After-struct_told-8-1 → List (Input w32)
 ins c = inputs input_size (start c).args.a (start c).requires
 
 returns : tie.Need-returns
@@ -30,8 +30,8 @@ returns c =
       v7 = value (ins c) (out 7) tt i;
     })
 
-pub butterfly-spec : {M : Type 1} → statement M
-butterfly-spec =
+pub butterfly_spec : {M : Type 1} → statement M
+butterfly_spec =
     tie.close
     (tie.spec (λ c. need (ins c) b3 tt) (λ c. need (ins c) b4 tt) (λ c. need (ins c) tmp1 tt) (λ c. need (ins c) tmp2 tt)
     (λ c. need (ins c) b6 tt) (λ c. need (ins c) b7 tt) (λ c. need (ins c) (b6 ×̇ cst 473) tt) (λ c. need (ins c) (b4 ×̇ cst 196) tt)

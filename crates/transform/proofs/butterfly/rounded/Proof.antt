@@ -7,7 +7,7 @@ use Rattle.transform.proofs.butterfly.rounded.Statement.{statement}
 use Rattle.transform.proofs.butterfly.rounded.Tie as tie
 
 -- the eight inputs, from behind them
-abbrev ins : tie.After-struct-told8 → List (Input w32)
+abbrev ins : tie.After-struct_told-8-1 → List (Input w32)
 ins c =
     let fourth = c.before.before.before.before in
     let start = fourth.before.before.before.before in
@@ -26,8 +26,8 @@ returns c =
       v7 = value (ins c) (rnd (var 7)) tt i;
     }
 
-pub rounded-spec : {M : Type 1} → statement M
-rounded-spec =
+pub rounded_spec : {M : Type 1} → statement M
+rounded_spec =
     tie.close
     (tie.spec (λ c. need (ins c) (more (var 0)) tt) (λ c. need (ins c) (more (var 1)) tt) (λ c. need (ins c) (more (var 2)) tt)
     (λ c. need (ins c) (more (var 3)) tt) (λ c. need (ins c) (more (var 4)) tt) (λ c. need (ins c) (more (var 5)) tt)

@@ -26,5 +26,5 @@ returns : tie.Need-returns
 unfolding dc_only
 returns c = let e = value (ins c) (rnd (var 0)) tt in (e, subst (λ (z : ℤ). nat_abs z ≤ 256) (sym e) (small c.args.c c.requires))
 
-pub dc-only-spec : {M : Type 1} → statement M
-dc-only-spec = tie.close (tie.spec (λ c. need (ins c) (more (var 0)) tt) returns)
+pub dc_only_spec : {M : Type 1} → statement M
+dc_only_spec = tie.close (tie.spec (λ c. need (ins c) (more (var 0)) tt) returns)

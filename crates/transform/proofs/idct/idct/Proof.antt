@@ -17,14 +17,14 @@ rows-requires : tie.Need-rows-requires
 rows-requires c κs =
     let s = start c.before in
     let e = c.before.columns.ensures in
-    (ap length e ∙ columns-length s.args.block.now, subst BetweenPasses (sym e) (middle s.args.block.now s.pre))
+    (ap length e ∙ columns-length s.args.block.now, subst BetweenPasses (sym e) (middle s.args.block.now s.requires))
 
 returns : tie.Need-returns
 unfolding idct
 returns c =
     let s = start c.before.before in
-    let e : c.rows.new.0 ≡ idct s.args.block.now = c.rows.ensures ∙ ap rows c.before.before.columns.ensures in
-    (e, subst ResultsInBounds (sym e) (idct-narrow s.args.block.now s.pre))
+    let e : c.rows.new.block ≡ idct s.args.block.now = c.rows.ensures ∙ ap rows c.before.before.columns.ensures in
+    (e, subst ResultsInBounds (sym e) (idct-narrow s.args.block.now s.requires))
 
-pub idct-spec : {M : Type 1} → statement M
-idct-spec = tie.close (tie.spec (λ c κs. search rules) (λ c κs. search rules) rows-requires returns)
+pub idct_spec : {M : Type 1} → statement M
+idct_spec = tie.close (tie.spec (λ c κs. search rules) (λ c κs. search rules) rows-requires returns)

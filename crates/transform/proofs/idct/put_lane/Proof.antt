@@ -25,13 +25,13 @@ unfolding store_row store_rows
 stored_is l s d e = simp (add-zero, zero-mul, one-mul)
 
 -- behind the first read of e, which tells that its fields fit
-abbrev first_read : tie.After-struct-told8 → tie.After-struct-told
+abbrev first_read : tie.After-struct_told-8-1 → tie.After-struct_told-1
 first_read c = let fourth = c.before.before.before.before in fourth.before.before.before
 
 returns : tie.Need-returns
 returns c =
     let a = (first_read c).before.args in
-    let g = (first_read c).struct_told.given in
+    let g = (first_read c).struct_told-1.given in
     let p : ◌≡◌ {A = Eight} (eight (λ k. reread w32 (nth a.e k))) a.e
     = λ i. record {
       v0 = read_back a.e.v0 g.0.1 i;
@@ -45,8 +45,8 @@ returns c =
     } in
     ap (stored a.block.now a.start a.step) p ∙ stored_is a.block.now a.start a.step a.e
 
-pub put-lane-spec : {M : Type 1} → statement M
-put-lane-spec =
+pub put_lane_spec : {M : Type 1} → statement M
+put_lane_spec =
     tie.close
     (tie.spec (λ c. omega arith) (λ c. omega arith) (λ c. omega arith) (λ c. omega arith) (λ c. omega arith) (λ c. omega arith)
     (λ c. omega arith) (λ c. omega arith) (λ c. omega arith) (λ c. omega arith) (λ c. omega arith) (λ c. omega arith) (λ c. omega arith)

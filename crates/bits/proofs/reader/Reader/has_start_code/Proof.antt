@@ -9,10 +9,10 @@ use Rattle.bits.proofs.reader.Reader.has_start_code.Tie as tie
 returns : tie.Need-returns
 returns c =
     let x = c.before in
-    let small = x.find-start-code.ensures.1 in
-    let runs = rw (to_z-of_z x.before.before.ranges.code) at x.find-start-code.ensures.0.runs in
-    rw (to_z-of_z (code_fits x.find-start-code.result.code small))
+    let small = x.find_start_code-found.ensures.1 in
+    let runs = rw (to_z-of_z x.before.before.ranges.code) at x.find_start_code-found.ensures.0.runs in
+    rw (to_z-of_z (code_fits x.find_start_code-found.result.code small))
     ((sym (r-value runs), refl), small)
 
-pub has-start-code-spec : {M : Type 1} → statement M
-has-start-code-spec = tie.close (tie.spec (λ c κs. search rules) returns)
+pub has_start_code_spec : {M : Type 1} → statement M
+has_start_code_spec = tie.close (tie.spec (λ c κs. search rules) returns)

@@ -12,11 +12,11 @@ returns c =
     let b = first.before in
     let a = b.before.before.args in
     let s = a.s.now in
-    let two = two_bytes s b.byte_of.result.0 first.byte.ensures c.byte2.ensures in
-    eight-bits s a.self.at.0 _ (two ∙ ap (λ (n : ℕ). bits_at s (n * 8) 16) b.byte_of.ensures)
+    let two = two_bytes s b.byte_of-b.result.0 first.byte.ensures c.byte-2.ensures in
+    eight-bits s a.self.at.0 _ (two ∙ ap (λ (n : ℕ). bits_at s (n * 8) 16) b.byte_of-b.ensures)
 
-pub next-eight-spec : {M : Type 1} → statement M
-next-eight-spec =
+pub next_eight_spec : {M : Type 1} → statement M
+next_eight_spec =
     tie.close
     (tie.spec (λ c κs. search rules) (λ c κs. search rules) (λ c. search rules) (λ c. search rules) (λ c κs. search rules)
     (λ c. search rules) (λ c. search rules) (λ c. search rules) (λ c. search rules) returns)

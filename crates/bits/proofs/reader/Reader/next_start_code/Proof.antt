@@ -13,50 +13,50 @@ use Rattle.bits.proofs.Start.{found-by, found_here, found-end, found-on-by-one}
 use Rattle.bits.proofs.reader.Reader.next_start_code.Statement.{statement}
 use Rattle.bits.proofs.reader.Reader.next_start_code.Tie as tie
 
-abbrev invariant-loop : tie.invariant-loop
+abbrev invariant-loop : tie.invariant-loop-b
 invariant-loop s b₀ b = (b ≤ longest_stream) × (code_from s b₀ (length s - 4 - b₀) ≡ code_from s b (length s - 4 - b))
 
-abbrev decreases-loop : tie.decreases-loop
+abbrev decreases-loop : tie.decreases-loop-b
 decreases-loop s b₀ b = length s - b
 
-loop-holds : tie.Need-loop-init invariant-loop decreases-loop
+loop-holds : tie.Need-loop-b-init invariant-loop decreases-loop
 loop-holds c = (omega arith, refl)
 
 -- the turn in which the prefix is asked for
-abbrev turn : tie.After-has-prefix invariant-loop decreases-loop → tie.At-loop invariant-loop decreases-loop
+abbrev turn : tie.After-has_prefix invariant-loop decreases-loop → tie.At-loop-b invariant-loop decreases-loop
 turn p = p.before.before
 
-cast-t17 : tie.Need-overflow-cast-t17 invariant-loop decreases-loop
-cast-t17 c = record { sfits = omega (arith, c.shared-slice-known2.given ((turn c.before.before.before).loop.b + 3)) }
+cast-t17 : tie.Need-overflow_cast-result invariant-loop decreases-loop
+cast-t17 c = record { sfits = omega (arith, c.shared_slice_known-then-has_prefix-1.given ((turn c.before.before.before).loop-b.b + 3)) }
 
-returns : tie.Need-returns invariant-loop decreases-loop
+returns : tie.Need-returns-then-has_prefix invariant-loop decreases-loop
 returns c =
     let p = c.before.before.before in
     let x = turn p in
-    let b = x.loop.b in
+    let b = x.loop-b.b in
     let s = x.before.before.before.before.args.s.now in
-    let here = found_here s b p.before.loop-test.true (sym p.has-prefix.ensures ∙ c.before.before.if1.true) in
-    let e = found-by s x.before.before.before.before.args.self.at.0 _ b (omega arith) x.loop.inv.1 here in
-    rw (to_z_pos w32 (get_or s (b + 3) 0) (omega (arith, c.shared-slice-known2.given (b + 3))))
-    (reading x.before.before.before.before.pre (is-start (rw c.before.bit-of.ensures e)), omega (arith, c.shared-slice-known2.given (b + 3)))
+    let here = found_here s b p.before.loop-b-test.true (sym p.has_prefix.ensures ∙ c.before.before.if-has_prefix.true) in
+    let e = found-by s x.before.before.before.before.args.self.at.0 _ b (omega arith) x.loop-b.invariant.1 here in
+    rw (to_z_pos w32 (get_or s (b + 3) 0) (omega (arith, c.shared_slice_known-then-has_prefix-1.given (b + 3))))
+    (reading x.before.before.before.before.requires (is-start (rw c.before.bit_of.ensures e)), omega (arith, c.shared_slice_known-then-has_prefix-1.given (b + 3)))
 
-loop-again : tie.Need-loop-preserved invariant-loop decreases-loop
+loop-again : tie.Need-loop-b-preserved invariant-loop decreases-loop
 loop-again c =
     let p = c.before in
     let x = turn p in
     let s = x.before.before.before.before.args.s.now in
-    (omega arith, x.loop.inv.1 ∙ found-on-by-one s x.loop.b p.before.loop-test.true (sym p.has-prefix.ensures ∙ c.if1.false))
+    (omega arith, x.loop-b.invariant.1 ∙ found-on-by-one s x.loop-b.b p.before.loop-b-test.true (sym p.has_prefix.ensures ∙ c.if-has_prefix.false))
 
-returns-2 : tie.Need-returns-2 invariant-loop decreases-loop
+returns-2 : tie.Need-returns invariant-loop decreases-loop
 returns-2 c =
     let x = c.before.before in
     let s = x.before.before.before.before.args.s.now in
-    let end = found-end s x.loop.b c.before.loop-test.false in
-    let e = found-by s x.before.before.before.before.args.self.at.0 _ x.loop.b (omega arith) x.loop.invariant.1 end in
-    (reading x.before.before.before.before.requires (is-start (rw c.bit-of2.ensures e)), omega arith)
+    let end = found-end s x.loop-b.b c.before.loop-b-test.false in
+    let e = found-by s x.before.before.before.before.args.self.at.0 _ x.loop-b.b (omega arith) x.loop-b.invariant.1 end in
+    (reading x.before.before.before.before.requires (is-start (rw c.bit_of-2.ensures e)), omega arith)
 
-pub next-start-code-spec : {M : Type 1} → statement M
-next-start-code-spec =
+pub next_start_code_spec : {M : Type 1} → statement M
+next_start_code_spec =
     tie.close
     (tie.spec invariant-loop decreases-loop (λ c κs. search rules) (λ c κs. search rules) loop-holds (λ c. search rules) (λ c κs. search rules)
     (λ c. search rules) (λ c κs. search rules) (λ c. search rules) (λ c. search rules) cast-t17 returns (λ c. search rules)

@@ -7,7 +7,7 @@ use Rattle.bits.proofs.reader.Reader.peek_non_zero.Tie as tie
 returns : tie.Need-returns
 returns c =
     let begun = c.before.before.before in
-    (reading begun.requires (is-non_zero begun.args.count c.before.read.ensures.runs), refl)
+    (reading begun.requires (is-non_zero begun.args.count c.before.read-peeked.ensures.runs), refl)
 
-pub peek-non-zero-spec : {M : Type 1} → statement M
-peek-non-zero-spec = tie.close (tie.spec (λ c κs. search rules) returns)
+pub peek_non_zero_spec : {M : Type 1} → statement M
+peek_non_zero_spec = tie.close (tie.spec (λ c κs. search rules) returns)

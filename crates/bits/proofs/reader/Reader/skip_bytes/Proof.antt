@@ -10,40 +10,40 @@ use Rattle.bits.proofs.WholeBytes.{equal-on, equal_off, equal-end}
 use Rattle.bits.proofs.reader.Reader.skip_bytes.Statement.{statement}
 use Rattle.bits.proofs.reader.Reader.skip_bytes.Tie as tie
 
-abbrev invariant-loop : tie.invariant-loop
+abbrev invariant-loop : tie.invariant-loop-b
 invariant-loop s v from b₀ b = (from ≤ b) × (b ≤ longest_stream) × (equal_bytes s v from (length s - from) ≡ b - from + equal_bytes s v b (length s - b))
 
-abbrev decreases-loop : tie.decreases-loop
+abbrev decreases-loop : tie.decreases-loop-b
 decreases-loop s v from b₀ b = length s - b
 
-loop-holds : tie.Need-loop-init invariant-loop decreases-loop
+loop-holds : tie.Need-loop-b-init invariant-loop decreases-loop
 loop-holds c = (omega arith, omega arith, omega arith)
 
-returns : tie.Need-returns invariant-loop decreases-loop
+returns : tie.Need-returns-then-s-b invariant-loop decreases-loop
 returns c =
     let x = c.before.before.before.before in
     let a = x.before.before.before.before.args in
-    let at : x.before.tell.result.at.0 ≡ boundary a.self.at.0 = omega arith in (
+    let at : x.before.tell-from.result.at.0 ≡ boundary a.self.at.0 = omega arith in (
       rw (← at)
-          (omega (arith, x.loop.invariant.2, equal_off a.s.now a.v x.loop.b c.before.before.before.loop-test.true c.before.if1.true)),
+          (omega (arith, x.loop-b.invariant.2, equal_off a.s.now a.v x.loop-b.b c.before.before.before.loop-b-test.true c.before.if-s-b.true)),
       (omega arith, omega arith),
     )
 
-loop-again : tie.Need-loop-preserved invariant-loop decreases-loop
+loop-again : tie.Need-loop-b-preserved invariant-loop decreases-loop
 loop-again c =
     let x = c.before.before.before in
     let a = x.before.before.before.before.args in
-    (omega arith, omega arith, omega (arith, x.loop.invariant.2, equal-on a.s.now a.v x.loop.b c.before.before.loop-test.true c.if1.false))
+    (omega arith, omega arith, omega (arith, x.loop-b.invariant.2, equal-on a.s.now a.v x.loop-b.b c.before.before.loop-b-test.true c.if-s-b.false))
 
-returns-2 : tie.Need-returns-2 invariant-loop decreases-loop
+returns-2 : tie.Need-returns invariant-loop decreases-loop
 returns-2 c =
     let x = c.before.before in
     let a = x.before.before.before.before.args in
-    let at : x.before.tell.result.at.0 ≡ boundary a.self.at.0 = omega arith in
-    (rw (← at) (omega (arith, x.loop.invariant.2, equal-end a.s.now a.v x.loop.b c.before.loop-test.false)), (omega arith, omega arith))
+    let at : x.before.tell-from.result.at.0 ≡ boundary a.self.at.0 = omega arith in
+    (rw (← at) (omega (arith, x.loop-b.invariant.2, equal-end a.s.now a.v x.loop-b.b c.before.loop-b-test.false)), (omega arith, omega arith))
 
-pub skip-bytes-spec : {M : Type 1} → statement M
-skip-bytes-spec =
+pub skip_bytes_spec : {M : Type 1} → statement M
+skip_bytes_spec =
     tie.close
     (tie.spec
     invariant-loop

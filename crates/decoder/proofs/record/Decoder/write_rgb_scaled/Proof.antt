@@ -25,48 +25,48 @@ abbrev call : tie.After-possible → tie.Start
 call c = c.before.before.before
 
 -- what is known behind each question
-behind-2 : (c : tie.Else1) → possible (call c.before).args.self ≡ true
-behind-2 c = opposite c.before.possible.ensures c.if1.false
+behind-2 : (c : tie.Else-not-possible) → possible (call c.before).args.self ≡ true
+behind-2 c = opposite c.before.possible.ensures c.if-not-possible.false-raw
 
-behind-6 : (c : tie.Else2) → let s = call c.before.before.before in store_bytes s.args.self ≤ length s.args.store.now
-behind-6 c = rw c.before.store_bytes.ensures at c.if2.false
+behind-6 : (c : tie.Else-store-store_bytes) → let s = call c.before.before.before in store_bytes s.args.self ≤ length s.args.store.now
+behind-6 c = rw c.before.store_bytes.ensures at c.if-store-store_bytes.false
 
-behind-10 : (c : tie.Else3) → let s = call c.before.before.before.before in
+behind-10 : (c : tie.Else-not-has_header-index) → let s = call c.before.before.before.before in
     (s.args.self.sequence.has_sequence_header && leb s.args.index 2) ≡ true
-behind-10 c = opposite refl c.if3.false
+behind-10 c = opposite refl c.if-not-has_header-index.false-raw
 
-behind-11 : (c : tie.Else4) → let t = c.before.before in let s = call t.before.before.before.before in
+behind-11 : (c : tie.Else-not-fits) → let t = c.before.before in let s = call t.before.before.before.before in
     fits s.args.w s.args.h s.args.area.now ≡ true
-behind-11 c = opposite c.before.fits2.ensures c.if4.false
+behind-11 c = opposite c.before.fits.ensures c.if-not-fits.false-raw
 
-returns : tie.Need-returns
-returns c = convert-2 (call c.before).args.self _ _ _ _ _ (opposite c.before.possible.ensures c.if1.true)
+returns : tie.Need-returns-then-not-possible
+returns c = convert-2 (call c.before).args.self _ _ _ _ _ (opposite c.before.possible.ensures c.if-not-possible.true-raw)
 
-store-bytes-requires : tie.Need-store-bytes-requires
+store-bytes-requires : tie.Need-store_bytes-requires
 store-bytes-requires c κs = fit_of (behind-2 c)
 
-returns-2 : tie.Need-returns-2
+returns-2 : tie.Need-returns-then-store-store_bytes
 returns-2 c =
     let b = c.before in
     let i = b.before in
-    convert-6 (call i.before).args.self _ _ _ _ _ (behind-2 i) (rw b.store_bytes.ensures at c.if2.true)
+    convert-6 (call i.before).args.self _ _ _ _ _ (behind-2 i) (rw b.store_bytes.ensures at c.if-store-store_bytes.true)
 
-returns-3 : tie.Need-returns-3
+returns-3 : tie.Need-returns-then-not-has_header-index
 returns-3 c =
     let j = c.before in
     let i = j.before.before in
-    convert-10 (call i.before).args.self _ _ _ _ _ (behind-2 i) (behind-6 j) (opposite refl c.if3.true)
+    convert-10 (call i.before).args.self _ _ _ _ _ (behind-2 i) (behind-6 j) (opposite refl c.if-not-has_header-index.true-raw)
 
-returns-4 : tie.Need-returns-4
+returns-4 : tie.Need-returns-then-not-fits
 returns-4 c =
     let t = c.before.before in
     let j = t.before in
     let i = j.before.before in
-    convert-11 (call i.before).args.self _ _ _ _ _ (behind-2 i) (behind-6 j) (behind-10 t) (opposite c.before.fits2.ensures c.if4.true)
+    convert-11 (call i.before).args.self _ _ _ _ _ (behind-2 i) (behind-6 j) (behind-10 t) (opposite c.before.fits.ensures c.if-not-fits.true-raw)
 
-write-picture-requires : tie.Need-write-picture-requires
+write-picture-requires : tie.Need-write_picture-requires
 write-picture-requires c κs =
-    let g = c.before in
+    let g = c.before.before in
     let t = g.before.before in
     let j = t.before in
     let i = j.before.before in
@@ -80,17 +80,17 @@ write-picture-requires c κs =
       ),
     )
 
-returns-5 : tie.Need-returns-5
+returns-5 : tie.Need-returns
 returns-5 c =
     let x = c.before.before in
-    let g = x.before.before in
+    let g = x.before.before.before in
     let t = g.before.before in
     let j = t.before in
     let i = j.before.before in
-    convert-yes (call i.before).args.self _ _ _ _ _ (behind-2 i) (behind-6 j) (behind-10 t) (behind-11 g) x.write-picture.ensures
+    convert-yes (call i.before).args.self _ _ _ _ _ (behind-2 i) (behind-6 j) (behind-10 t) (behind-11 g) x.write_picture.ensures
 
-pub write-rgb-scaled-spec : {M : Type 1} → statement M
-write-rgb-scaled-spec =
+pub write_rgb_scaled_spec : {M : Type 1} → statement M
+write_rgb_scaled_spec =
     tie.close
     (tie.spec
     (λ c κs. search rules)

@@ -5,20 +5,20 @@ use Rattle.prediction.proofs.Places.{height-most, bytes_most, row_in, max-from, 
 use Rattle.prediction.proofs.position.BlockPosition.max_address.Statement.{statement}
 use Rattle.prediction.proofs.position.BlockPosition.max_address.Tie as tie
 
-add-result : tie.Need-overflow-add-result
+add-result : tie.Need-overflow_add-result
 add-result c = let k = c.before.before.before.requires in omega (arith, row_in k, height-most k)
 
-mul-result-2 : tie.Need-overflow-mul-result-2
+mul-result-2 : tie.Need-overflow_mul-result-2
 mul-result-2 c = let k = c.before.before.before.requires in rw c.before.before.width.ensures (omega (arith, max-to k, bytes_most k))
 
-sub-result-2 : tie.Need-overflow-sub-result-2
+sub-result-2 : tie.Need-overflow_sub-result-2
 sub-result-2 c = rw c.before.before.before.width.ensures (max-from c.before.before.before.before.requires)
 
 returns : tie.Need-returns
 returns c = rw c.before.before.before.width.ensures
 
-pub max-address-spec : {M : Type 1} → statement M
-max-address-spec =
+pub max_address_spec : {M : Type 1} → statement M
+max_address_spec =
     tie.close
     (tie.spec
     (λ c κs. search rules)
