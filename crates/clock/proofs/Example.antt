@@ -65,6 +65,7 @@ unfolding iterate all_below div of_int to_bits bit_at bits_at read_at after_read
     intra_quant_matrix non_intra_quant_matrix premultiplier_matrix bounded pixel_aspect_ratio picture_rate if_ok bind_result P.direction P.picture_header
     P.slices_in_roles P.slices_step P.slices P.picture
     fresh fresh_state possible_display cleared possible matrix size rest find_sequence accepted check_size check_header check_store opened opening_from opening
-    ensure_start_code is_followed time_of counted output_picture shown after_picture decoded searched picture_step pictures call_result_of check_header_and_store start_state
+    ensure_start_code is_followed time_of counted output_picture shown after_picture decoded searched
+    picture_step pictures call_result_of check_header_and_store start_state
     after_checks decode
 times-computed = record { at-4 = refl; at-0 = refl }

@@ -2,7 +2,7 @@
 use Rattle.std.specs.Prelude.{◌≡◌, Bool, true, false, not, ◌&&◌, List, [], ◌∷◌, ◌++◌, map, ℕ, ◌+◌, ◌*◌, ◌<◌, eqb, Float}
 use Rattle.std.specs.Float.{inf, binary64}
 use Rattle.std.specs.Float.Ieee.Positive.{num, den}
-use Rattle.bits.specs.Programs.{run, if◌then◌else◌}
+use Rattle.bits.specs.Programs.{run, when◌then◌else◌}
 use Rattle.header.specs.State.{zero_float}
 use Rattle.header.specs.Sequences.{rest, rate_of}
 use Rattle.picture_state.specs.declared.types.{Matrices.Matrices, Sizes.Sizes}
@@ -23,18 +23,18 @@ use Rattle.clock.specs.Nearest.{Nearest}
 
 -- RULES 8.9: the time of the picture number k, counted from 0: 0.0, then k ÷ rate
 unfoldable pub time_at : Float → ℕ → Float
-time_at rate k = if eqb k 0 then zero_float else time_of k rate
+time_at rate k = when eqb k 0 then zero_float else time_of k rate
 
 -- RULES 8.9, 8.11: the times of pictures, of each of which is said whether it is flushed. k pictures came before, flushes not counted, the last with the time t
 unfoldable pub times_from : Float → ℕ → Float → List Bool → List Float
 times_from rate k t [] = []
 times_from rate k t (flushed ∷ fs) =
-    if flushed then t ∷ times_from rate k t fs else time_at rate k ∷ times_from rate (k + 1) (time_at rate k) fs
+    when flushed then t ∷ times_from rate k t fs else time_at rate k ∷ times_from rate (k + 1) (time_at rate k) fs
 
 -- RULES 8.10: how many of them are counted
 unfoldable pub counted_in : List Bool → ℕ
 counted_in [] = 0
-counted_in (flushed ∷ fs) = if flushed then counted_in fs else counted_in fs + 1
+counted_in (flushed ∷ fs) = when flushed then counted_in fs else counted_in fs + 1
 
 -- P holds of the number and the time of each picture that is counted, k being counted before
 unfoldable pub EachCounted : (ℕ → Float → Type 0) → ℕ → List Bool → List Float → Type 0
@@ -91,7 +91,7 @@ rate_read s d = rate_of (run rest s (position (with_size s d))).value.picture_ra
 -- it. The first was given d; 0.0 where none has a header
 unfoldable pub accepted_rate : List ℕ → Decoder → List Decoder → Float
 accepted_rate s d [] = zero_float
-accepted_rate s d (x ∷ xs) = if x.sequence.has_sequence_header then rate_read s d else accepted_rate s x xs
+accepted_rate s d (x ∷ xs) = when x.sequence.has_sequence_header then rate_read s d else accepted_rate s x xs
 
 -- the records that the calls left
 abbrev pub records_left : List DecodeResult → List Decoder

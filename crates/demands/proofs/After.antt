@@ -131,7 +131,8 @@ module _ (d : Decoder) (s l : List ℕ) where
         → SameFrom (store_bytes (with_header_if_missing s d)) l m
     on-to h = then_same (begun-same (with_header_if_missing s d) long) h
 
-    ended-row : {e : LoopEnd} → CallEnd s sizes matrices (start_state d (with_header_if_missing s d) l) e → Row (call_result_of d (with_header_if_missing s d) e)
+    ended-row : {e : LoopEnd} → CallEnd s sizes matrices (start_state d (with_header_if_missing s d) l) e
+        → Row (call_result_of d (with_header_if_missing s d) e)
     unfolding call_result_of
     ended-row (hands k i h) =
         record { after = record { given = _; step = k.step; left = _; outputs = i; decoder = refl; store = refl }; same = on-to h }

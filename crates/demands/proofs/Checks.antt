@@ -42,6 +42,7 @@ use Rattle.demands.specs.Checks.{Check, check, first_failing, IsFirstFailing, th
 
 pub first-is : (qs : List Check) {n : ℕ} → IsFirstFailing n qs → first_failing qs ≡ n
 unfolding first_failing
+first-is [] x = elim x [ ]
 first-is (q ∷ qs) (this-one e h) = rw h e
 first-is (q ∷ qs) (a-later h k) = rw h (first-is qs k)
 

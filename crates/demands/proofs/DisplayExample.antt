@@ -39,9 +39,11 @@ pub record Shown : Type 0 where
 
 pub shown-example : Shown
 unfolding iterate all_below of_int bit_at bits_at read_at after_read code_prefix code_from found run bind loop find_step find_start_code
-    intra_quant_matrix non_intra_quant_matrix premultiplier_matrix bounded if_ok bind_result P.direction P.picture_header P.slices_in_roles P.slices_step P.slices P.picture
+    intra_quant_matrix non_intra_quant_matrix premultiplier_matrix bounded if_ok bind_result P.direction P.picture_header
+    P.slices_in_roles P.slices_step P.slices P.picture
     fresh fresh_state possible_display cleared possible matrix size rest find_sequence accepted check_size check_header check_store opened opening_from opening
-    ensure_start_code is_followed time_of counted output_picture shown after_picture decoded searched picture_step pictures call_result_of check_header_and_store start_state
+    ensure_start_code is_followed time_of counted output_picture shown after_picture decoded searched
+    picture_step pictures call_result_of check_header_and_store start_state
     after_checks decode
     displayed waiting step_reads pictures_read decode_reads
 shown-example = record { reads = refl; shows = refl; waits = refl; reads-no-more = refl; shows-no-more = refl }

@@ -49,13 +49,16 @@ unfolding step_checks
 step-number {n} s z m x =
     by-case (λ (qs : List Check). IsFirstFailing n (Q.check_has_picture s x.state ∷ qs) → 6 < n) (is_picture_ready s x.state) (λ t k. three k) (λ t k. one k)
   where
-    three : IsFirstFailing n (Q.check_has_picture s x.state ∷ Q.are_dcs_inside (picture_end s z m x) ∷ Q.are_predictions_inside (picture_end s z m x) ∷ []) → 6 < n
+    three : IsFirstFailing n (Q.check_has_picture s x.state ∷ Q.are_dcs_inside (picture_end s z m x) ∷ Q.are_predictions_inside (picture_end s z m x) ∷ [])
+        → 6 < n
     three (this-one e z) = omega arith
     three (a-later y (this-one e z)) = omega arith
     three (a-later y (a-later u (this-one e z))) = omega arith
+    three (a-later y (a-later u (a-later v x))) = elim x [ ]
 
     one : IsFirstFailing n (Q.check_has_picture s x.state ∷ []) → 6 < n
     one (this-one e z) = omega arith
+    one (a-later y x) = elim x [ ]
 
 pictures-number : {n : ℕ} (s : List ℕ) (z : Sizes) (m : Matrices) (x : DecodingState) → IsFirstFailing n (pictures_checks s z m x) → 6 < n
 unfolding pictures_checks
@@ -67,13 +70,15 @@ pictures-number {n} s z m x k = go (picture_step s z m x) (either (step_checks s
         → 6 < n
     go t (inl i) = step-number s z m (after_picture_search s x) i
     go (continue y) (inr i) = step-number s z m (after_picture_search s y) i
+    go (finish e) (inr i) = elim i [ ]
 
 -- a number that is neither 3 nor 4
 other : {j n : ℕ} → (n ≡ 3) ⊎ (n ≡ 4) → j ≡ n → (j ≡ 3 → ⊥) → (j ≡ 4 → ⊥) → ⊥
 other {j} {n} w e p q = ⊎_elim (λ (g : n ≡ 3). p (e ∙ g)) (λ (g : n ≡ 4). q (e ∙ g)) w
 
 -- 136 bytes behind the code are enough: the code is there, and so are the bits
-module _ (s : List ℕ) (d : Decoder) (b : ℕ) (unread : eq_z (start_code d) (pos 0xb3) ≡ false) (k : SequenceAt s (position d) b) (f : b + 4 + 136 ≤ length s) where
+module _ (s : List ℕ) (d : Decoder) (b : ℕ) (unread : eq_z (start_code d) (pos 0xb3) ≡ false)
+    (k : SequenceAt s (position d) b) (f : b + 4 + 136 ≤ length s) where
   code-there : (Q.check_sequence_code s d).passes ≡ false → ⊥
   code-there z = true≢false (sym (edge-code s d b unread k) ∙ z)
 
@@ -102,6 +107,7 @@ module _ (s l : List ℕ) (r : Opened) (m : List ℕ) (gave : Opens s l r m) (b 
       go (a-later y (a-later u (this-one e z))) = bits-there s fresh b unread k f z
       go (a-later y (a-later u (a-later v (this-one e z)))) = other w e (λ g. omega arith) (λ g. omega arith)
       go (a-later y (a-later u (a-later v (a-later t (this-one e z))))) = other w e (λ g. omega arith) (λ g. omega arith)
+      go (a-later y (a-later u (a-later v (a-later t (a-later i x))))) = elim x [ ]
 
 -- ---- decode, with no header and no start code of one in the record
 

@@ -163,7 +163,7 @@ pub shown-pictures : Pictures
 unfolding clamp255 half_toward_zero odd store_row store_rows iterate all_below of_int div
     bit_at bits_at read_at after_read code_prefix code_from found run bind for_below loop find_step find_start_code
     Tables.macroblock_address_increment_index Tables.macroblock_address_increment_value Tables.macroblock_type_intra_index Tables.macroblock_type_intra_value
-    Tables.macroblock_type_predictive_index Tables.macroblock_type_predictive_value Tables.macroblock_type_bindex Tables.macroblock_type_bvalue
+    Tables.macroblock_type_predictive_index Tables.macroblock_type_predictive_value Tables.macroblock_type_b_index Tables.macroblock_type_b_value
     Tables.motion_index Tables.motion_value Tables.dct_size_luminance_index Tables.dct_size_luminance_value Tables.dct_size_chrominance_index
     Tables.dct_size_chrominance_value Tables.dct_coeff_index Tables.dct_coeff_value
     walk_step walk vlc Codes.macroblock_address_increment Codes.macroblock_type_intra Codes.macroblock_type_predictive Codes.macroblock_type_b Codes.motion
@@ -173,13 +173,15 @@ unfolding clamp255 half_toward_zero odd store_row store_rows iterate all_below o
     Coefficients.escape_level Coefficients.escape Coefficients.run_level Coefficients.coefficient dequantised
     Syntax.pair_step Syntax.pairs Syntax.intra_coded Syntax.coded_block Block.with_pairs Block.reconstructed Block.block Block.block_data_after
     butterfly columns rows idct dc_only sample prediction_source predicted set_const overwrite
-    and_then if_ok bind_result lift increment_step increment predict_from_source following predicted_planes unless_refused predict_from predict_both predict_skipped
+    and_then if_ok bind_result lift increment_step increment predict_from_source following
+    predicted_planes unless_refused predict_from predict_both predict_skipped
     predict
     macroblock_type scale vector forward backward vectors head pattern block_address results written block_result one_block blocks skip_reset
     advance predict_unless_intra body first_macroblock later_macroblock macroblock extra_step extra after_macroblock slice_step slice P.direction
     P.picture_header P.after_slice P.slices_step P.slices P.slices_in_roles P.picture
     fresh fresh_state possible_display cleared possible matrix size rest find_sequence accepted check_size check_header check_store opened opening_from opening
-    ensure_start_code is_followed time_of counted output_picture shown flushed after_picture decoded searched picture_step pictures call_result_of check_header_and_store
+    ensure_start_code is_followed time_of counted output_picture shown flushed after_picture decoded
+    searched picture_step pictures call_result_of check_header_and_store
     start_state after_checks decode
 shown-pictures = record {
   hands = refl;

@@ -6,7 +6,7 @@ use mathlib.Core.Logic.{◌⊎◌, inl, inr, ⊎_elim}
 use Prim.Native.Nat.{ℕ, ◌<◌}
 use native.Mathlib.Omega.{arith}
 use lib.IntN.{ℤ, pos, negsuc}
-use borrow.Author.Tests.{not_true}
+use borrow.Author.Tests.{not-true}
 use Rattle.laws.specs.Loops.{finish}
 use Rattle.laws.proofs.Loops.{steps-again, steps-stop}
 use Rattle.laws.proofs.Tests.{both}
@@ -128,7 +128,7 @@ module _ (s : List ℕ) (z : Sizes) (m : Matrices) where
   step-aborts y i r =
       let x = (after_picture_search s y).state in
       let k = both (not (eq_z (start_code x) (negsuc 0))) (is_followed s (position x)) i in
-      rw (not_true (eq_z (start_code x) (negsuc 0)) k.0, k.1, r)
+      rw (not-true (eq_z (start_code x) (negsuc 0)) k.0, k.1, r)
 
   step-outputs : (y : DecodingState) {i : Shown} {o : DecodingState} → Outputs s z m (after_picture_search s y) i o
       → picture_step s z m y ≡ finish (finished (H.Picture i) o)

@@ -22,7 +22,8 @@ use Rattle.prediction.specs.declared.planes.Plane.TheVariants.{Y, Cr, Cb}
 use Rattle.prediction.specs.declared.predict.Predicted.{Predicted}
 use Rattle.prediction.specs.declared.predict.Predicted.TheVariants.{Done, Refused}
 use Rattle.prediction.specs.Predict.{macroblock_at, block_position_of, bytes, prediction_source, predicted, address, width, chroma}
-use Rattle.prediction.specs.Planes.{PlaneAfter, of_plane, block_size, plane_of, plane_length, plane_start, offset, predict_from_source, and_then_plane, predicted_planes}
+use Rattle.prediction.specs.Planes.{PlaneAfter, of_plane, block_size, plane_of, plane_length, plane_start}
+use Rattle.prediction.specs.Planes.{offset, predict_from_source, and_then_plane, predicted_planes}
 use Rattle.prediction.specs.Planes.{stores_bytes}
 use Rattle.prediction.specs.Writers.{set_const, overwrite, add_const, add_block, block_width, block_address}
 use Rattle.picture_state.specs.declared.types.{Context.Context, Matrices.Matrices}

@@ -103,7 +103,8 @@ module _ (s : List ℕ) (z : Sizes) (m : Matrices) where
   pub data CallEnd (x : DecodingState) : LoopEnd → Type 0 where
     hands : {y left : DecodingState} {i : Shown} → Reached x y → Outputs s z m (after_picture_search s y) i left
         → SameFrom (stores_bytes z.mb_size) x.store left.store → CallEnd x (finished (H.Picture i) left)
-    seven : {y : DecodingState} → Reached x y → is_picture_ready s (after_picture_search s y).state ≡ false → is_flush s (after_picture_search s y).state ≡ false
+    seven : {y : DecodingState} → Reached x y → is_picture_ready s (after_picture_search s y).state ≡ false
+        → is_flush s (after_picture_search s y).state ≡ false
         → CallEnd x (finished (H.Refused 7) (after_picture_search s y))
     stops : {y : DecodingState} {e : Stop} → Reached x y → is_picture_ready s (after_picture_search s y).state ≡ true
         → picture_end s z m (after_picture_search s y) ≡ error e

@@ -85,7 +85,8 @@ pub record Searches : Type 0 where
 
 pub searches : Searches
 unfolding iterate all_below bit_at bits_at read_at after_read code_prefix code_from found run bind loop find_step find_start_code
-    intra_quant_matrix non_intra_quant_matrix premultiplier_matrix bounded fresh fresh_state possible_display cleared possible matrix size rest find_sequence accepted
+    intra_quant_matrix non_intra_quant_matrix premultiplier_matrix bounded fresh fresh_state possible_display cleared possible
+    matrix size rest find_sequence accepted
     check_size check_header check_store opened opening_from opening ensure_start_code is_followed flushed searched picture_step pictures call_result_of
     check_header_and_store
     start_state after_checks decode

@@ -130,21 +130,25 @@ module _ {p q t f : Bool} where
   convert-2 (a-later u (this-one e z)) = let no : ⊥ = omega arith in absurd no
   convert-2 (a-later u (a-later v (this-one e z))) = let no : ⊥ = omega arith in absurd no
   convert-2 (a-later u (a-later v (a-later w (this-one e z)))) = let no : ⊥ = omega arith in absurd no
+  convert-2 (a-later u (a-later v (a-later w (a-later i x)))) = elim x [ ]
 
   pub convert-6 : IsFirstFailing 6 (check 2 p ∷ check 6 q ∷ check 10 t ∷ check 11 f ∷ []) → (p ≡ true) × (q ≡ false)
   convert-6 (this-one e z) = let no : ⊥ = omega arith in absurd no
   convert-6 (a-later u (this-one e z)) = (u, z)
   convert-6 (a-later u (a-later v (this-one e z))) = let no : ⊥ = omega arith in absurd no
   convert-6 (a-later u (a-later v (a-later w (this-one e z)))) = let no : ⊥ = omega arith in absurd no
+  convert-6 (a-later u (a-later v (a-later w (a-later i x)))) = elim x [ ]
 
   pub convert-10 : IsFirstFailing 10 (check 2 p ∷ check 6 q ∷ check 10 t ∷ check 11 f ∷ []) → (p ≡ true) × (q ≡ true) × (t ≡ false)
   convert-10 (this-one e z) = let no : ⊥ = omega arith in absurd no
   convert-10 (a-later u (this-one e z)) = let no : ⊥ = omega arith in absurd no
   convert-10 (a-later u (a-later v (this-one e z))) = (u, v, z)
   convert-10 (a-later u (a-later v (a-later w (this-one e z)))) = let no : ⊥ = omega arith in absurd no
+  convert-10 (a-later u (a-later v (a-later w (a-later i x)))) = elim x [ ]
 
   pub convert-11 : IsFirstFailing 11 (check 2 p ∷ check 6 q ∷ check 10 t ∷ check 11 f ∷ []) → (p ≡ true) × (q ≡ true) × (t ≡ true) × (f ≡ false)
   convert-11 (this-one e z) = let no : ⊥ = omega arith in absurd no
   convert-11 (a-later u (this-one e z)) = let no : ⊥ = omega arith in absurd no
   convert-11 (a-later u (a-later v (this-one e z))) = let no : ⊥ = omega arith in absurd no
   convert-11 (a-later u (a-later v (a-later w (this-one e z)))) = (u, v, w, z)
+  convert-11 (a-later u (a-later v (a-later w (a-later i x)))) = elim x [ ]

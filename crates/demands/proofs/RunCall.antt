@@ -112,7 +112,8 @@ module _ (s : List ℕ) (short : length s ≤ longest_stream) where
       let h = leb-true (store_bytes x) (length l) e in k.keeps (cleared (store_bytes x) l) (omega (arith, cleared-length (store_bytes x) l h))
 
 -- how the turns from the record x on end
-abbrev pub EndsFrom : (s : List ℕ) → length s ≤ longest_stream → ((k : ℕ) → get_or s k 0 < 256) → (x : Decoder) {m : List ℕ} → Keeps s x m → ℕ → LoopEnd → Type 0
+abbrev pub EndsFrom : (s : List ℕ) → length s ≤ longest_stream → ((k : ℕ) → get_or s k 0 < 256)
+    → (x : Decoder) {m : List ℕ} → Keeps s x m → ℕ → LoopEnd → Type 0
 EndsFrom s short bytes x k = Ends s x.sequence.sizes x.sequence.matrices short bytes (keeps-sized k)
 
 pub steps-end : (s : List ℕ) (short : length s ≤ longest_stream) (bytes : (k : ℕ) → get_or s k 0 < 256) (x : Decoder) {m : List ℕ} (k : Keeps s x m)

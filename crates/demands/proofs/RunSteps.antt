@@ -27,7 +27,8 @@ use Rattle.playback.specs.declared.state.State.{State}
 use Rattle.playback.specs.State.{position, start_code, frames, state_after_picture, has_reference_frame_as}
 use Rattle.playback.specs.Search.{next_picture, has_ended, is_followed}
 use Rattle.playback.specs.Display.{counted, is_waiting}
-use Rattle.playback.specs.Steps.{DecodingState, with_state, LoopEnd, finished, aborted, picture_state_of, after_picture_search, picture_run, picture_step, pictures}
+use Rattle.playback.specs.Steps.{DecodingState, with_state, LoopEnd, finished, aborted, picture_state_of}
+use Rattle.playback.specs.Steps.{after_picture_search, picture_run, picture_step, pictures}
 use Rattle.playback.specs.Cases.{is_picture_ready, is_flush, ReadsPicture, state_left_by, b-picture, reference-picture, flushed-picture, StepCase, outputs}
 use Rattle.playback.specs.Cases.{keeps-reference}
 use Rattle.playback.specs.Cases.{aborts, no-picture}

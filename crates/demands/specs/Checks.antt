@@ -2,7 +2,7 @@
 use Rattle.std.specs.Prelude.{◌≡◌, Bool, true, false, not, ◌&&◌, ◌||◌, List, [], ◌∷◌, ◌++◌, ℕ, ◌≤◌, eqb, leb, negsuc, length}
 use Rattle.laws.specs.Loops.{continue, finish}
 use Rattle.bits.specs.Bits.{has}
-use Rattle.bits.specs.Programs.{run, eq_z, if◌then◌else◌}
+use Rattle.bits.specs.Programs.{run, eq_z, when◌then◌else◌}
 use Rattle.picture_state.specs.Result.{Result, ok, error}
 use Rattle.picture_state.specs.Stop.{Cause, dc_outside, prediction_outside, Stop}
 use Rattle.picture_state.specs.declared.types.{Matrices.Matrices, Sizes.Sizes}
@@ -29,7 +29,7 @@ check n b = record { number = n; passes = b }
 -- RULES D1.4: the number of the first failing check (the first "no"); 0 where there is none
 unfoldable pub first_failing : List Check → ℕ
 first_failing [] = 0
-first_failing (q ∷ qs) = if q.passes then first_failing qs else q.number
+first_failing (q ∷ qs) = when q.passes then first_failing qs else q.number
 
 -- RULES D1.4: the question with the number n is the first whose answer is "no"
 pub data IsFirstFailing (n : ℕ) : List Check → Type 0 where
@@ -103,7 +103,7 @@ are_predictions_inside w = check 9 (not (stops_for is_prediction w))
 unfoldable pub step_checks : List ℕ → Sizes → Matrices → DecodingState → List Check
 step_checks s z m x =
     check_has_picture s x.state ∷
-    (if is_picture_ready s x.state then are_dcs_inside (picture_end s z m x) ∷ are_predictions_inside (picture_end s z m x) ∷ [] else [])
+    (when is_picture_ready s x.state then are_dcs_inside (picture_end s z m x) ∷ are_predictions_inside (picture_end s z m x) ∷ [] else [])
 
 -- RULES 8.7: one turn, or two
 unfoldable pub pictures_checks : List ℕ → Sizes → Matrices → DecodingState → List Check
@@ -112,7 +112,7 @@ pictures_checks s z m x =
 
 -- the record with which a hand-out comes to its pictures
 abbrev pub with_header_if_missing : List ℕ → Decoder → Decoder
-with_header_if_missing s d = if d.sequence.has_sequence_header then d else with_header s d
+with_header_if_missing s d = when d.sequence.has_sequence_header then d else with_header s d
 
 -- a hand-out comes to its pictures: the stream is not too long, there is no stop mark, and the questions 3 to 6 are answered "yes"
 pub record ComesToPictures (d : Decoder) (s l : List ℕ) : Type 0 where
@@ -124,9 +124,10 @@ pub record ComesToPictures (d : Decoder) (s l : List ℕ) : Type 0 where
 unfoldable pub decode_checks : Decoder → List ℕ → List ℕ → List Check
 decode_checks d s l =
     check_stream_length s ∷ check 2 (possible_with s d) ∷ check d.stop (eqb d.stop 0) ∷
-    ((if d.sequence.has_sequence_header then [] else check_sequence_code s d ∷ check_header_bits s d ∷ check_non_zero_size s d ∷ []) ++
+    ((when d.sequence.has_sequence_header then [] else check_sequence_code s d ∷ check_header_bits s d ∷ check_non_zero_size s d ∷ []) ++
     (check_store_length (with_header_if_missing s d) l
-    ∷ pictures_checks s (with_header_if_missing s d).sequence.sizes (with_header_if_missing s d).sequence.matrices (start_state d (with_header_if_missing s d) l)))
+    ∷ pictures_checks s (with_header_if_missing s d).sequence.sizes (with_header_if_missing s d).sequence.matrices
+    (start_state d (with_header_if_missing s d) l)))
 
 -- RULES "Order": the conversion asks 2, 6, 10, 11
 abbrev pub conversion_checks : Decoder → List ℕ → ℕ → List ℕ → ℕ → ℕ → List Check

@@ -3,7 +3,7 @@ use Rattle.std.specs.Prelude.{◌≡◌, Bool, true, ◌&&◌, List, [], ◌∷�
 use borrow.Rule.Slice.PartMut.{mid_of}
 use Rattle.laws.specs.Loops.{continue, finish}
 use Rattle.bits.specs.Bounds.{longest_stream}
-use Rattle.bits.specs.Programs.{run, if◌then◌else◌}
+use Rattle.bits.specs.Programs.{run, when◌then◌else◌}
 use Rattle.picture_state.specs.declared.types.{Matrices.Matrices, Sizes.Sizes}
 use Rattle.picture_state.specs.Result.{Result, ok, error}
 use Rattle.picture_state.specs.Stop.{Stop}
@@ -32,12 +32,12 @@ pub record CodedPicture : Type 0 where
 -- 11172-2, 2.4.4: a B picture is shown at once; an I or P picture waits, and is shown when the next one is decoded. h is the one that waits, if any
 unfoldable pub displayed : List (List ℕ) → List CodedPicture → List (List ℕ)
 displayed h [] = []
-displayed h (c ∷ cs) = if c.is_b then c.samples ∷ displayed h cs else h ++ displayed (c.samples ∷ []) cs
+displayed h (c ∷ cs) = when c.is_b then c.samples ∷ displayed h cs else h ++ displayed (c.samples ∷ []) cs
 
 -- the one that waits behind these pictures
 unfoldable pub waiting : List (List ℕ) → List CodedPicture → List (List ℕ)
 waiting h [] = h
-waiting h (c ∷ cs) = if c.is_b then waiting h cs else waiting (c.samples ∷ []) cs
+waiting h (c ∷ cs) = when c.is_b then waiting h cs else waiting (c.samples ∷ []) cs
 
 -- 11172-2, 2.4.4: the order of display: at the end the one that waits is shown, too
 abbrev pub display_order : List CodedPicture → List (List ℕ)
@@ -64,7 +64,7 @@ coded_picture_by s z x (error e) = []
 
 -- RULES 8.2, 8.3: the picture that a turn reads, behind its search
 unfoldable pub step_reads : List ℕ → Sizes → Matrices → DecodingState → List CodedPicture
-step_reads s z m x = if is_picture_ready s x.state then coded_picture_by s z x (picture_run s z m x).value else []
+step_reads s z m x = when is_picture_ready s x.state then coded_picture_by s z x (picture_run s z m x).value else []
 
 -- RULES 8.7: in one turn, or two
 unfoldable pub pictures_read : List ℕ → Sizes → Matrices → DecodingState → List CodedPicture
@@ -77,7 +77,7 @@ checked_reads s d l (passed x) = pictures_read s x.sequence.sizes x.sequence.mat
 
 -- the pictures that a hand-out reads: none where a question before them is answered "no"
 unfoldable pub decode_reads : Decoder → List ℕ → List ℕ → List CodedPicture
-decode_reads d s l = if leb (length s) longest_stream && possible_with s d && eqb d.stop 0 then checked_reads s d l (check_header_and_store s d l) else []
+decode_reads d s l = when leb (length s) longest_stream && possible_with s d && eqb d.stop 0 then checked_reads s d l (check_header_and_store s d l) else []
 
 -- the picture that it hands out: the samples of the store that it names
 abbrev pub shown_by : Outcome → Decoder → List ℕ → List (List ℕ)

@@ -1,12 +1,12 @@
 -- RULES D1.3 to D1.5, D2.2: `mpeg1_write_rgb_scaled`. Each theorem is of any call: by its contract it left y, and nothing else is assumed. The record and the
 -- store are lent to be read.
 use mathlib.Core.Path.{◌≡◌, refl, sym, ap, ◌∙◌}
-use mathlib.Core.Bool.{true, false, not, ◌&&◌, or_true}
+use mathlib.Core.Bool.{true, false, not, ◌&&◌, or-true}
 use mathlib.Core.List.{List}
 use mathlib.Core.Logic.{◌⊎◌, inl, inr}
 use Prim.Native.Nat.{ℕ, ◌<◌, ◌≤◌, ◌*◌}
 use native.Mathlib.Omega.{arith}
-use borrow.Author.Tests.{not_true, not_false}
+use borrow.Author.Tests.{not-true, not-false}
 use lib.Dec.{leb}
 use lib.ListN.{length}
 use Rattle.argb.specs.Scaled.{scaled}
@@ -31,7 +31,7 @@ member_named : (o : Converted) → ((n : ℕ) → o ≡ C.Refused n → member n
     → member (conversion_error_code o) host_conversion_error_codes ≡ true
 unfolding member
 member_named C.Written h = refl
-member_named (C.Refused n) h = rw (h n refl, or_true) refl
+member_named (C.Refused n) h = rw (h n refl, or-true) refl
 
 refused : (n : ℕ) (o : Converted) → conversion_error_code o ≡ n → 0 < n → o ≡ C.Refused n
 refused n C.Written e h = let no : ⊥ = omega arith in absurd no
@@ -54,7 +54,7 @@ module _ (l : List ℕ) (x : Memory) (k : ℕ) (a : List ℕ) (w h : ℕ) (y : C
 
   case : Case
   unfolding host_convert
-  case = by-case (λ z. y ≡ z → Case) (not (is_record x)) (λ e q. no_record (not_true (is_record x) e) q) (λ e q. asked (not_false (is_record x) e) q) gave
+  case = by-case (λ z. y ≡ z → Case) (not (is_record x)) (λ e q. no_record (not-true (is_record x) e) q) (λ e q. asked (not-false (is_record x) e) q) gave
 
   code : {n : ℕ} → y ≡ converts (conversion_error_code answer) area → y.answer ≡ n → conversion_error_code answer ≡ n
   code q e = sym (ap (λ z. z.answer) q) ∙ e

@@ -1,11 +1,11 @@
 -- RULES D1.3 to D1.5, D2.1, D2.3: `mpeg1_decode`. Each theorem is of any call: by its contract it left y, and nothing else is assumed.
 use mathlib.Core.Path.{◌≡◌, refl, sym, ap, subst, ◌∙◌}
-use mathlib.Core.Bool.{true, false, not, ◌&&◌, or_true}
+use mathlib.Core.Bool.{true, false, not, ◌&&◌, or-true}
 use mathlib.Core.List.{List}
 use mathlib.Core.Logic.{◌⊎◌, inl, inr}
 use Prim.Native.Nat.{ℕ, ◌<◌, ◌≤◌}
 use native.Mathlib.Omega.{arith}
-use borrow.Author.Tests.{not_true, not_false, leb-false}
+use borrow.Author.Tests.{not-true, not-false, leb-false}
 use lib.Dec.{leb}
 use lib.Ieee.{Float}
 use lib.ListN.{length}
@@ -38,7 +38,7 @@ use Rattle.host_demands.proofs.Behind.{same-behind, left_behind}
 member_named : (o : Outcome) → ((n : ℕ) → o ≡ H.Refused n → member n decode_error_codes ≡ true) → member (decode_error_code o) host_decode_error_codes ≡ true
 unfolding member
 member_named (H.Picture i) h = refl
-member_named (H.Refused n) h = rw (h n refl, or_true) refl
+member_named (H.Refused n) h = rw (h n refl, or-true) refl
 
 module _ (s l : List ℕ) (x : Memory) (k : List ℕ) (t : Float) (y : HostOutput) (gave : HostDecodes s l x k t y) where
   abbrev d : Decoder
@@ -66,11 +66,11 @@ module _ (s l : List ℕ) (x : Memory) (k : List ℕ) (t : Float) (y : HostOutpu
   case : Case
   unfolding host_decode
   case =
-      by-case (λ z. y ≡ z → Case) (not (leb (length s) longest_stream)) (λ e q. too_long (not_true (leb (length s) longest_stream) e) q) (λ e.
-      let short = not_false (leb (length s) longest_stream) e in
+      by-case (λ z. y ≡ z → Case) (not (leb (length s) longest_stream)) (λ e q. too_long (not-true (leb (length s) longest_stream) e) q) (λ e.
+      let short = not-false (leb (length s) longest_stream) e in
       by-case (λ z. y ≡ z → Case) (not (is_record x && leb picture_count (length k)))
-      (λ f q. no_record short (not_true (is_record x && leb picture_count (length k)) f) q)
-      (λ f q. let h = both (is_record x) (leb picture_count (length k)) (not_false (is_record x && leb picture_count (length k)) f) in
+      (λ f q. no_record short (not-true (is_record x && leb picture_count (length k)) f) q)
+      (λ f q. let h = both (is_record x) (leb picture_count (length k)) (not-false (is_record x && leb picture_count (length k)) f) in
       asked (record { short = short; held = h.0; room = h.1; is = q }))) gave.left
 
   -- what is kept of it, whatever it answered

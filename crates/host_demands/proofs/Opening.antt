@@ -1,10 +1,10 @@
 -- RULES D1.3 to D1.5, D2.1, D2.3: `mpeg1_open`. Each theorem is of any call: by its contract it left y, and nothing else is assumed.
 use mathlib.Core.Path.{◌≡◌, refl, sym, ap, subst, ◌∙◌}
-use mathlib.Core.Bool.{true, false, not, or_true, false≢true}
+use mathlib.Core.Bool.{true, false, not, or-true, false≢true}
 use mathlib.Core.List.{List}
 use Prim.Native.Nat.{ℕ, ◌<◌, ◌≤◌}
 use native.Mathlib.Omega.{arith}
-use borrow.Author.Tests.{not_true, not_false}
+use borrow.Author.Tests.{not-true, not-false}
 use lib.ListN.{length}
 use Rattle.bits.specs.Bounds.{longest_stream}
 use Rattle.laws.proofs.Tests.{by-case}
@@ -31,7 +31,7 @@ use Rattle.host_demands.proofs.Behind.{same-behind, left_behind}
 member_named : (o : Opening) → ((n : ℕ) → o ≡ O.Refused n → member n opening_error_codes ≡ true) → member (opening_error_code o) host_opening_error_codes ≡ true
 unfolding member
 member_named O.Ready h = refl
-member_named (O.Refused n) h = rw (h n refl, or_true, or_true) refl
+member_named (O.Refused n) h = rw (h n refl, or-true, or-true) refl
 
 refused : (n : ℕ) (o : Opening) → opening_error_code o ≡ n → 0 < n → o ≡ O.Refused n
 refused n O.Ready e h = let no : ⊥ = omega arith in absurd no
@@ -46,7 +46,7 @@ module _ (s l : List ℕ) (x : Memory) (y : HostResult) (gave : HostOpens s l x 
   case : Case
   unfolding host_open
   case =
-      by-case (λ z. y ≡ z → Case) (not (has_room x)) (λ e q. no_room (not_true (has_room x) e) q) (λ e q. asked (not_false (has_room x) e) q) gave.left
+      by-case (λ z. y ≡ z → Case) (not (has_room x)) (λ e q. no_room (not-true (has_room x) e) q) (λ e q. asked (not-false (has_room x) e) q) gave.left
 
   -- what opening gave
   abbrev opened : Opened

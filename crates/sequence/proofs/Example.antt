@@ -11,7 +11,7 @@ use Rattle.laws.specs.Stores.{store_row, store_rows}
 use Rattle.bits.specs.Bits.{bit_at, bits_at, read_at, after_read, code_prefix, code_from, found}
 use Rattle.bits.specs.Programs.{run, bind, for_below, loop, stream_fuel, find_step, find_start_code}
 use Rattle.codes.specs.Tables as Tables
-use Rattle.codes.specs.Standard.{macroblock_type_intra_codes, macroblock_type_predictive_codes, macroblock_type_bcodes}
+use Rattle.codes.specs.Standard.{macroblock_type_intra_codes, macroblock_type_predictive_codes, macroblock_type_b_codes}
 use Rattle.codes.specs.Walk.{walk_step, walk, vlc}
 use Rattle.codes.specs.Codes as Codes
 use Rattle.codes.specs.Matrices.{down_from, diagonals, zig_zag, intra_quant_matrix, non_intra_quant_matrix, premultiplier_matrix}
@@ -107,16 +107,17 @@ pub record Sequence : Type 0 where
   pub handed : rows (decoded stream opened-by) ≡ (0 ∷ 133 ∷ 128 ∷ 128 ∷ []) ∷ (2 ∷ 132 ∷ 132 ∷ 130 ∷ []) ∷ []
 
 pub sequence : Sequence
-unfolding clamp255 odd store_row store_rows bit_at bits_at read_at after_read code_prefix code_from found run bind for_below loop find_step find_start_code iterate of_int
+unfolding clamp255 odd store_row store_rows bit_at bits_at read_at after_read code_prefix code_from found run
+    bind for_below loop find_step find_start_code iterate of_int
     all_below
     Tables.macroblock_address_increment_index Tables.macroblock_address_increment_value Tables.macroblock_type_intra_index Tables.macroblock_type_intra_value
-    Tables.macroblock_type_predictive_index Tables.macroblock_type_predictive_value Tables.macroblock_type_bindex Tables.macroblock_type_bvalue
+    Tables.macroblock_type_predictive_index Tables.macroblock_type_predictive_value Tables.macroblock_type_b_index Tables.macroblock_type_b_value
     Tables.motion_index Tables.motion_value Tables.dct_size_luminance_index Tables.dct_size_luminance_value Tables.dct_size_chrominance_index
     Tables.dct_size_chrominance_value Tables.dct_coeff_index Tables.dct_coeff_value
     walk_step walk vlc Codes.macroblock_address_increment Codes.macroblock_type_intra Codes.macroblock_type_predictive Codes.macroblock_type_b Codes.motion
     Codes.dct_size_luminance Codes.dct_size_chrominance Codes.dct_coeff
     down_from diagonals zig_zag intra_quant_matrix non_intra_quant_matrix premultiplier_matrix pixel_aspect_ratio picture_rate
-    macroblock_type_intra_codes macroblock_type_predictive_codes macroblock_type_bcodes
+    macroblock_type_intra_codes macroblock_type_predictive_codes macroblock_type_b_codes
     complement right recon reconstructed residual standard_vector or32 dct_zz0 Dcs.dc_size Coefficients.run_level Coefficients.coefficient dequantised
     Syntax.pair_step Syntax.pairs butterfly columns row_pass idct formed overwrite add_block block_address
     and_then if_ok bind_result lift macroblock_type extra_step extra
@@ -124,6 +125,7 @@ unfolding clamp255 odd store_row store_rows bit_at bits_at read_at after_read co
     Prediction.predicted_plane Prediction.predicted_from Prediction.predicted Prediction.skipped_from Prediction.skipped
     Block.reconstructed Block.dct_dc Block.written Block.intra_block Block.non_intra_block Block.blocks S.coded_macroblock S.macroblock
     S.after_macroblock S.slice_step S.slice S.direction S.header S.after_slice S.slices_step S.slices S.picture
-    fresh fresh_state cleared ensure_start_code matrix size rest find_sequence accepted check_size check_header check_store opened opening_from opening following
+    fresh fresh_state cleared ensure_start_code matrix size rest find_sequence accepted check_size
+    check_header check_store opened opening_from opening following
     pictures
 sequence = record { ready = refl; four = refl; unended = refl; handed = refl }

@@ -91,7 +91,8 @@ opens : (s l : List ℕ) → Opens s (opening s l)
 unfolding opening opening_from
 opens s l =
     by-case (Opens s) (leb (length s) longest_stream)
-    (λ e. let h = leb-true (length s) longest_stream e in store-opens s l (check_header s fresh) h (header_accepts (fresh-waits s) h) (header-asks s h)) (λ e. tt)
+    (λ e. let h = leb-true (length s) longest_stream e in store-opens s l (check_header s fresh) h
+    (header_accepts (fresh-waits s) h) (header-asks s h)) (λ e. tt)
 
 pub readied : (s l : List ℕ) → (opening s l).answer ≡ O.Ready → Readied s (opening s l).decoder (opening s l).store
 readied s l e = subst (λ (o : Opening). IfReady s o (opening s l).decoder (opening s l).store) e (opens s l)

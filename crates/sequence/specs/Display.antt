@@ -1,6 +1,6 @@
 -- The order in which pictures are shown, and what it means that a run of calls hands them out so.
 use Rattle.std.specs.Prelude.{◌≡◌, List, [], ◌∷◌, ℕ, ◌+◌, ◌*◌, ◌<◌, eqb, get_or, Float}
-use Rattle.bits.specs.Programs.{if◌then◌else◌}
+use Rattle.bits.specs.Programs.{when◌then◌else◌}
 use Rattle.standard.specs.Standard.{Decoded}
 use Rattle.playback.specs.declared.outcome.Outcome.TheVariants.{Picture, Refused}
 use Rattle.decoder.specs.declared.answers.DecodeResult.{DecodeResult}
@@ -11,7 +11,7 @@ use Rattle.clock.specs.Times.{time_at}
 -- 2.4.1: a B picture is shown at once; an I or P picture waits for the next one, so that the B pictures between them come first. w is the one that waits
 abbrev pub displayed : Decoded → List Decoded → List Decoded
 displayed w [] = []
-displayed w (d ∷ ds) = if eqb d.header.picture_coding_type 3 then d ∷ displayed w ds else w ∷ displayed d ds
+displayed w (d ∷ ds) = when eqb d.header.picture_coding_type 3 then d ∷ displayed w ds else w ∷ displayed d ds
 
 -- DIFFERENCES A.7: the last picture is never decoded
 abbrev pub all_but_last : List Decoded → List Decoded
@@ -26,7 +26,7 @@ shown (d ∷ ds) = displayed d ds
 
 -- the store of a picture: a B picture's is `cur`, and that of an I or P picture has become `bwd`
 abbrev pub store_of : Decoded → ℕ
-store_of d = if eqb d.header.picture_coding_type 3 then d.stores.cur else d.stores.bwd
+store_of d = when eqb d.header.picture_coding_type 3 then d.stores.cur else d.stores.bwd
 
 -- RULES 6.11: in the store of the picture d, of n macroblocks, l has the samples that d was decoded to
 abbrev pub StoreHolds : ℕ → List ℕ → Decoded → Type 0

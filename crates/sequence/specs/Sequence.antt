@@ -3,7 +3,7 @@
 use Rattle.std.specs.Prelude.{Bool, true, false, ◌&&◌, ◌||◌, List, [], ◌∷◌, ◌++◌, ℕ, zero, suc, ◌%◌, eqb, ℤ, pos, negsuc}
 use Rattle.laws.specs.Loops.{Step, continue, finish, iterate}
 use Rattle.bits.specs.Bits.{Found, read_at, found}
-use Rattle.bits.specs.Programs.{run, eq_z, stream_fuel, find_start_code, if◌then◌else◌}
+use Rattle.bits.specs.Programs.{run, eq_z, stream_fuel, find_start_code, when◌then◌else◌}
 use Rattle.picture_state.specs.declared.types.{Stores.Stores, Sizes.Sizes, Matrices.Matrices}
 use Rattle.picture_state.specs.Result.{Result, ok, and_then}
 use Rattle.standard.specs.Standard.Prelude.{Forbidden, forbidden}
@@ -40,7 +40,7 @@ is_skipped m s f =
 abbrev pub follow_step : ℤ → Matrices → List ℕ → ℕ → Step ℕ (Result Forbidden Found)
 follow_step c m s a =
     let f = found s a in
-    if eq_z f.code c then finish (ok f) else if is_skipped m s f then continue f.at else finish forbidden
+    when eq_z f.code c then finish (ok f) else when is_skipped m s f then continue f.at else finish forbidden
 
 -- on to the next picture_start_code (00) or sequence_end_code (B7), which is c
 unfoldable pub following : ℤ → Matrices → List ℕ → ℕ → Result Forbidden Found
@@ -67,13 +67,13 @@ state_after_decoded x d = record {
   stores = d.stores;
   forward = d.header.forward;
   backward = d.header.backward;
-  has_reference_frame = if eqb d.header.picture_coding_type 3 then x.has_reference_frame else true;
+  has_reference_frame = when eqb d.header.picture_coding_type 3 then x.has_reference_frame else true;
   pels = d.pels;
 }
 
 -- the first picture is an I picture
 abbrev pub state_after_picture : SequenceState → Decoded → Result Forbidden SequenceState
-state_after_picture x d = if x.has_reference_frame || eqb d.header.picture_coding_type 1 then ok (state_after_decoded x d) else forbidden
+state_after_picture x d = when x.has_reference_frame || eqb d.header.picture_coding_type 1 then ok (state_after_decoded x d) else forbidden
 
 -- 2.4.1: start codes stand nowhere else, so a picture is the last where behind its own start code no other picture start code is found
 abbrev pub is_last : List ℕ → ℕ → Bool
@@ -94,7 +94,7 @@ pictures r z m s zero x a = forbidden
 pictures r z m s (suc n) x a =
     and_then (following (pos 0) m s a) λ f.
     let last = is_last s f.at in
-    let t = if last then ended s else s in
+    let t = when last then ended s else s in
     let o = run (picture r z m x.stores x.forward x.backward x.pels) t f.at in
     and_then o.value λ d. and_then (state_after_picture x d) λ y.
-    if last then at_end m t o.at d else and_then (pictures r z m s n y o.at) λ ds. ok (d ∷ ds)
+    when last then at_end m t o.at d else and_then (pictures r z m s n y o.at) λ ds. ok (d ∷ ds)

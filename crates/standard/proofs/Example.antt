@@ -11,7 +11,7 @@ use Rattle.laws.specs.Stores.{store_row, store_rows}
 use Rattle.bits.specs.Bits.{bit_at, bits_at, read_at, after_read}
 use Rattle.bits.specs.Programs.{run, bind, for_below, loop}
 use Rattle.codes.specs.Tables as Tables
-use Rattle.codes.specs.Standard.{macroblock_type_intra_codes, macroblock_type_predictive_codes, macroblock_type_bcodes}
+use Rattle.codes.specs.Standard.{macroblock_type_intra_codes, macroblock_type_predictive_codes, macroblock_type_b_codes}
 use Rattle.codes.specs.Walk.{walk_step, walk, vlc}
 use Rattle.codes.specs.Codes as Codes
 use Rattle.codes.specs.Matrices.{down_from, diagonals, zig_zag, intra_quant_matrix, premultiplier_matrix}
@@ -136,14 +136,15 @@ pub record Slices : Type 0 where
 pub slices : Slices
 unfolding clamp255 odd store_row store_rows bit_at bits_at read_at after_read run bind for_below loop
     Tables.macroblock_address_increment_index Tables.macroblock_address_increment_value Tables.macroblock_type_intra_index Tables.macroblock_type_intra_value
-    Tables.macroblock_type_predictive_index Tables.macroblock_type_predictive_value Tables.macroblock_type_bindex Tables.macroblock_type_bvalue
+    Tables.macroblock_type_predictive_index Tables.macroblock_type_predictive_value Tables.macroblock_type_b_index Tables.macroblock_type_b_value
     Tables.code_block_pattern_index Tables.code_block_pattern_value Codes.code_block_pattern Coefficients.escape_level Coefficients.escape
     Tables.motion_index Tables.motion_value Tables.dct_size_luminance_index Tables.dct_size_luminance_value Tables.dct_size_chrominance_index
     Tables.dct_size_chrominance_value Tables.dct_coeff_index Tables.dct_coeff_value
     walk_step walk vlc Codes.macroblock_address_increment Codes.macroblock_type_intra Codes.macroblock_type_predictive Codes.macroblock_type_b Codes.motion
     Codes.dct_size_luminance Codes.dct_size_chrominance Codes.dct_coeff
-    down_from diagonals zig_zag intra_quant_matrix premultiplier_matrix macroblock_type_intra_codes macroblock_type_predictive_codes macroblock_type_bcodes
-    complement right recon reconstructed residual standard_vector dct_zz0 dct_recon same_recon Dcs.dc_size Coefficients.run_level Coefficients.coefficient dequantised
+    down_from diagonals zig_zag intra_quant_matrix premultiplier_matrix macroblock_type_intra_codes macroblock_type_predictive_codes macroblock_type_b_codes
+    complement right recon reconstructed residual standard_vector dct_zz0 dct_recon
+    same_recon Dcs.dc_size Coefficients.run_level Coefficients.coefficient dequantised
     Syntax.pair_step Syntax.pairs butterfly columns rows idct formed overwrite add_block block_address
     and_then if_ok bind_result lift macroblock_type extra_step extra
     S.while_step S.while S.increment S.in_table S.vector S.for_vector S.back_vector S.predicted_plane S.predicted_from S.predicted S.skipped_from S.skipped

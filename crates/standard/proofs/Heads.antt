@@ -94,7 +94,8 @@ module _ {s : List ℕ} where
 
 -- the steps of the standard behind the type t, up to its vectors
 abbrev pub their : {C : Type 0} → S.Coding → ℕ → ℕ → S.Vector → S.Vector → (ℕ → S.Vector → S.Vector → Prog (Result Forbidden C)) → Prog (Result Forbidden C)
-their g t q f b F = bind_result (cond (flag t 16) S.quantizer_scale (pure q)) (λ q. bind_result (S.for_vector g t f) (λ f. bind_result (S.back_vector g t b) (F q f)))
+their g t q f b F =
+    bind_result (cond (flag t 16) S.quantizer_scale (pure q)) (λ q. bind_result (S.for_vector g t f) (λ f. bind_result (S.back_vector g t b) (F q f)))
 
 -- our predictors behind a macroblock that is not intra
 abbrev pub reset : ℕ → Own

@@ -152,7 +152,8 @@ pub record Increment (n m : ℕ) : Type 0 where
 
 module _ (s : List ℕ) where
   stops : (x a : ℕ) → (leb 1 (run macroblock_address_increment s a).value && leb (run macroblock_address_increment s a).value 33) ≡ true
-      → run (O.increment_step x) s a ≡ record { value = finish (x + (run macroblock_address_increment s a).value); at = (run macroblock_address_increment s a).at }
+      → run (O.increment_step x) s a ≡
+      record { value = finish (x + (run macroblock_address_increment s a).value); at = (run macroblock_address_increment s a).at }
   unfolding O.increment_step run
   stops x a h = let n = small (run macroblock_address_increment s a).value h in run_bind macroblock_address_increment _ s a ∙ rw (n.0, n.1)
 

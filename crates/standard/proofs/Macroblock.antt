@@ -90,7 +90,8 @@ module _ (rule : Rule) (g : Context) (m : Matrices) (df db : S.Direction) (s : L
   their_rest intra pattern q for back =
       bind_result (from_result (cond intra (ok l) (S.predicted G t (nat_abs A) for back l))) (λ p.
       bind_result (cond pattern S.coded_block_pattern (pure 0)) (λ cbp.
-      bind_result (S.blocks G intra (S.no_intra_just_before A x) cbp q (nat_abs A) (record { past = x.past; pels = p })) (λ b. pure (after intra q for back b))))
+      bind_result (S.blocks G intra (S.no_intra_just_before A x) cbp q (nat_abs A) (record { past = x.past; pels = p }))
+      (λ b. pure (after intra q for back b))))
 
   abbrev ours_rest : Bool → Bool → Slice → Prog (Result Stop SliceState)
   ours_rest intra pattern y =

@@ -18,7 +18,8 @@ use Rattle.prediction.specs.declared.planes.Plane.{Plane}
 use Rattle.prediction.specs.declared.planes.Plane.TheVariants.{Y, Cr, Cb}
 use Rattle.prediction.specs.declared.predict.Predicted.{Predicted}
 use Rattle.prediction.specs.declared.predict.Predicted.TheVariants.{Done, Refused}
-use Rattle.prediction.specs.Predict.{BlockInPlane, block_position_of, macroblock_at, width, height, bytes, address, prediction_source, predicted, chroma, in_halves}
+use Rattle.prediction.specs.Predict.{BlockInPlane, block_position_of, macroblock_at, width, height, bytes}
+use Rattle.prediction.specs.Predict.{address, prediction_source, predicted, chroma, in_halves}
 use Rattle.prediction.specs.Planes.{PlaneAfter, of_plane, block_size, macroblocks, plane_start, predict_from_source, and_then_plane, predict_plane_from_store}
 use Rattle.prediction.specs.Planes.{predicted_planes}
 use Rattle.prediction.specs.Samples.{stored_sample}

@@ -89,7 +89,8 @@ module _ (rule : Rule) (g : Context) (m : Matrices) (df db : S.Direction) (s : L
       where
         go : (last : Bool) → O.is_last g w ≡ last
             → Turns (run (S.after_macroblock C (ok x)) s e)
-            (run (cond last (done (finish (ok w))) (bind (non_zero 23) (λ more. cond more (done (continue (O.slice_loop_state false w))) (done (finish (ok w))))))
+            (run (cond last (done (finish (ok w)))
+            (bind (non_zero 23) (λ more. cond more (done (continue (O.slice_loop_state false w))) (done (finish (ok w))))))
             s e)
         go true p = at_last p (has s e 23) (eqb (read_at s e 23) 0) is_more refl
         go false p = before_last (has s e 23) (eqb (read_at s e 23) 0) is_more

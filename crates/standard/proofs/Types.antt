@@ -6,7 +6,7 @@ use Prim.Native.Nat.{ℕ}
 use borrow.Author.Tests.{eqb-true}
 use lib.Dec.{eqb}
 use Rattle.laws.proofs.Tests.{both}
-use Rattle.codes.specs.Standard.{Code, macroblock_type_intra_codes, macroblock_type_predictive_codes, macroblock_type_bcodes}
+use Rattle.codes.specs.Standard.{Code, macroblock_type_intra_codes, macroblock_type_predictive_codes, macroblock_type_b_codes}
 use Rattle.picture_state.specs.Flags.{flag}
 use Rattle.standard.specs.Standard as S
 
@@ -38,21 +38,22 @@ abbrev forwards : ℕ → Bool
 forwards t = not (flag t 4)
 
 in-table : (p : ℕ → Bool) (type t : ℕ) → all_rows p macroblock_type_intra_codes ≡ true → all_rows p macroblock_type_predictive_codes ≡ true
-    → (eqb type 3 ≡ true → all_rows p macroblock_type_bcodes ≡ true)
+    → (eqb type 3 ≡ true → all_rows p macroblock_type_b_codes ≡ true)
     → S.in_table type t ≡ true → p t ≡ true
 unfolding S.in_table
 in-table p type t i q b e = go (eqb type 1) (eqb type 2) (eqb type 3) b e
   where
-    go : (x y z : Bool) → (z ≡ true → all_rows p macroblock_type_bcodes ≡ true)
-        → cond x (S.row_of macroblock_type_intra_codes t) (cond y (S.row_of macroblock_type_predictive_codes t) (cond z (S.row_of macroblock_type_bcodes t) false))
+    go : (x y z : Bool) → (z ≡ true → all_rows p macroblock_type_b_codes ≡ true)
+        → cond x (S.row_of macroblock_type_intra_codes t)
+        (cond y (S.row_of macroblock_type_predictive_codes t) (cond z (S.row_of macroblock_type_b_codes t) false))
         ≡ true → p t ≡ true
     go true y z b e = row-passes p macroblock_type_intra_codes t i e
     go false true z b e = row-passes p macroblock_type_predictive_codes t q e
-    go false false true b e = row-passes p macroblock_type_bcodes t (b refl) e
+    go false false true b e = row-passes p macroblock_type_b_codes t (b refl) e
     go false false false b e = absurd (false≢true e)
 
 pub intra-alone : (type t : ℕ) → S.in_table type t ≡ true → flag t 1 ≡ true → (flag t 8 ≡ false) × (flag t 4 ≡ false) × (flag t 2 ≡ false)
-unfolding macroblock_type_intra_codes macroblock_type_predictive_codes macroblock_type_bcodes
+unfolding macroblock_type_intra_codes macroblock_type_predictive_codes macroblock_type_b_codes
 intra-alone type t e h =
     let a = in-table alone type t refl refl (λ b. refl) e in
     let c : (not (flag t 8) && not (flag t 4) && not (flag t 2)) ≡ true = rw h at a in

@@ -2,7 +2,8 @@
 use Rattle.codes.specs.Matrices.{premultiplier_matrix}
 use Rattle.coefficients.specs.{Dequantise.quantiser, Dequantise.dequantised, Standard.dct_recon, Standard.same_recon}
 use Rattle.transform.specs.Idct.{idct}
-use Rattle.standard.specs.Standard.{Prelude.true, Prelude.List, Prelude.[], Prelude.◌∷◌, Prelude.ℤ, Prelude.pos, Prelude.◌*ℤ◌, State.Rules}
+use Rattle.std.specs.Prelude.{true, List, [], ◌∷◌, ℤ, pos, ◌*ℤ◌}
+use Rattle.standard.specs.Standard.{State.Rules}
 
 -- RULES 4.1: dct_recon times the premultiplier, place by place
 abbrev pub times : List ℤ → List ℤ → List ℤ

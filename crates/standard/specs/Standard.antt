@@ -8,6 +8,7 @@ unfoldable pub use Prelude.*
 unfoldable pub use State.*
 unfoldable pub use Prediction.*
 unfoldable pub use Block.*
+use Rattle.std.specs.Prelude.{Bool, true, false, not, ◌&&◌, ◌||◌, List, ℕ, ◌+◌, ◌-◌, ◌*◌, eqb, leb, ℤ, pos, negsuc, nat_abs, ◌+ℤ◌, ◌-ℤ◌}
 use Rattle.codes.specs.Codes.{macroblock_address_increment, code_block_pattern}
 use Rattle.picture_state.specs.{declared.types.Stores.Stores, declared.types.Sizes.Sizes}
 use Rattle.macroblock_head.specs.Heads.{macroblock_type}
@@ -42,15 +43,15 @@ coded_macroblock g first n last v l = do
   let address = v.previous_macroblock_address +ℤ pos n
   t ← lift (macroblock_type g.context.picture_type)
   shall (in_table g.context.picture_type t)
-  scale ← if macroblock_quant t then quantizer_scale else pure v.quantizer_scale
+  scale ← when macroblock_quant t then quantizer_scale else pure v.quantizer_scale
   for ← for_vector g t (for_start g first last v)
   back ← back_vector g t (back_start g first last v)
-  p ← from_result (if macroblock_intra t then ok l else predicted g t (nat_abs address) for back l)
-  cbp ← if macroblock_pattern t then coded_block_pattern else pure 0
+  p ← from_result (when macroblock_intra t then ok l else predicted g t (nat_abs address) for back l)
+  cbp ← when macroblock_pattern t then coded_block_pattern else pure 0
   b ← blocks g (macroblock_intra t) (no_intra_just_before address v) cbp scale (nat_abs address) (record { past = v.past; pels = p })
   pure (record {
     previous_macroblock_address = address;
-    past_intra_address = if macroblock_intra t then address else v.past_intra_address;
+    past_intra_address = when macroblock_intra t then address else v.past_intra_address;
     quantizer_scale = scale;
     macroblock_type = t;
     past = b.past;
@@ -81,9 +82,9 @@ is_more g v = lt_z (v.previous_macroblock_address +ℤ pos 1) (pos g.context.siz
 unfoldable pub after_macroblock : Coding → Result Forbidden Variables → Prog (Step SliceLoopState (Result Forbidden Variables))
 after_macroblock g (error e) = done (finish (error e))
 after_macroblock g (ok v) = peek_bits 23 λ h x.
-    if not h then done (finish forbidden)
-    else if eqb x 0 then done (finish (ok v))
-    else if is_more g v then done (continue (record { first = false; variables = v })) else done (finish forbidden)
+    when not h then done (finish forbidden)
+    else when eqb x 0 then done (finish (ok v))
+    else when is_more g v then done (continue (record { first = false; variables = v })) else done (finish forbidden)
 
 unfoldable pub slice_step : Coding → SliceLoopState → Prog (Step SliceLoopState (Result Forbidden Variables))
 slice_step g x = bind (macroblock g x.first x.variables) (after_macroblock g)
@@ -129,8 +130,8 @@ header f b = do
   type ← field 3
   delay ← field 16
   shall (eqb type 1 || eqb type 2 || eqb type 3)
-  forward ← if eqb type 1 then pure f else direction
-  backward ← if eqb type 3 then direction else pure b
+  forward ← when eqb type 1 then pure f else direction
+  backward ← when eqb type 3 then direction else pure b
   extra ← nextbits 1
   shall (eqb extra 0)
   pure (record { picture_coding_type = type; forward = forward; backward = backward })
@@ -143,13 +144,13 @@ pub record SlicesLoopState : Type 0 where
 -- 2.4.2.5: do slice() while a slice start code follows, which one does until the last macroblock is reached (2.4.3.5)
 unfoldable pub after_slice : Coding → Result Forbidden Variables → Prog (Step SlicesLoopState (Result Forbidden (List ℕ)))
 after_slice g (error e) = done (finish (error e))
-after_slice g (ok v) = if is_more g v then done (continue (record { begun = true; pels = v.pels })) else done (finish (ok v.pels))
+after_slice g (ok v) = when is_more g v then done (continue (record { begun = true; pels = v.pels })) else done (finish (ok v.pels))
 
 -- 2.4.2.5: next_start_code(), then a slice (01 to AF); before the first one extension data (B5) and user data (B2), which end at the next start code
 unfoldable pub slices_step : Coding → SlicesLoopState → Prog (Step SlicesLoopState (Result Forbidden (List ℕ)))
 slices_step g x = bind next_start_code λ c.
-    if le_z (pos 1) c && le_z c (pos 0xaf) then bind (slice g (nat_abs c) x.pels) (after_slice g)
-    else if (eq_z c (pos 0xb2) || eq_z c (pos 0xb5))
+    when le_z (pos 1) c && le_z c (pos 0xaf) then bind (slice g (nat_abs c) x.pels) (after_slice g)
+    else when (eq_z c (pos 0xb2) || eq_z c (pos 0xb5))
     && not x.begun then done (continue (record { begun = false; pels = x.pels })) else done (finish forbidden)
 
 unfoldable pub slices : Coding → List ℕ → Prog (Result Forbidden (List ℕ))
@@ -157,11 +158,11 @@ slices g l = loop stream_fuel (slices_step g) forbidden (record { begun = false;
 
 -- 2.4.4: the store `bwd` has the last I or P picture decoded, `fwd` the one before it. A P picture is predicted from the last, a B picture from both
 abbrev pub references : ℕ → Stores → Stores
-references type t = if eqb type 3 then t else record { cur = t.cur; fwd = t.bwd; bwd = t.bwd }
+references type t = when eqb type 3 then t else record { cur = t.cur; fwd = t.bwd; bwd = t.bwd }
 
 -- 2.4.4: an I or P picture becomes the last, and the store of the one before is free
 abbrev pub roles_after : ℕ → Stores → Stores
-roles_after type t = if eqb type 3 then t else record { cur = t.fwd; fwd = t.bwd; bwd = t.cur }
+roles_after type t = when eqb type 3 then t else record { cur = t.fwd; fwd = t.bwd; bwd = t.cur }
 
 pub record Decoded : Type 0 where
   pub header : Header

@@ -4,10 +4,10 @@ use Rattle.coefficients.specs.declared.block.BlockEnd.TheVariants.{Complete, Dro
 use Rattle.coefficients.specs.{Dcs.dc_size, Standard.dct_zz0, Syntax.Pair, Syntax.PairsEnd, Syntax.pairs}
 use Rattle.prediction.specs.{Planes.plane_of, Planes.plane_length, Writers.overwrite, Writers.add_block, Writers.block_width, Writers.block_address}
 use Rattle.blocks.specs.Blocks.{matrix_for}
-use Rattle.standard.specs.Standard.Prelude.{Bool, true, false, ◌&&◌, ◌||◌, List, [], ◌∷◌, ℕ, ◌+◌, ◌-◌, ◌^◌, eqb, ltb, leb, ℤ, pos, neg_ℤ, nat_abs, ◌+ℤ◌}
-use Rattle.standard.specs.Standard.Prelude.{◌-ℤ◌, ◌*ℤ◌, get_or, set, replicate, lt_z, le_z, mid_of, put_mid, Prog, bits, if◌then◌else◌, macroblock_at}
-use Rattle.standard.specs.Standard.Prelude.{plane_start}
-use Rattle.standard.specs.Standard.Prelude.{Result, ok, lift, from_result, pure, for_below, ◌>>=◌, ◌>>◌, flag, Forbidden, forbidden, shall, table_code}
+use Rattle.std.specs.Prelude.{Bool, true, false, ◌&&◌, ◌||◌, List, [], ◌∷◌, ℕ, ◌+◌, ◌-◌, ◌^◌, eqb, ltb, leb, ℤ, pos, neg_ℤ, nat_abs, ◌+ℤ◌, ◌-ℤ◌, ◌*ℤ◌, get_or}
+use Rattle.std.specs.Prelude.{set, replicate}
+use Rattle.standard.specs.Standard.Prelude.{lt_z, le_z, mid_of, put_mid, Prog, bits, when◌then◌else◌, macroblock_at, plane_start, Result, ok, lift}
+use Rattle.standard.specs.Standard.Prelude.{from_result, pure, for_below, ◌>>=◌, ◌>>◌, flag, Forbidden, forbidden, shall, table_code}
 use Rattle.standard.specs.Standard.State.{Coding, Pasts, pasts, Variables}
 
 -- dct_recon so far, row by row, and how many places of the zig-zag order are used
@@ -25,7 +25,7 @@ reconstructed g intra scale f [] = ok f
 reconstructed g intra scale f (p ∷ ps) =
     let position = get_or zig_zag (f.n + p.run) 0 in
     let quant = get_or (matrix_for g.matrices intra) position 0 in
-    if is_level p.level && g.rules.admitted intra p.level scale quant then
+    when is_level p.level && g.rules.admitted intra p.level scale quant then
     reconstructed g intra scale (record { recon = set f.recon position (g.rules.dct_recon intra p.level scale quant); n = f.n + p.run + 1 }) ps
     else forbidden
 
@@ -35,7 +35,7 @@ coefficients g intra scale f p = elim p.end [ Complete ↦ reconstructed g intra
 
 -- Table B.5: how many bits the longest code of dct_dc_size_luminance or dct_dc_size_chrominance has; what is 1 in all of them is no code
 abbrev pub longest_size : Bool → ℕ
-longest_size luminance = if luminance then 7 else 8
+longest_size luminance = when luminance then 7 else 8
 
 abbrev pub is_size_code : Bool → ℕ → Bool
 is_size_code luminance x = ltb (x + 1) (2 ^ longest_size luminance)
@@ -44,13 +44,13 @@ is_size_code luminance x = ltb (x + 1) (2 ^ longest_size luminance)
 unfoldable pub dct_dc : ℕ → Prog (Result Forbidden ℤ)
 dct_dc i = do
   size ← table_code (longest_size (ltb i 4)) (is_size_code (ltb i 4)) (dc_size (ltb i 4))
-  if eqb size 0 then pure (pos 0) else do
+  when eqb size 0 then pure (pos 0) else do
     differential ← lift (bits size)
     pure (dct_zz0 size differential)
 
 -- the past of block i becomes x: that of Y for 0 to 3, of Cb for 4, of Cr for 5
 abbrev pub past_as : ℕ → ℤ → Pasts → Pasts
-past_as i x p = if ltb i 4 then pasts x p.cb p.cr else if eqb i 4 then pasts p.y x p.cr else pasts p.y p.cb x
+past_as i x p = when ltb i 4 then pasts x p.cb p.cr else when eqb i 4 then pasts p.y x p.cr else pasts p.y p.cb x
 
 -- 2.4.4.1: macroblock_address - past_intra_address > 1
 abbrev pub no_intra_just_before : ℤ → Variables → Bool
@@ -58,7 +58,7 @@ no_intra_just_before address v = lt_z (pos 1) (address -ℤ v.past_intra_address
 
 -- 2.4.4.1: what is added to dct_zz[0] * 8: the past of block i, but 128 * 8 for block 0, for Cb and for Cr where the last intra macroblock is far
 abbrev pub dc_predictor : Bool → ℕ → Pasts → ℤ
-dc_predictor is_far i p = if (eqb i 0 || ltb 3 i) && is_far then pos 1024 else if ltb i 4 then p.y else if eqb i 4 then p.cb else p.cr
+dc_predictor is_far i p = when (eqb i 0 || ltb 3 i) && is_far then pos 1024 else when ltb i 4 then p.y else when eqb i 4 then p.cb else p.cr
 
 -- pasts and pels behind some blocks
 pub record Blocks : Type 0 where
@@ -73,7 +73,8 @@ written g intra i address f l =
     let size = plane_length (plane_of i) g.context.sizes.mb_size in
     let before = mid_of start size l in
     let x = g.rules.transform f.recon in
-    put_mid start size l (if intra then overwrite before (block_address m i) (block_width m i) x else add_block before (block_address m i) (block_width m i) x)
+    put_mid start size l (when intra then overwrite before (block_address m i) (block_width m i) x
+    else add_block before (block_address m i) (block_width m i) x)
 
 -- 2.4.4.1: dct_dc_.._past = dct_recon[0][0], in the 12 bits that the transform takes (Annex A)
 unfoldable pub intra_block : Coding → Bool → ℕ → ℕ → ℕ → Blocks → Prog (Result Forbidden Blocks)
@@ -99,7 +100,7 @@ pattern_code intra cbp i = flag cbp (2 ^ (5 - i)) || intra
 -- 2.4.2.8: block(i), if (pattern_code[i])
 abbrev pub block : Coding → Bool → Bool → ℕ → ℕ → ℕ → ℕ → Blocks → Prog (Result Forbidden Blocks)
 block g intra is_far cbp scale address i b =
-    if pattern_code intra cbp i then (if intra then intra_block g is_far scale address i b else non_intra_block g scale address i b) else pure b
+    when pattern_code intra cbp i then (when intra then intra_block g is_far scale address i b else non_intra_block g scale address i b) else pure b
 
 -- 2.4.2.7: for (i = 0; i < 6; i++) block(i)
 unfoldable pub blocks : Coding → Bool → Bool → ℕ → ℕ → ℕ → Blocks → Prog (Result Forbidden Blocks)

@@ -6,9 +6,9 @@ use Rattle.prediction.specs.declared.planes.Plane.TheVariants.{Y, Cr, Cb}
 use Rattle.prediction.specs.Predict.{block_position_of, width, height, bytes, address, in_halves}
 use Rattle.prediction.specs.{Planes.block_size, Planes.macroblocks, Standard.whole_samples, Standard.half_sample, Standard.chrominance, Standard.pel}
 use Rattle.prediction.specs.{Standard.interpolated}
-use Rattle.standard.specs.Standard.Prelude.{Bool, true, false, not, ◌&&◌, ◌||◌, List, ℕ, zero, suc, ◌+◌, ◌-◌, ◌*◌, eqb, ltb, leb, ℤ, pos, nat_abs}
-use Rattle.standard.specs.Standard.Prelude.{◌+ℤ◌, get_or, le_z, mid_of, put_mid, Prog, if◌then◌else◌, macroblock_at, plane_start, Result, ok, and_then}
-use Rattle.standard.specs.Standard.Prelude.{pure, ◌>>=◌, ◌>>◌, Forbidden, forbidden, table_code}
+use Rattle.std.specs.Prelude.{Bool, true, false, not, ◌&&◌, ◌||◌, List, ℕ, zero, suc, ◌+◌, ◌-◌, ◌*◌, eqb, ltb, leb, ℤ, pos, nat_abs, ◌+ℤ◌, get_or}
+use Rattle.standard.specs.Standard.Prelude.{le_z, mid_of, put_mid, Prog, when◌then◌else◌, macroblock_at, plane_start, Result, ok, and_then, pure, ◌>>=◌, ◌>>◌}
+use Rattle.standard.specs.Standard.Prelude.{Forbidden, forbidden, table_code}
 use Rattle.standard.specs.Standard.State.{Vector, zero-vector, Direction, Coding, Variables}
 use Rattle.standard.specs.Standard.State.{macroblock_motion_forward, macroblock_motion_backward, macroblock_intra}
 
@@ -16,11 +16,11 @@ use Rattle.standard.specs.Standard.State.{macroblock_motion_forward, macroblock_
 -- macroblock_motion_forward. 2.4.4.3 (B): and where the last one was intra
 abbrev pub for_start : Coding → Bool → ℕ → Variables → Vector
 for_start g first t v =
-    if first || (if eqb g.context.picture_type 2 then not (macroblock_motion_forward t) else macroblock_intra t) then zero-vector else v.for_prev
+    when first || (when eqb g.context.picture_type 2 then not (macroblock_motion_forward t) else macroblock_intra t) then zero-vector else v.for_prev
 
 -- 2.4.4.3 (B): the same of recon_.._back_prev; other pictures have no backward vectors
 abbrev pub back_start : Coding → Bool → ℕ → Variables → Vector
-back_start g first t v = if first || not (eqb g.context.picture_type 3) || macroblock_intra t then zero-vector else v.back_prev
+back_start g first t v = when first || not (eqb g.context.picture_type 3) || macroblock_intra t then zero-vector else v.back_prev
 
 -- Table B.4: no motion code begins with 0000 0010 or less
 abbrev pub is_motion_code : ℕ → Bool
@@ -36,10 +36,10 @@ vector d prev = do
 -- 2.4.4.2: without data the vector is 0 in a P picture. 2.4.4.3: in a B picture it is the one before
 unfoldable pub for_vector : Coding → ℕ → Vector → Prog (Result Forbidden Vector)
 for_vector g t prev =
-    if macroblock_motion_forward t then vector g.forward prev else if eqb g.context.picture_type 2 then pure zero-vector else pure prev
+    when macroblock_motion_forward t then vector g.forward prev else when eqb g.context.picture_type 2 then pure zero-vector else pure prev
 
 unfoldable pub back_vector : Coding → ℕ → Vector → Prog (Result Forbidden Vector)
-back_vector g t prev = if macroblock_motion_backward t then vector g.backward prev else pure prev
+back_vector g t prev = when macroblock_motion_backward t then vector g.backward prev else pure prev
 
 -- the n samples at `from`, moved by a component in half samples, are among the first `size`
 abbrev pub inside : ℕ → ℕ → ℤ → ℕ → Bool
@@ -57,7 +57,7 @@ abbrev pub pels : BlockPosition → List ℕ → List ℕ → ℤ → ℤ → Bo
 pels p s d right down average =
     store_rows d (address p) (width p) p.size (λ i j.
     let x = pel s (width p) right down (p.row * p.size + i) (p.column * p.size + j) in
-    if average then interpolated (get_or d (address p + i * width p + j) 0) x else x) p.size
+    when average then interpolated (get_or d (address p + i * width p + j) 0) x else x) p.size
 
 -- one plane of the picture, from that of the store number k
 unfoldable pub predicted_plane : Coding → Macroblock → ℕ → Bool → Plane → ℤ → ℤ → List ℕ → Result Forbidden (List ℕ)
@@ -65,7 +65,7 @@ predicted_plane g m k average q right down l =
     let p = block_position_of m (block_size q) in
     let from = plane_start k q (macroblocks m) in
     let to = plane_start g.context.stores.cur q (macroblocks m) in
-    if in_picture p right down then ok (put_mid to (bytes p) l (pels p (mid_of from (bytes p) l) (mid_of to (bytes p) l) right down average)) else forbidden
+    when in_picture p right down then ok (put_mid to (bytes p) l (pels p (mid_of from (bytes p) l) (mid_of to (bytes p) l) right down average)) else forbidden
 
 -- from one reference: a full-pel vector is doubled, and for Cr and Cb the vector is halved
 unfoldable pub predicted_from : Coding → ℕ → ℕ → Direction → Vector → Bool → List ℕ → Result Forbidden (List ℕ)
@@ -74,17 +74,18 @@ predicted_from g address k d x average l =
     let right = in_halves d.full_pel_vector x.right in
     let down = in_halves d.full_pel_vector x.down in
     and_then (predicted_plane g m k average Y right down l) λ l.
-    and_then (predicted_plane g m k average Cr (chrominance right) (chrominance down) l) (predicted_plane g m k average Cb (chrominance right) (chrominance down))
+    and_then (predicted_plane g m k average Cr (chrominance right) (chrominance down) l)
+    (predicted_plane g m k average Cb (chrominance right) (chrominance down))
 
 -- 2.4.4.3 (B): by macroblock_motion_forward and macroblock_motion_backward. 2.4.4.2 (P): forward, by the vector 0 where there is none
 unfoldable pub predicted : Coding → ℕ → ℕ → Vector → Vector → List ℕ → Result Forbidden (List ℕ)
 predicted g t address for back l =
     let forward = predicted_from g address g.context.stores.fwd g.forward for false l in
     let backward = predicted_from g address g.context.stores.bwd g.backward back in
-    if not (eqb g.context.picture_type 3) then forward
-    else if macroblock_motion_forward t && macroblock_motion_backward t then and_then forward (backward true)
-    else if macroblock_motion_forward t then forward
-    else if macroblock_motion_backward t then backward false l else forbidden
+    when not (eqb g.context.picture_type 3) then forward
+    else when macroblock_motion_forward t && macroblock_motion_backward t then and_then forward (backward true)
+    else when macroblock_motion_forward t then forward
+    else when macroblock_motion_backward t then backward false l else forbidden
 
 -- 2.4.4.4: n macroblocks from this address on, all of the type t and with these vectors
 unfoldable pub skipped_from : Coding → ℕ → Vector → Vector → ℕ → ℕ → List ℕ → Result Forbidden (List ℕ)
@@ -97,11 +98,11 @@ unfoldable pub skipped : Coding → Bool → ℕ → Variables → Result Forbid
 skipped g first n v =
     let from = nat_abs (v.previous_macroblock_address +ℤ pos 1) in
     let t = v.macroblock_type in
-    if first || ltb n 2 then ok v.pels
-    else if eqb g.context.picture_type 2 then skipped_from g 0 zero-vector zero-vector from (n - 1) v.pels
-    else if eqb g.context.picture_type 3 && not (macroblock_intra t) then skipped_from g t v.for_prev v.back_prev from (n - 1) v.pels
+    when first || ltb n 2 then ok v.pels
+    else when eqb g.context.picture_type 2 then skipped_from g 0 zero-vector zero-vector from (n - 1) v.pels
+    else when eqb g.context.picture_type 3 && not (macroblock_intra t) then skipped_from g t v.for_prev v.back_prev from (n - 1) v.pels
     else forbidden
 
 -- 2.4.4.4: macroblock_type of the last macroblock decoded: in a P picture a skipped one has no flag
 abbrev pub last_type : Coding → Bool → ℕ → Variables → ℕ
-last_type g first n v = if not first && ltb 1 n && eqb g.context.picture_type 2 then 0 else v.macroblock_type
+last_type g first n v = when not first && ltb 1 n && eqb g.context.picture_type 2 then 0 else v.macroblock_type

@@ -1,6 +1,7 @@
 -- What a picture's slices are given, the variables of the decoding process (2.4.4), and macroblock_type.
-use Rattle.codes.specs.Standard.{Code, macroblock_type_intra_codes, macroblock_type_predictive_codes, macroblock_type_bcodes}
-use Rattle.standard.specs.Standard.Prelude.{Bool, false, ◌||◌, List, [], ◌∷◌, ℕ, eqb, ℤ, pos, if◌then◌else◌, Context, Matrices, flag}
+use Rattle.codes.specs.Standard.{Code, macroblock_type_intra_codes, macroblock_type_predictive_codes, macroblock_type_b_codes}
+use Rattle.std.specs.Prelude.{Bool, false, ◌||◌, List, [], ◌∷◌, ℕ, eqb, ℤ, pos}
+use Rattle.standard.specs.Standard.Prelude.{when◌then◌else◌, Context, Matrices, flag}
 
 -- 2.4.4.2: a vector in the units of the stream: recon_right_.., recon_down_..
 pub record Vector : Type 0 where
@@ -73,6 +74,6 @@ row_of (c ∷ cs) t = eqb c.value t || row_of cs t
 -- Tables B.2a, B.2b, B.2c
 unfoldable pub in_table : ℕ → ℕ → Bool
 in_table type t =
-    if eqb type 1 then row_of macroblock_type_intra_codes t
-    else if eqb type 2 then row_of macroblock_type_predictive_codes t
-    else if eqb type 3 then row_of macroblock_type_bcodes t else false
+    when eqb type 1 then row_of macroblock_type_intra_codes t
+    else when eqb type 2 then row_of macroblock_type_predictive_codes t
+    else when eqb type 3 then row_of macroblock_type_b_codes t else false
