@@ -2,6 +2,7 @@
 //
 // A file is a text, the stream that its records are used on, the number of its cases, and for each two texts: its name, and a stream or a record.
 #![tactic(auto)]
+
 mod cases;
 mod floats;
 mod records;
@@ -16,41 +17,44 @@ use answer_lists::load::{load, space};
 use answer_lists::numbers::number_at;
 use cases::run_case;
 use show::show_name;
+use std::io::Result;
+use std::rt::Files;
 use streams::run_stream;
 use texts::{after_text, text_at};
 
-fn run(stream: &[u8], text: &[u8], records: bool) {
+fn run<R: Print>(rt: &R, stream: &[u8], text: &[u8], records: bool) -> Result<()> {
     if records {
-        run_case(stream, text);
-        return;
+        return run_case(rt, stream, text);
     }
-    run_stream(text);
+    run_stream(rt, text)
 }
 
-fn run_list(stream: &[u8], list: &[u8], records: bool) {
+fn run_list<R: Print>(rt: &R, stream: &[u8], list: &[u8], records: bool) -> Result<()> {
     let mut left = number_at(list, 0);
     let mut at: usize = 4;
     while 0 < left {
-        show_name(text_at(list, at));
+        show_name(rt, text_at(list, at))?;
         at = after_text(list, at);
-        run(stream, text_at(list, at), records);
+        run(rt, stream, text_at(list, at), records)?;
         at = after_text(list, at);
         left -= 1;
     }
+    Ok(())
 }
 
-fn run_file(path: &[u8], records: bool) {
+fn run_file<R: Files + Print + Eprint>(rt: &R, path: &[u8], records: bool) -> Result<()> {
     let mut room = space();
-    let count = load(path, &mut room);
+    let count = load(rt, path, &mut room)?;
     let file = &room[..count];
     run_list(
+        rt,
         text_at(file, 0),
         part(file, after_text(file, 0), 262144),
         records,
-    );
+    )
 }
 
-fn main() {
-    run_file(b"streams.bin", false);
-    run_file(b"records.bin", true);
+fn main(rt: HostRuntime) -> Result<()> {
+    run_file(&rt, b"streams.bin", false)?;
+    run_file(&rt, b"records.bin", true)
 }

@@ -1,11 +1,13 @@
 // Lists the pictures of a stream on standard input (RULES L).
 #![tactic(auto)]
+
 mod list;
 mod text;
 
-ghost use Rattle.std.specs.Prelude.{◌≡◌, length};
+ghost use Rattle.std.specs.Prelude.{◌≡◌, length, IfOk, OnErr};
+ghost use Rattle.io.specs.Counts.{IsPrefixLen};
 
-use libc::{STDIN_FILENO, STDOUT_FILENO};
+use std::io::{Read, Result};
 
 // Room for a stream and one byte more, by which a longer one is known.
 fn input() -> [u8; 65537]
@@ -21,10 +23,26 @@ fn page() -> [u8; 1572864]
     [0; 1572864]
 }
 
-fn main() {
+// Reads until the room is full or nothing is left, and answers how many bytes it has. What an error of a read leaves in the room is not known.
+fn read_full<R: Read>(reader: &mut R, room: &mut [u8]) -> Result<usize>
+    ensures ok { IfOk result (λ count. IsPrefixLen count room.new) }
+    ensures err { OnErr result (length room.new ≡ length room.old) }
+{
+    let mut done = 0;
+    while done < room.len() {
+        let count = reader.read(&mut room[done..])?;
+        if count == 0 {
+            break;
+        }
+        done += count;
+    }
+    Ok(done)
+}
+
+fn main(rt: HostRuntime) -> Result<()> {
     let mut stream = input();
     let mut page = page();
-    let count = io::read_full(STDIN_FILENO, &mut stream);
+    let count = read_full(&mut rt.stdin(), &mut stream)?;
     let end = list::list(&stream[..count], &mut page);
-    io::write_all(STDOUT_FILENO, &page[..end]);
+    rt.write_all(&page[..end])
 }

@@ -2,7 +2,7 @@
 //
 // A case is the operation's number (a byte), its argument, the Rust's answer and the place after it in bits (three numbers). Behind a new stream
 // stand its bytes, as many as the argument says; behind a peek the bytes that it gave, one less than the answer.
-ghost use Rattle.std.specs.Prelude.{◌≡◌, ◌+◌, ◌≤◌, length};
+ghost use Rattle.std.specs.Prelude.{◌≡◌, ◌+◌, ◌≤◌, length, IfOk};
 ghost use Rattle.reader_conformance.specs.ReaderList.{bytes_after, agree, bytes_agree, next_byte_agrees, next_case, cut_off, CursorInList, next_case_result};
 ghost use Rattle.reader_conformance.specs.ReaderList.{scored};
 ghost use Rattle.reader_conformance.specs.ScoreOfSomeList.{ScoreOfSomeList};
@@ -17,6 +17,8 @@ use answer_lists::tally::Tally;
 use bits::bytes::Part;
 use bits::position::LONGEST_STREAM;
 use bits::reader::Reader;
+use std::io::Result;
+use std::rt::Files;
 
 // How far a list is taken: the next case stands at `at`, the present stream from `from` up to `to`, and our reader is in it.
 #[derive(Clone, Copy)]
@@ -212,11 +214,11 @@ pub fn score(list: &[u8]) -> Tally
     tally
 }
 
-// The list that reader.bin holds.
-pub fn replay() -> Tally
-    ensures { ScoreOfSomeList scored result }
+// The list that reader.bin holds; an error of its read, or of the line on standard error that says where it is not there.
+pub fn replay<R: Files + Eprint>(rt: &R) -> Result<Tally>
+    ensures { IfOk result (λ tally. ScoreOfSomeList scored tally) }
 {
     let mut room = space();
-    let count = load(b"reader.bin", &mut room);
-    score(&room[..count])
+    let count = load(rt, b"reader.bin", &mut room)?;
+    Ok(score(&room[..count]))
 }

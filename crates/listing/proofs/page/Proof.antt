@@ -11,5 +11,5 @@ long n x = sym (length-replicate n x)
 returns : tie.Need-returns
 returns c = long 1572864 0
 
-pub page-spec : {M : Type 1} → statement M
-page-spec = tie.close (tie.spec returns)
+pub page_spec : {M : Type 1} → statement M
+page_spec = tie.close (tie.spec returns)

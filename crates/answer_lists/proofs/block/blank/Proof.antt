@@ -7,5 +7,5 @@ returns : tie.Need-returns
 unfolding blank
 returns c = refl
 
-pub blank-spec : {M : Type 1} → statement M
-blank-spec = tie.close (tie.spec returns)
+pub blank_spec : {M : Type 1} → statement M
+blank_spec = tie.close (tie.spec returns)

@@ -5,9 +5,9 @@ use borrow.Author.Rules.{rules}
 use Rattle.answer_lists.proofs.bytes.byte_at.Statement.{statement}
 use Rattle.answer_lists.proofs.bytes.byte_at.Tie as tie
 
-pub byte-at-spec : {M : Type 1} → statement M
-byte-at-spec =
+pub byte_at_spec : {M : Type 1} → statement M
+byte_at_spec =
     tie.close
-    (tie.spec (λ c. search rules) (λ c. omega (arith, c.shared-slice-known.given c.before.before.args.at))
-    (λ c. (refl, omega (arith, c.shared-slice-known.given c.before.before.args.at)))
-    (λ c. (sym (get_or-eq_default c.before.args.list.now 0 c.if1.false), omega arith)))
+    (tie.spec (λ c. search rules) (λ c. omega (arith, c.shared_slice_known-1.given c.before.before.args.at))
+    (λ c. (refl, omega (arith, c.shared_slice_known-1.given c.before.before.args.at)))
+    (λ c. (sym (get_or-eq_default c.before.args.list.now 0 c.if-at-list.false), omega arith)))

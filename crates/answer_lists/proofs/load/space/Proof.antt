@@ -7,5 +7,5 @@ use Rattle.answer_lists.proofs.load.space.Tie as tie
 returns : tie.Need-returns
 returns c = sym (length-replicate {A = ℕ} 262144 0)
 
-pub space-spec : {M : Type 1} → statement M
-space-spec = tie.close (tie.spec returns)
+pub space_spec : {M : Type 1} → statement M
+space_spec = tie.close (tie.spec returns)

@@ -13,16 +13,16 @@ number nan e = absurd (false≢true e)
 number (inf s) e = tt
 number (fin s m k) e = tt
 
-float-to-bits-result : tie.Need-float-to-bits-result
-float-to-bits-result c = number c.before.args.x c.if1.true
+float-to-bits-result : tie.Need-float_to_bits-result
+float-to-bits-result c = number c.before.args.x c.if-x.true
 
-returns : tie.Need-returns
+returns : tie.Need-returns-then-x
 unfolding bits
-returns c = rw c.if1.true refl
+returns c = rw c.if-x.true refl
 
-returns-2 : tie.Need-returns-2
+returns-2 : tie.Need-returns
 unfolding bits
-returns-2 c = rw c.if1.false refl
+returns-2 c = rw c.if-x.false refl
 
-pub bits-spec : {M : Type 1} → statement M
-bits-spec = tie.close (tie.spec float-to-bits-result returns returns-2)
+pub bits_spec : {M : Type 1} → statement M
+bits_spec = tie.close (tie.spec float-to-bits-result returns returns-2)

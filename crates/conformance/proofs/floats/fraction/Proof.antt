@@ -8,5 +8,5 @@ returns : tie.Need-returns
 unfolding fraction
 returns c = refl
 
-pub fraction-spec : {M : Type 1} → statement M
-fraction-spec = tie.close (tie.spec (λ c. search rules) (λ c. search rules) returns)
+pub fraction_spec : {M : Type 1} → statement M
+fraction_spec = tie.close (tie.spec (λ c. search rules) (λ c. search rules) returns)

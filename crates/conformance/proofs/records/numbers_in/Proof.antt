@@ -9,19 +9,19 @@ use Rattle.conformance.specs.Records.{numbers_in}
 use Rattle.conformance.proofs.records.numbers_in.Statement.{statement}
 use Rattle.conformance.proofs.records.numbers_in.Tie as tie
 
-abbrev invariant-loop : tie.invariant-loop
+abbrev invariant-loop : tie.invariant-loop-i
 invariant-loop list numbers₀ i₀ numbers i = Stored (replicate number_count 0) 0 (λ k. number_at list (4 * k)) number_count numbers i
 
-abbrev decreases-loop : tie.decreases-loop
+abbrev decreases-loop : tie.decreases-loop-i
 decreases-loop list numbers₀ i₀ numbers i = number_count - i
 
-loop-again : tie.Need-loop-preserved invariant-loop decreases-loop
-loop-again c = let l = c.before.before in stored-first l.loop.invariant c.before.loop-test.true c.number_at.ensures
+loop-again : tie.Need-loop-i-preserved invariant-loop decreases-loop
+loop-again c = let l = c.before.before in stored-first l.loop-i.invariant c.before.loop-i-test.true c.number_at.ensures
 
-pub numbers-in-spec : {M : Type 1} → statement M
+pub numbers_in_spec : {M : Type 1} → statement M
 unfolding numbers_in
-numbers-in-spec =
+numbers_in_spec =
     tie.close
     (tie.spec invariant-loop decreases-loop (λ c. none-stored) (λ c. omega arith) (λ c κs. tt) (λ c. search rules) (λ c. omega arith)
-    (λ c. omega (arith, c.before.before.loop.invariant.long)) (λ c. omega arith) (λ c. omega arith) loop-again
-    (λ c. all-stored c.before.loop.invariant c.loop-test.false))
+    (λ c. omega (arith, c.before.before.loop-i.invariant.long)) (λ c. omega arith) (λ c. omega arith) loop-again
+    (λ c. all-stored c.before.loop-i.invariant c.loop-i-test.false))

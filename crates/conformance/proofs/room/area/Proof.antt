@@ -7,5 +7,5 @@ use Rattle.conformance.proofs.room.area.Tie as tie
 returns : tie.Need-returns
 returns c = sym (length-replicate {A = ℕ} 16384 7)
 
-pub area-spec : {M : Type 1} → statement M
-area-spec = tie.close (tie.spec returns)
+pub area_spec : {M : Type 1} → statement M
+area_spec = tie.close (tie.spec returns)

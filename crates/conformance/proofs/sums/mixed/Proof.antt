@@ -8,5 +8,5 @@ returns : tie.Need-returns
 unfolding mixed
 returns c = (refl, omega arith)
 
-pub mixed-spec : {M : Type 1} → statement M
-mixed-spec = tie.close (tie.spec (λ c. omega arith) (λ c. omega arith) returns)
+pub mixed_spec : {M : Type 1} → statement M
+mixed_spec = tie.close (tie.spec (λ c. omega arith) (λ c. omega arith) returns)

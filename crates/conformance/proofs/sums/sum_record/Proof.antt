@@ -7,12 +7,12 @@ use Rattle.conformance.proofs.sums.sum_record.Tie as tie
 returns : tie.Need-returns
 returns c =
     let b = c.before in let i = b.before in let n = i.before in let s = n.before.before.before.before in
-    c.sum-floats.ensures.0
+    c.sum_floats.ensures.0
     ∙ ap (λ k. summed k (words float_words s.args.clock.now))
-    (b.sum-bytes.ensures.0
+    (b.sum_bytes.ensures.0
     ∙ ap (λ k. summed k s.args.matrices.now)
-    (i.sum-integers.ensures.0 ∙ ap (λ k. summed k (words signed_word s.args.integers.now)) n.sum-sizes.ensures.0))
+    (i.sum_integers-heads.ensures.0 ∙ ap (λ k. summed k (words signed_word s.args.integers.now)) n.sum_sizes.ensures.0))
 
-pub sum-record-spec : {M : Type 1} → statement M
-sum-record-spec =
+pub sum_record_spec : {M : Type 1} → statement M
+sum_record_spec =
     tie.close (tie.spec (λ c κs. search rules) (λ c κs. search rules) (λ c κs. search rules) (λ c κs. search rules) returns)

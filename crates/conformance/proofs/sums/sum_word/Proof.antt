@@ -9,8 +9,8 @@ returns : tie.Need-returns
 unfolding summed
 returns c =
     let n = c.before.before.args.n in
-    (c.mixed2.ensures.0 ∙ ap (λ z. mixed z (n % 4294967296)) c.before.mixed.ensures.0, c.mixed2.ensures.1)
+    (c.mixed.ensures.0 ∙ ap (λ z. mixed z (n % 4294967296)) c.before.mixed-high.ensures.0, c.mixed.ensures.1)
 
-pub sum-word-spec : {M : Type 1} → statement M
-sum-word-spec =
+pub sum_word_spec : {M : Type 1} → statement M
+sum_word_spec =
     tie.close (tie.spec (λ c. search rules) (λ c κs. search rules) (λ c. search rules) (λ c κs. search rules) returns)

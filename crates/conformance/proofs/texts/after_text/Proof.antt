@@ -3,11 +3,11 @@ use borrow.Author.Rules.{rules}
 use Rattle.conformance.proofs.texts.after_text.Statement.{statement}
 use Rattle.conformance.proofs.texts.after_text.Tie as tie
 
-returns : tie.Need-returns
-returns c = rw (lt-ltb _ _ c.before.if1.true, c.number_at.ensures)
+returns : tie.Need-returns-then-at-list
+returns c = rw (lt-ltb _ _ c.before.if-at-list.true, c.number_at.ensures)
 
-returns-2 : tie.Need-returns-2
-returns-2 c = rw (le-ltb _ _ c.if1.false)
+returns-2 : tie.Need-returns
+returns-2 c = rw (le-ltb _ _ c.if-at-list.false)
 
-pub after-text-spec : {M : Type 1} → statement M
-after-text-spec = tie.close (tie.spec (λ c. search rules) (λ c κs. tt) (λ c. search rules) (λ c. search rules) returns returns-2)
+pub after_text_spec : {M : Type 1} → statement M
+after_text_spec = tie.close (tie.spec (λ c. search rules) (λ c κs. tt) (λ c. search rules) (λ c. search rules) returns returns-2)

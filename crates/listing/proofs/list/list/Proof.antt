@@ -9,10 +9,7 @@ use Rattle.listing.proofs.list.list.Tie as tie
 returns : tie.Need-returns
 unfolding names
 returns c =
-    let x = c.before.before in
-    let w = x.before.before.before.before in
-    let s = w.before.before.before.before.before in
-    wrote-listing s.args.stream.now w.write_bytes.ensures x.list-lines.ensures.0 (omega (arith, x.list-lines.ensures.1, s.requires))
+    wrote-listing c.args.stream.now c.write_bytes-at.ensures c.list_lines.ensures.0 (omega (arith, c.list_lines.ensures.1, c.requires))
 
-pub list-spec : {M : Type 1} → statement M
-list-spec = tie.close (tie.spec (λ c. search rules) (λ c κs. search rules) (λ c κs. search rules) (λ c. search rules) returns)
+pub list_spec : {M : Type 1} → statement M
+list_spec = tie.close (tie.spec (λ c κs. search rules) (λ c κs. search rules) (λ c. search rules) returns)

@@ -12,11 +12,11 @@ returns c =
     let t = d.before.before.before.before in
     let s = t.before.before.before.before in
     let f = s.before.before.before.before in (
-      wrote_on f.write-field.ensures.0
-          (wrote_on s.write-field2.ensures.0 (wrote_on t.write-field3.ensures.0 d.write-field4.ensures.0)),
-      omega (arith, f.write-field.ensures.1, s.write-field2.ensures.1, t.write-field3.ensures.1, d.write-field4.ensures.1),
+      wrote_on f.write_field-first.ensures.0
+          (wrote_on s.write_field-second.ensures.0 (wrote_on t.write_field-third.ensures.0 d.write_field.ensures.0)),
+      omega (arith, f.write_field-first.ensures.1, s.write_field-second.ensures.1, t.write_field-third.ensures.1, d.write_field.ensures.1),
     )
 
-pub write-line-spec : {M : Type 1} → statement M
-write-line-spec =
+pub write_line_spec : {M : Type 1} → statement M
+write_line_spec =
     tie.close (tie.spec (λ c κs. search rules) (λ c κs. search rules) (λ c κs. search rules) (λ c κs. search rules) (λ c. search rules) returns)

@@ -11,7 +11,7 @@ returns : tie.Need-returns
 returns c =
     let f = c.before.before.before.args.found in
     let e : to_z w32 (of_z w32 f.code) ≡ f.code = search rules in
-    c.given.ensures ∙ ap (λ v. gives v (position_of f.reader)) (c.before.twos-complement.ensures ∙ ap (of_z w32) e)
+    c.given.ensures ∙ ap (λ v. gives v (position_of f.reader)) (c.before.twos_complement.ensures ∙ ap (of_z w32) e)
 
-pub coded-spec : {M : Type 1} → statement M
-coded-spec = tie.close (tie.spec (λ c κs. search rules) (λ c κs. search rules) returns)
+pub coded_spec : {M : Type 1} → statement M
+coded_spec = tie.close (tie.spec (λ c κs. search rules) (λ c κs. search rules) returns)

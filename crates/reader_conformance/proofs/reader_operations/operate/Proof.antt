@@ -16,66 +16,64 @@ use Rattle.reader_conformance.proofs.reader_operations.operate.Tie as tie
 ends : {s : List ℕ} {r p o : OperationResult} → r ≡ p → p ≡ o → ReaderInBounds s p.reader → (r ≡ o) × ReaderInBounds s r.reader
 ends e q h = (e ∙ q, rw e h)
 
-pub operate-spec : {M : Type 1} → statement M
+pub operate_spec : {M : Type 1} → statement M
 unfolding outcome
-operate-spec =
+operate_spec =
     tie.close
     (tie.spec
     -- what the operations ask for, in their order; Seek and SkipBytes refuse an argument
-    (λ c. c.match.keys1) (λ c κs. tt) (λ c κs. tt)
-    (λ c. c.match.keys2) (λ c κs. c.before.before.before.requires) (λ c κs. tt)
-    (λ c. c.match.keys3) (λ c κs. c.before.before.before.requires) (λ c κs. tt)
-    (λ c. c.match.keys4) (λ c κs. c.before.before.before.requires.stream) (λ c κs. tt)
-    (λ c. c.match.keys5) (λ c κs. c.before.before.before.requires.stream) (λ c κs. tt)
-    (λ c. c.match.keys6) (λ c κs. c.before.before.before.requires) (λ c κs. tt)
-    (λ c. c.match.keys7) (λ c κs. c.before.before.before.requires.position) (λ c κs. tt)
-    (λ c. c.match.keys8) (λ c κs. tt) (λ c κs. omega arith)
-    (λ c. c.match.keys9) (λ c κs. tt)
-    (λ c. let t = c.before.before in
-    ends c.refused.ensures (rw (t.enum-told9.given.1, lt-ltb _ _ c.before.if1.true)) t.before.before.before.requires)
+    (λ c. c.in-New-1.keys1) (λ c κs. tt) (λ c κs. tt)
+    (λ c. c.in-Read-1.keys2) (λ c κs. c.requires) (λ c κs. tt)
+    (λ c. c.in-ReadBit-1.keys3) (λ c κs. c.requires) (λ c κs. tt)
+    (λ c. c.in-Has-1.keys4) (λ c κs. c.requires.stream) (λ c κs. tt)
+    (λ c. c.in-HasEnded-1.keys5) (λ c κs. c.requires.stream) (λ c κs. tt)
+    (λ c. c.in-Skip-1.keys6) (λ c κs. c.requires) (λ c κs. tt)
+    (λ c. c.in-Align-1.keys7) (λ c κs. c.requires.position) (λ c κs. tt)
+    (λ c. c.in-Tell-1.keys8) (λ c κs. tt) (λ c κs. omega arith)
+    (λ c. c.in-Seek-1.keys9) (λ c κs. tt)
+    (λ c. ends c.refused.ensures (rw (c.in-Seek.is, lt-ltb _ _ c.before.if-count-gt-LONGEST_STREAM.true)) c.requires)
     (λ c κs. omega arith) (λ c κs. tt)
-    (λ c. c.match.keys10) (λ c κs. tt)
-    (λ c. let t = c.before.before in
-    ends c.refused2.ensures (rw (t.enum-told10.given.1, lt-ltb _ _ c.before.if2.true)) t.before.before.before.requires)
-    (λ c. omega arith) (λ c κs. c.before.before.before.before.requires) (λ c κs. omega arith)
-    (λ c. c.match.keys11) (λ c κs. c.before.before.before.requires) (λ c κs. tt)
-    (λ c. c.match.keys12) (λ c κs. tt) (λ c κs. c.before.before.before.before.requires) (λ c κs. tt)
-    (λ c. c.match.keys13) (λ c κs. tt) (λ c κs. c.before.before.before.before.requires) (λ c κs. tt)
-    (λ c. c.match.keys14) (λ c κs. c.before.before.before.requires) (λ c κs. tt)
-    (λ c. c.match.keys15) (λ c κs. c.before.before.before.requires.stream)
-    (λ c. c.match.keys16) (λ c κs. tt)
+    (λ c. c.in-SkipBytes-1.keys10) (λ c κs. tt)
+    (λ c. ends c.refused-then-argument-gt255.ensures (rw (c.in-SkipBytes.is, lt-ltb _ _ c.before.if-argument-gt255.true)) c.requires)
+    (λ c. omega arith) (λ c κs. c.requires) (λ c κs. omega arith)
+    (λ c. c.in-NextStartCode-1.keys11) (λ c κs. c.requires) (λ c κs. tt)
+    (λ c. c.in-FindStartCode-1.keys12) (λ c κs. tt) (λ c κs. c.requires) (λ c κs. tt)
+    (λ c. c.in-HasStartCode-1.keys13) (λ c κs. tt) (λ c κs. c.requires) (λ c κs. tt)
+    (λ c. c.in-PeekNonZero-1.keys14) (λ c κs. c.requires) (λ c κs. tt)
+    (λ c. c.in-PeekBytes-1.keys15) (λ c κs. c.requires.stream)
+    (λ c. c.in-Unknown-1.keys16) (λ c κs. tt)
     -- New
-    (λ c. let t = c.before.before in let n = c.before.new.ensures in
-    ends c.given.ensures (rw (t.enum_told.given.1, n)) (first-inside n t.before.before.before.requires.stream))
+    (λ c. let n = c.before.new.ensures in
+    ends c.given.ensures (rw (c.in-New.is, n)) (first-inside n c.requires.stream))
     -- Read, ReadBit
-    (λ c. let r = c.before.read.ensures in ends c.valued.ensures (rw (c.before.before.enum-told2.given.1, r.runs.is)) r.inside)
-    (λ c. let r = c.before.read-bit.ensures in ends c.valued2.ensures (rw (c.before.before.enum-told3.given.1, r.runs.is)) r.inside)
+    (λ c. let r = c.before.read.ensures in ends c.valued.ensures (rw (c.in-Read.is, r.runs.is)) r.inside)
+    (λ c. let r = c.before.read_bit.ensures in ends c.valued-in-ReadBit.ensures (rw (c.in-ReadBit.is, r.runs.is)) r.inside)
     -- Has, HasEnded
-    (λ c. let t = c.before.before in let h = c.before.has.ensures in
-    ends c.flagged.ensures (rw (t.enum-told4.given.1, h.0, h.1)) (rw h.1 t.before.before.before.requires))
-    (λ c. let t = c.before.before in let h = c.before.has_ended.ensures in
-    ends c.flagged2.ensures (rw (t.enum-told5.given.1, h.0, h.1)) (rw h.1 t.before.before.before.requires))
+    (λ c. let h = c.before.has.ensures in
+    ends c.flagged.ensures (rw (c.in-Has.is, h.0, h.1)) (rw h.1 c.requires))
+    (λ c. let h = c.before.has_ended.ensures in
+    ends c.flagged-in-HasEnded.ensures (rw (c.in-HasEnded.is, h.0, h.1)) (rw h.1 c.requires))
     -- Skip, Align, Tell, Seek, SkipBytes
-    (λ c. let r = c.before.skip.ensures in ends c.given2.ensures (rw (c.before.before.enum-told6.given.1, r.runs.is)) r.inside)
-    (λ c. let t = c.before.before in let r = c.before.align.ensures in
-    ends c.given3.ensures (rw (t.enum-told7.given.1, r.0)) (record { position = r.1; stream = t.before.before.before.requires.stream }))
-    (λ c. let t = c.before.before in let r = c.before.tell.ensures in
-    ends c.told.ensures (rw (t.enum-told8.given.1, r.0, r.1)) (rw r.1 t.before.before.before.requires))
-    (λ c. let t = c.before.before.before in let r = c.before.seek.ensures in
-    ends c.given4.ensures (rw (t.enum-told9.given.1, le-ltb _ _ c.before.before.if1.false, r.0))
-    (record { position = r.1; stream = t.before.before.before.requires.stream }))
-    (λ c. let t = c.before.before.before in let r = c.before.skip-bytes.ensures in
-    ends c.passed.ensures (rw (t.enum-told10.given.1, le-ltb _ _ c.before.before.if2.false, r.1.0, r.0)) r.1.1)
+    (λ c. let r = c.before.skip.ensures in ends c.given-in-Skip.ensures (rw (c.in-Skip.is, r.runs.is)) r.inside)
+    (λ c. let r = c.before.align.ensures in
+    ends c.given-in-Align.ensures (rw (c.in-Align.is, r.0)) (record { position = r.1; stream = c.requires.stream }))
+    (λ c. let r = c.before.tell.ensures in
+    ends c.told.ensures (rw (c.in-Tell.is, r.0, r.1)) (rw r.1 c.requires))
+    (λ c. let r = c.before.seek.ensures in
+    ends c.given-in-Seek.ensures (rw (c.in-Seek.is, le-ltb _ _ c.before.before.if-count-gt-LONGEST_STREAM.false, r.0))
+    (record { position = r.1; stream = c.requires.stream }))
+    (λ c. let r = c.before.skip_bytes.ensures in
+    ends c.passed.ensures (rw (c.in-SkipBytes.is, le-ltb _ _ c.before.before.if-argument-gt255.false, r.1.0, r.0)) r.1.1)
     -- NextStartCode, FindStartCode, HasStartCode
-    (λ c. let r = c.before.next-start-code.ensures.0 in
-    ends c.coded.ensures (rw (c.before.before.enum-told11.given.1, r.runs.is)) r.inside)
-    (λ c. let x = c.before.before in let r = c.before.find-start-code.ensures.0 in
-    ends c.coded2.ensures (rw (x.before.enum-told12.given.1, ← given x.signed.type-inv x.signed.ensures, r.runs.is)) r.inside)
-    (λ c. let x = c.before.before in let r = c.before.has-start-code.ensures.0 in
-    ends c.coded3.ensures (rw (x.before.enum-told13.given.1, ← given x.signed2.type-inv x.signed2.ensures, r.0, r.1))
-    (rw r.1 x.before.before.before.before.requires))
+    (λ c. let r = c.before.next_start_code.ensures.0 in
+    ends c.coded.ensures (rw (c.in-NextStartCode.is, r.runs.is)) r.inside)
+    (λ c. let x = c.before.before in let r = c.before.find_start_code.ensures.0 in
+    ends c.coded-in-FindStartCode.ensures (rw (c.in-FindStartCode.is, ← given x.signed.type_inv x.signed.ensures, r.runs.is)) r.inside)
+    (λ c. let x = c.before.before in let r = c.before.has_start_code.ensures.0 in
+    ends c.coded-in-HasStartCode.ensures (rw (c.in-HasStartCode.is, ← given x.signed-in-HasStartCode.type_inv x.signed-in-HasStartCode.ensures, r.0, r.1))
+    (rw r.1 c.requires))
     -- PeekNonZero, PeekBytes, Unknown
-    (λ c. let r = c.before.peek-non-zero.ensures in
-    ends c.flagged3.ensures (rw (c.before.before.enum-told14.given.1, r.0.runs.is, r.1)) r.0.inside)
-    (λ c. let t = c.before in ends c.peeked.ensures (rw t.enum-told15.given.1) t.before.before.before.requires)
-    (λ c. let t = c.before in ends c.refused3.ensures (rw t.enum-told16.given.1) t.before.before.before.requires))
+    (λ c. let r = c.before.peek_non_zero.ensures in
+    ends c.flagged-in-PeekNonZero.ensures (rw (c.in-PeekNonZero.is, r.0.runs.is, r.1)) r.0.inside)
+    (λ c. ends c.peeked.ensures (rw c.in-PeekBytes.is) c.requires)
+    (λ c. ends c.refused-in-Unknown.ensures (rw c.in-Unknown.is) c.requires))

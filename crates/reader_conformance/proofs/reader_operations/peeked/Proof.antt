@@ -15,25 +15,24 @@ use Rattle.reader_conformance.proofs.reader_operations.peeked.Tie as tie
 ends : {r : OperationResult} {p q : Part} {a b : ℕ} → p ≡ q → a ≡ b → r ≡ gives (peek p) a → r ≡ gives (peek q) b
 ends h k e = rw (← h, ← k) e
 
-returns : tie.Need-returns
+returns : tie.Need-returns-in_default
 returns c =
-    let e = c.before.before.before.peek-bytes.ensures.0 in
-    ends (sym c.before.enum_told.given.1 ∙ e.0) (ap (λ (r : Reader). position_of r) e.1) c.given.ensures
+    let e = c.before.before.before.peek_bytes-ahead.ensures.0 in
+    ends (sym c.before.in_default.is ∙ e.0) (ap (λ (r : Reader). position_of r) e.1) c.given.ensures
 
 -- the part lies inside
-inside : (c : tie.After-known-told) → let b = c.before.part.given.0 in let p = c.before.before.before in
-    (b.0.0 ≤ b.1.0.0) × (b.1.0.0 ≤ length p.before.before.args.s.now)
-inside c = rw c.before.part.given.1 at c.before.before.before.peek-bytes.ensures.1
+inside : (c : tie.In-Bytes) → (c.in-Bytes.from.0 ≤ c.in-Bytes.to.0) × (c.in-Bytes.to.0 ≤ length c.args.s.now)
+inside c = rw c.in-Bytes.is at c.peek_bytes-ahead.ensures.1
 
-returns-2 : tie.Need-returns-2
+returns-2 : tie.Need-returns
 returns-2 c =
     let k = c.before.before.before.before in
-    let e = k.before.before.peek-bytes.ensures.0 in
-    ends (sym k.part.given.1 ∙ e.0) (ap (λ (r : Reader). position_of r) e.1) c.given2.ensures
+    let e = k.peek_bytes-ahead.ensures.0 in
+    ends (sym k.in-Bytes.is ∙ e.0) (ap (λ (r : Reader). position_of r) e.1) c.given-2.ensures
 
-pub peeked-spec : {M : Type 1} → statement M
-peeked-spec =
+pub peeked_spec : {M : Type 1} → statement M
+peeked_spec =
     tie.close
     (tie.spec (λ c κs. search rules) (λ c. search rules) (λ c. search rules) (λ c κs. search rules) returns
-    (λ c. omega (arith, inside c.before.before)) (λ c. omega (arith, inside c.before.before))
-    (λ c. omega (arith, inside c.before.before)) (λ c κs. search rules) returns-2)
+    (λ c. omega (arith, inside c.before.before)) (λ c. omega (arith, inside c.before.before.before))
+    (λ c. omega (arith, inside c.before.before.before)) (λ c κs. search rules) returns-2)

@@ -8,5 +8,5 @@ returns : tie.Need-returns
 unfolding half_toward_zero
 returns c = told c.half.ensures
 
-pub chroma-case-spec : {M : Type 1} → statement M
-chroma-case-spec = tie.close (tie.spec (λ c κs. search rules) returns)
+pub chroma_case_spec : {M : Type 1} → statement M
+chroma_case_spec = tie.close (tie.spec (λ c κs. search rules) returns)

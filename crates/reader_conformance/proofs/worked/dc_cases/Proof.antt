@@ -12,7 +12,7 @@ abbrev dc : RunResult ℤ → ℤ
 dc o = pos 128 +ℤ o.value
 
 returns : tie.Need-returns
-returns c = (told (c.before.before.dc-case.ensures ∙ ap dc w8-read), told (c.dc-case2.ensures ∙ ap dc w9-read))
+returns c = (told (c.before.before.dc_case-w8.ensures ∙ ap dc w8-read), told (c.dc_case-w9.ensures ∙ ap dc w9-read))
 
-pub dc-cases-spec : {M : Type 1} → statement M
-dc-cases-spec = tie.close (tie.spec (λ c. search rules) (λ c κs. search rules) (λ c. search rules) (λ c κs. search rules) returns)
+pub dc_cases_spec : {M : Type 1} → statement M
+dc_cases_spec = tie.close (tie.spec (λ c. search rules) (λ c κs. search rules) (λ c. search rules) (λ c κs. search rules) returns)

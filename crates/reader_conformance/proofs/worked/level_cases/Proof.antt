@@ -8,7 +8,7 @@ use Rattle.reader_conformance.proofs.worked.level_cases.Tie as tie
 returns : tie.Need-returns
 returns c =
     let second = c.before in
-    (told (second.before.level-case.ensures ∙ w10), told (second.level-case2.ensures ∙ w11), told (c.level-case3.ensures ∙ w12 1 19))
+    (told (second.before.level_case-w10.ensures ∙ w10), told (second.level_case-w11.ensures ∙ w11), told (c.level_case-w12.ensures ∙ w12 1 19))
 
-pub level-cases-spec : {M : Type 1} → statement M
-level-cases-spec = tie.close (tie.spec (λ c κs. search rules) (λ c κs. search rules) (λ c κs. search rules) returns)
+pub level_cases_spec : {M : Type 1} → statement M
+level_cases_spec = tie.close (tie.spec (λ c κs. search rules) (λ c κs. search rules) (λ c κs. search rules) returns)

@@ -21,13 +21,13 @@ returns c =
     let r = c.before.before.before.before in
     let s = c.before.before in
     let begun = r.before.before.new.ensures in
-    let one : (r.read.result.value ≡ 5) × (position_of r.read.result.reader ≡ 3) = gives 0 (rw begun) r.read.ensures.runs in
-    let two : (s.read2.result.value ≡ 0) × (position_of s.read2.result.reader ≡ 3) = gives 3 one.1 s.read2.ensures.runs in
-    let three : (c.read3.result.value ≡ 5) × (position_of c.read3.result.reader ≡ 8) = gives 3 two.1 c.read3.ensures.runs in
+    let one : (r.read-first.result.value ≡ 5) × (position_of r.read-first.result.reader ≡ 3) = gives 0 (rw begun) r.read-first.ensures.runs in
+    let two : (s.read-second.result.value ≡ 0) × (position_of s.read-second.result.reader ≡ 3) = gives 3 one.1 s.read-second.ensures.runs in
+    let three : (c.read-third.result.value ≡ 5) × (position_of c.read-third.result.reader ≡ 8) = gives 3 two.1 c.read-third.ensures.runs in
     (one.0, two.0, three.0)
 
-pub reader-spec : {M : Type 1} → statement M
-reader-spec =
+pub reader_spec : {M : Type 1} → statement M
+reader_spec =
     tie.close
     (tie.spec (λ c κs. tt) (λ c. refl) (λ c κs. first-inside c.before.new.ensures (omega arith)) (λ c. refl) (λ c κs. omega arith) (λ c. refl)
     (λ c κs. omega arith) returns)

@@ -8,14 +8,14 @@ returns : tie.Need-returns
 returns c =
     let third = c.before.before in
     let second = third.before.before in (
-      told (computed second.before.before.vector-case.ensures cases.w1-read),
-      told (computed second.vector-case2.ensures cases.w2-read),
-      told (computed third.vector-case3.ensures cases.w3-read),
-      told (computed c.vector-case4.ensures cases.w4-read),
+      told (computed second.before.before.vector_case-w1.ensures cases.w1-read),
+      told (computed second.vector_case-w2.ensures cases.w2-read),
+      told (computed third.vector_case-w3.ensures cases.w3-read),
+      told (computed c.vector_case-w4.ensures cases.w4-read),
     )
 
-pub vector-cases-spec : {M : Type 1} → statement M
-vector-cases-spec =
+pub vector_cases_spec : {M : Type 1} → statement M
+vector_cases_spec =
     tie.close
     (tie.spec (λ c. search rules) (λ c κs. search rules) (λ c. search rules) (λ c κs. search rules) (λ c. search rules)
     (λ c κs. search rules) (λ c. search rules) (λ c κs. search rules) returns)

@@ -4,7 +4,7 @@ use Rattle.reader_conformance.proofs.worked.whites.Statement.{statement}
 use Rattle.reader_conformance.proofs.worked.whites.Tie as tie
 
 returns : tie.Need-returns
-returns c = (c.before.pixel.ensures ∙ near-white, c.pixel2.ensures ∙ white)
+returns c = (c.before.pixel-near_white.ensures ∙ near-white, c.pixel-white.ensures ∙ white)
 
-pub whites-spec : {M : Type 1} → statement M
-whites-spec = tie.close (tie.spec (λ c κs. tt) (λ c κs. tt) returns)
+pub whites_spec : {M : Type 1} → statement M
+whites_spec = tie.close (tie.spec (λ c κs. tt) (λ c κs. tt) returns)
