@@ -20,7 +20,7 @@ make_archive() {
     [ ! -f "$archive" ] || [ -n "$(find crates.txt crates/*/{src,specs,proofs} -newer "$archive" -print -quit 2>/dev/null)" ] || return 0
     needs rt 'it proves and builds the decoder (README.md, What is needed); or set MPEG1_ARCHIVE to the path of a libmpeg1.a'
     say 'proving and building the decoder; the first time this takes long'
-    rt staticlib mpeg1 >&2
+    hosts/archive mpeg1 >&2
 }
 
 packages='librust-clap-dev librust-indicatif-dev librust-md-5-dev librust-png-dev librust-y4m-dev'

@@ -1,4 +1,4 @@
-/* The MPEG-1 video decoder of crates/mpeg1 for C; `rt staticlib mpeg1` writes the library, target/staticlib/libmpeg1.a.
+/* The MPEG-1 video decoder of crates/mpeg1 for C; `hosts/archive mpeg1` writes the library, target/staticlib/libmpeg1.a.
 
    No call keeps anything. The host owns all memory: the stream, the store and the record. Between the calls for one stream the host leaves
    these as they are. A program that has its record in a struct mpeg1_record passes its address to the functions of the second part of this
@@ -54,7 +54,7 @@ uint32_t mpeg1_decode(const uint8_t *stream, size_t stream_bytes, uint8_t *store
                       size_t *picture, size_t picture_count, double *time);
 
 /* Opens a stream and hands out all its pictures, with no record: how many are there, and by which number does it end? This one is in a library of its own,
-   target/staticlib/libcount.a, which `rt staticlib count` writes.
+   target/staticlib/libcount.a, which `hosts/archive count` writes.
    *pictures is how many were handed out, in every case. The answer is the first number that opening or a hand-out gives: 7 where all pictures
    were handed out; 1 and 3 to 6 as in mpeg1_open, with no picture; 8 and 9 as in mpeg1_decode. The store is left as those calls leave it. */
 uint32_t mpeg1_count(const uint8_t *stream, size_t stream_bytes, uint8_t *store, size_t store_bytes, size_t *pictures);

@@ -1,5 +1,5 @@
 /* Decodes an MPEG-1 video stream to YUV4MPEG2 on standard output: y4m FILE
-   In this folder, after `rt staticlib mpeg1`:
+   In this folder, after `../archive mpeg1`:
    cc -O2 -Wall -Wextra -o y4m y4m.c ../../target/staticlib/libmpeg1.a */
 #include "mpeg1.h"
 #include <stdio.h>

@@ -16,7 +16,7 @@ fn main() {
     }
     let Ok(archive) = archive.canonicalize() else {
         eprintln!("the decoder's archive {} is not there:", archive.display());
-        eprintln!("make it with `rt staticlib mpeg1` at the repository's top, or set MPEG1_ARCHIVE to the path of a libmpeg1.a");
+        eprintln!("make it with `hosts/archive mpeg1` at the repository's top, or set MPEG1_ARCHIVE to the path of a libmpeg1.a");
         exit(1);
     };
     if let Some(folder) = archive.parent() {

@@ -13,7 +13,7 @@ build_compare() {
   mkdir -p target
   if [ -z "${MPEG1_ARCHIVE:-}" ]; then
     needs rt 'it is the command of the Rattle kit (README.md, "What is needed")'
-    (cd ../.. && rt staticlib mpeg1) > target/staticlib.log 2>&1 || { tail -n 20 target/staticlib.log; exit 1; }
+    ../../hosts/archive mpeg1 > target/staticlib.log 2>&1 || { tail -n 20 target/staticlib.log; exit 1; }
   fi
   needs "$archive" 'it is the archive that MPEG1_ARCHIVE names'
   ./asking > target/asking.rs

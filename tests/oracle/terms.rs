@@ -156,27 +156,22 @@ impl<'a> Term<'a> {
         first
     }
 
-    // A word with what it is applied to, or an atom; then fields.
+    // A word with what it is applied to, or an atom.
     fn applied(&mut self) -> Value {
-        let mut value = if ["(", "record", "[]"].contains(&self.next()) || self.next().starts_with(|c: char| c.is_ascii_digit()) {
-            self.atom()
-        } else {
-            let name = self.word();
-            let mut given = Vec::new();
-            while ![")", "}", ";", "∷", "++", "in"].contains(&self.next()) && !self.next().starts_with('.') {
-                given.push(self.atom());
-            }
-            self.named(name, given)
-        };
-        while let Some(field) = self.next().strip_prefix('.') {
-            self.word();
-            value = value.field(field).clone();
+        if ["(", "record", "[]"].contains(&self.next()) || self.next().starts_with(|c: char| c.is_ascii_digit()) {
+            return self.atom();
         }
-        value
+        let name = self.word();
+        let mut given = Vec::new();
+        while ![")", "}", ";", "∷", "++", "in"].contains(&self.next()) {
+            given.push(self.atom());
+        }
+        self.named(name, given)
     }
 
+    // It has its fields behind it, as `(f x).field`.
     fn atom(&mut self) -> Value {
-        match self.word() {
+        let mut value = match self.word() {
             "(" => {
                 let value = self.whole();
                 self.expect(")");
@@ -186,7 +181,12 @@ impl<'a> Term<'a> {
             "[]" => Value::List(Vec::new()),
             word if word.starts_with("0x") => Value::Number(i64::from_str_radix(&word[2..], 16).unwrap()),
             word => word.parse().map(Value::Number).unwrap_or_else(|_| self.named(word, Vec::new())),
+        };
+        while let Some(field) = self.next().strip_prefix('.') {
+            self.word();
+            value = value.field(field).clone();
         }
+        value
     }
 
     fn record(&mut self) -> Value {
@@ -201,9 +201,16 @@ impl<'a> Term<'a> {
         Value::Record(fields)
     }
 
+    // A word, or a word of the file with fields, as `x.field`.
     fn named(&self, name: &str, given: Vec<Value>) -> Value {
         if let Some((_, value)) = self.bound.iter().rev().find(|(bound, _)| bound == name) {
             return value.clone();
+        }
+        if let Some((whole, field)) = name.rsplit_once('.') {
+            let word = name.split('.').next().unwrap_or(name);
+            if given.is_empty() && (self.bound.iter().any(|(bound, _)| bound == word) || self.file.definitions.contains_key(word)) {
+                return self.named(whole, given).field(field).clone();
+            }
         }
         match self.file.definitions.get(name) {
             Some(words) if given.is_empty() => self.file.value(words, self.meaning),

@@ -13,19 +13,19 @@ SEQUENCE_BYTES = 6000
 
 RULES = ["rust", "printed"]
 # directions of which a picture's header says nothing are not used
-HEAD = """use mathlib.Core.Path.{_≡_, refl}
-use mathlib.Core.Bool.{Bool, true, false, _&&_}
-use mathlib.Core.List.{List, [], _∷_, map}
-use Prim.Native.Nat.{ℕ, _*_}
+HEAD = """use mathlib.Core.Path.{◌≡◌, refl}
+use mathlib.Core.Bool.{Bool, true, false, ◌&&◌}
+use mathlib.Core.List.{List, [], ◌∷◌, map}
+use Prim.Native.Nat.{ℕ, ◌*◌}
 use lib.IntN.{pos}
-use Rattle·bits.specs.Programs.{run}
-use Rattle·picture_state.specs.declared.types.{Stores.Stores, Matrices.Matrices}
-use Rattle·standard.specs.Standard.Prelude.{conforms}
-use Rattle·standard.specs.Standard.State.{Rules, Direction}
-use Rattle·standard.specs.Standard.{Decoded, rolesAfter, picture}
-use Rattle·standard.specs.Rules.{rust, printed}
-use Rattle·sequence.specs.Sequence.{following}
-use Rattle·sequence.specs.Display.{storeOf, shown, allButLast}
+use Rattle.bits.specs.Programs.{run}
+use Rattle.picture_state.specs.declared.types.{Stores.Stores, Matrices.Matrices}
+use Rattle.standard.specs.Standard.Prelude.{conforms}
+use Rattle.standard.specs.Standard.State.{Rules, Direction}
+use Rattle.standard.specs.Standard.{Decoded, roles_after, picture}
+use Rattle.standard.specs.Rules.{rust, printed}
+use Rattle.sequence.specs.Sequence.{following}
+use Rattle.sequence.specs.Display.{store_of, shown, all_but_last}
 USES
 abbrev still : Direction
 still = record { «full_pel_vector» = false; «r_size» = 0 }
@@ -36,35 +36,35 @@ admits rules across down intra other code s =
     let m : Matrices = record { «intra_quant_matrix» = intra; «non_intra_quant_matrix» = other } in
     let o = run (picture rules (record { «mb_width» = across; «mb_height» = down; «mb_size» = across * down }) m (record { cur = 0; fwd = 1; bwd = 2 })
     still still []) s 0 in
-    conforms (o .value) && conforms (following (pos code) m s (o .at))
+    conforms o.value && conforms (following (pos code) m s o.at)
 
 -- pictures of these types, one after the other
-abbrev decodedAs : Stores → List ℕ → List Decoded
-decodedAs t [] = []
-decodedAs t (k ∷ ks) =
-    record { header = record { «picture_coding_type» = k; forward = still; backward = still }; stores = rolesAfter k t; pels = [] }
-    ∷ decodedAs (rolesAfter k t) ks
+abbrev decoded_as : Stores → List ℕ → List Decoded
+decoded_as t [] = []
+decoded_as t (k ∷ ks) =
+    record { header = record { «picture_coding_type» = k; forward = still; backward = still }; stores = roles_after k t; pels = [] }
+    ∷ decoded_as (roles_after k t) ks
 
 -- the numbers of the stores that are handed out
 abbrev handed : List ℕ → List ℕ
-handed types = map storeOf (shown (allButLast (decodedAs (record { cur = 0; fwd = 1; bwd = 2 }) types)))
+handed types = map store_of (shown (all_but_last (decoded_as (record { cur = 0; fwd = 1; bwd = 2 }) types)))
 """
 # the sequence behind the first header, picture by picture: `taken` is a picture before another, `goes-on` the law that joins it to those behind it
-SEQUENCE = """use mathlib.Core.Path.{_≡_, refl, sym, ap, _∙_, subst}
+SEQUENCE = """use mathlib.Core.Path.{◌≡◌, refl, sym, ap, ◌∙◌, subst}
 use mathlib.Core.Bool.{Bool, true, false, cond, false≢true}
-use mathlib.Core.List.{List, [], _∷_, map}
+use mathlib.Core.List.{List, [], ◌∷◌, map}
 use Prim.Native.Nat.{ℕ, suc}
 use lib.IntN.{pos}
-use Rattle·bits.specs.Bits.{Found}
-use Rattle·bits.specs.Programs.{RunResult, run, streamFuel}
-use Rattle·picture_state.specs.declared.types.{Sizes.Sizes, Matrices.Matrices}
-use Rattle·picture_state.specs.Result.{Result, ok, error, andThen}
-use Rattle·standard.specs.Standard.Prelude.{Forbidden, conforms, forbidden}
-use Rattle·standard.specs.Standard.State.{Rules, Direction}
-use Rattle·standard.specs.Standard.{Decoded, picture}
-use Rattle·standard.specs.Rules.{rust, printed}
-use Rattle·sequence.specs.Sequence.{following, SequenceState, initialState, stateAfterDecoded, stateAfterPicture, isLast, ended, atEnd, pictures}
-use Rattle·sequence.specs.Display.{storeOf, shown, allButLast}
+use Rattle.bits.specs.Bits.{Found}
+use Rattle.bits.specs.Programs.{RunResult, run, stream_fuel}
+use Rattle.picture_state.specs.declared.types.{Sizes.Sizes, Matrices.Matrices}
+use Rattle.picture_state.specs.Result.{Result, ok, error, and_then}
+use Rattle.standard.specs.Standard.Prelude.{Forbidden, conforms, forbidden}
+use Rattle.standard.specs.Standard.State.{Rules, Direction}
+use Rattle.standard.specs.Standard.{Decoded, picture}
+use Rattle.standard.specs.Rules.{rust, printed}
+use Rattle.sequence.specs.Sequence.{following, SequenceState, initial_state, state_after_decoded, state_after_picture, is_last, ended, at_end, pictures}
+use Rattle.sequence.specs.Display.{store_of, shown, all_but_last}
 USES
 abbrev sizes : Sizes
 sizes = record { «mb_width» = ACROSS; «mb_height» = DOWN; «mb_size» = ALL }
@@ -76,15 +76,15 @@ abbrev s : List ℕ
 s = BYTES
 
 abbrev read : Rules → List ℕ → SequenceState → ℕ → RunResult (Result Forbidden Decoded)
-read r t x a = run (picture r sizes matrices (x .stores) (x .forward) (x .backward) (x .pels)) t a
+read r t x a = run (picture r sizes matrices x.stores x.forward x.backward x.pels) t a
 
 -- what `pictures` does behind the picture start code at a
 abbrev from : Rules → ℕ → SequenceState → ℕ → Bool → Result Forbidden (List Decoded)
 from r n x a last =
     let t = cond last (ended s) s in
     let o = read r t x a in
-    andThen (o .value) (λ d. andThen (stateAfterPicture x d) (λ y.
-    cond last (atEnd matrices t (o .at) d) (andThen (pictures r sizes matrices s n y (o .at)) (λ ds. ok (d ∷ ds)))))
+    and_then o.value (λ d. and_then (state_after_picture x d) (λ y.
+    cond last (at_end matrices t o.at d) (and_then (pictures r sizes matrices s n y o.at) (λ ds. ok (d ∷ ds)))))
 
 record Taken : Type 0 where
   decoded : Decoded
@@ -94,51 +94,51 @@ record Taken : Type 0 where
 abbrev taken : Rules → SequenceState → ℕ → Bool → Result Forbidden Taken
 taken r x a last =
     let o = read r s x a in
-    cond last forbidden (andThen (o .value) (λ d. andThen (stateAfterPicture x d) (λ y.
-    andThen (following (pos 0) matrices s (o .at)) (λ f. ok (record { decoded = d; state = y; next = f .at })))))
+    cond last forbidden (and_then o.value (λ d. and_then (state_after_picture x d) (λ y.
+    and_then (following (pos 0) matrices s o.at) (λ f. ok (record { decoded = d; state = y; next = f.at })))))
 
-also-on : {A B : Type 0} (w : Result Forbidden A) (k : A → Result Forbidden B) {y : B} → andThen w k ≡ ok y → (x : A) × (w ≡ ok x) × (k x ≡ ok y)
-unfolding andThen
+also-on : {A B : Type 0} (w : Result Forbidden A) (k : A → Result Forbidden B) {y : B} → and_then w k ≡ ok y → (x : A) × (w ≡ ok x) × (k x ≡ ok y)
+unfolding and_then
 also-on (ok x) k e = (x, refl, e)
 also-on (error d) k e = absurd (false≢true (ap conforms e))
 
-abbrev takenIn : Taken → Result Forbidden Taken → Taken
-takenIn d (ok w) = w
-takenIn d (error e) = d
+abbrev taken_in : Taken → Result Forbidden Taken → Taken
+taken_in d (ok w) = w
+taken_in d (error e) = d
 
-goes-on : (r : Rules) (n : ℕ) (x : SequenceState) (a : ℕ) (w : Taken) (ds : List Decoded) → taken r x a (isLast s a) ≡ ok w
-    → from r n (w .state) (w .next) (isLast s (w .next)) ≡ ok ds → from r (suc n) x a (isLast s a) ≡ ok (w .decoded ∷ ds)
-unfolding pictures andThen
-goes-on r n x a w ds h k = go (isLast s a) h
+goes-on : (r : Rules) (n : ℕ) (x : SequenceState) (a : ℕ) (w : Taken) (ds : List Decoded) → taken r x a (is_last s a) ≡ ok w
+    → from r n w.state w.next (is_last s w.next) ≡ ok ds → from r (suc n) x a (is_last s a) ≡ ok (w.decoded ∷ ds)
+unfolding pictures and_then
+goes-on r n x a w ds h k = go (is_last s a) h
   where
-    go : (last : Bool) → taken r x a last ≡ ok w → from r (suc n) x a last ≡ ok (w .decoded ∷ ds)
+    go : (last : Bool) → taken r x a last ≡ ok w → from r (suc n) x a last ≡ ok (w.decoded ∷ ds)
     go true h = absurd (false≢true (ap conforms h))
     go false h =
         let o = read r s x a in
-        let u = also-on (o .value) _ h in
-        let v = also-on (stateAfterPicture x (u .0)) _ (u .2) in
-        let f = also-on (following (pos 0) matrices s (o .at)) _ (v .2) in
-        let w′ : Taken = record { decoded = u .0; state = v .0; next = f .0 .at } in
-        let same : w′ ≡ w = ap (takenIn w′) (f .2) in
-        let k′ : from r n (v .0) (f .0 .at) (isLast s (f .0 .at)) ≡ ok ds =
-        subst (λ (w : Taken). from r n (w .state) (w .next) (isLast s (w .next)) ≡ ok ds) (sym same) k in
-        let rest : SequenceState → Result Forbidden (List Decoded) = λ y. pictures r sizes matrices s (suc n) y (o .at) in
-        ap (λ (c : Result Forbidden Decoded). andThen c (λ d. andThen (stateAfterPicture x d) (λ y. andThen (rest y) (λ ds. ok (d ∷ ds))))) (u .1)
-        ∙ ap (λ (c : Result Forbidden SequenceState). andThen c (λ y. andThen (rest y) (λ ds. ok (u .0 ∷ ds)))) (v .1)
-        ∙ ap (λ (c : Result Forbidden Found). andThen (andThen c (λ f. from r n (v .0) (f .at) (isLast s (f .at)))) (λ ds. ok (u .0 ∷ ds))) (f .1)
-        ∙ ap (λ (c : Result Forbidden (List Decoded)). andThen c (λ ds. ok (u .0 ∷ ds))) k′
-        ∙ ap (λ (w : Taken). ok (w .decoded ∷ ds)) same
+        let u = also-on o.value _ h in
+        let v = also-on (state_after_picture x u.0) _ u.2 in
+        let f = also-on (following (pos 0) matrices s o.at) _ v.2 in
+        let w' : Taken = record { decoded = u.0; state = v.0; next = f.0.at } in
+        let same : w' ≡ w = ap (taken_in w') f.2 in
+        let k' : from r n v.0 f.0.at (is_last s f.0.at) ≡ ok ds =
+        subst (λ (w : Taken). from r n w.state w.next (is_last s w.next) ≡ ok ds) (sym same) k in
+        let rest : SequenceState → Result Forbidden (List Decoded) = λ y. pictures r sizes matrices s (suc n) y o.at in
+        ap (λ (c : Result Forbidden Decoded). and_then c (λ d. and_then (state_after_picture x d) (λ y. and_then (rest y) (λ ds. ok (d ∷ ds))))) u.1
+        ∙ ap (λ (c : Result Forbidden SequenceState). and_then c (λ y. and_then (rest y) (λ ds. ok (u.0 ∷ ds)))) v.1
+        ∙ ap (λ (c : Result Forbidden Found). and_then (and_then c (λ f. from r n v.0 f.at (is_last s f.at))) (λ ds. ok (u.0 ∷ ds))) f.1
+        ∙ ap (λ (c : Result Forbidden (List Decoded)). and_then c (λ ds. ok (u.0 ∷ ds))) k'
+        ∙ ap (λ (w : Taken). ok (w.decoded ∷ ds)) same
 
 begins : (r : Rules) (n a b : ℕ) (x : SequenceState) (ds : List Decoded) → following (pos 0) matrices s a ≡ ok (record { code = pos 0; at = b })
-    → from r n x b (isLast s b) ≡ ok ds → pictures r sizes matrices s (suc n) x a ≡ ok ds
-unfolding pictures andThen
-begins r n a b x ds h k = ap (λ (c : Result Forbidden Found). andThen c (λ f. from r n x (f .at) (isLast s (f .at)))) h ∙ k
+    → from r n x b (is_last s b) ≡ ok ds → pictures r sizes matrices s (suc n) x a ≡ ok ds
+unfolding pictures and_then
+begins r n a b x ds h k = ap (λ (c : Result Forbidden Found). and_then c (λ f. from r n x f.at (is_last s f.at))) h ∙ k
 
 abbrev stores : Result Forbidden (List Decoded) → List ℕ
-stores (ok ds) = map storeOf (shown (allButLast ds))
+stores (ok ds) = map store_of (shown (all_but_last ds))
 stores (error e) = 3 ∷ []
 """
-FUEL = 134217729  # `streamFuel`
+FUEL = 134217729  # `stream_fuel`
 END = b"\0\0\1\xb7\0"
 INTRA = """8 16 19 22 26 27 29 34 16 16 22 24 27 29 34 37 19 22 26 27 29 34 34 38 22 22 26 27 29 34 37 40
 22 26 27 29 32 35 40 48 26 27 29 32 35 40 48 58 26 27 29 34 38 46 56 69 27 29 35 38 46 56 69 83"""
@@ -226,7 +226,7 @@ def unfoldable(root):
             found = re.findall(r"^unfoldable pub (\S+) :", file.read_text(), re.M)
             module = ".".join(file.relative_to(folder).with_suffix("").parts)
             alias = f"{crate}-{module}".replace(".", "-").replace("_", "-")
-            uses += f"use Rattle·{crate}.specs.{module} as {alias}\n" if found else ""
+            uses += f"use Rattle.{crate}.specs.{module} as {alias}\n" if found else ""
             names += [f"{alias}.{name}" for name in found]
     return uses, " ".join(names)
 
@@ -245,7 +245,7 @@ def sequence_text(root, name, n, uses, unfolds):
     direction = lambda d: f"record {{ «full_pel_vector» = {'true' if d[0] else 'false'}; «r_size» = {d[1] - 1} }}"
     roles = lambda t: "record { cur = %d; fwd = %d; bwd = %d }" % t
     both = lambda: f"forward = {direction(forward)}; backward = {direction(backward)}"
-    text += "\nabbrev x1 : SequenceState\nx1 = initialState []\n"
+    text += "\nabbrev x1 : SequenceState\nx1 = initial_state []\n"
     for k, at in enumerate(places, 1):
         kind = bits(at, 13) & 7
         if kind > 1:
@@ -257,20 +257,20 @@ def sequence_text(root, name, n, uses, unfolds):
         text += f"\nabbrev d{k} : Decoded\n"
         text += f"d{k} = record {{ header = record {{ «picture_coding_type» = {kind}; {both()} }}; stores = {roles(stores)}; pels = [] }}\n"
         text += f"\nabbrev x{k + 1} : SequenceState\n"
-        text += f"x{k + 1} = record {{ stores = {roles(stores)}; {both()}; hasReferenceFrame = {'true' if held else 'false'}; pels = [] }}\n"
+        text += f"x{k + 1} = record {{ stores = {roles(stores)}; {both()}; has_reference_frame = {'true' if held else 'false'}; pels = [] }}\n"
     after = lambda k: f"(record {{ decoded = d{k}; state = x{k + 1}; next = {places[k]} }})"
     for k, at in enumerate(places[:-1], 1):
-        text += f"\nstep{n}x{k} : taken rust x{k} {at} (isLast s {at}) ≡ ok {after(k)}\nunfolding {unfolds}\nstep{n}x{k} = refl\n"
+        text += f"\nstep{n}x{k} : taken rust x{k} {at} (is_last s {at}) ≡ ok {after(k)}\nunfolding {unfolds}\nstep{n}x{k} = refl\n"
     last = len(places)
     for k in range(last, 0, -1):
         text += f"\nabbrev ds{k} : List Decoded\nds{k} = d{k} ∷ {'[]' if k == last else f'ds{k + 1}'}\n"
-        text += f"\nrest{n}x{k} : from rust {FUEL - k} x{k} {places[k - 1]} (isLast s {places[k - 1]}) ≡ ok ds{k}\n"
+        text += f"\nrest{n}x{k} : from rust {FUEL - k} x{k} {places[k - 1]} (is_last s {places[k - 1]}) ≡ ok ds{k}\n"
         if k == last:
             text += f"unfolding {unfolds}\nrest{n}x{k} = refl\n"
         else:
             text += f"rest{n}x{k} = goes-on rust {FUEL - k - 1} x{k} {places[k - 1]} {after(k)} ds{k + 1} step{n}x{k} rest{n}x{k + 1}\n"
     text += f"\nfirst{n}x0 : following (pos 0) matrices s {place} ≡ ok (record {{ code = pos 0; at = {places[0]} }})\nunfolding {unfolds}\nfirst{n}x0 = refl\n"
-    text += f"\nsequence{n}x0 : stores (pictures rust sizes matrices s streamFuel x1 {place}) ≡ {listed(handed)}\n"
+    text += f"\nsequence{n}x0 : stores (pictures rust sizes matrices s stream_fuel x1 {place}) ≡ {listed(handed)}\n"
     return text + f"sequence{n}x0 = ap stores (begins rust {FUEL - 1} {place} {places[0]} x1 ds1 first{n}x0 rest{n}x1)\n"
 
 

@@ -1,7 +1,7 @@
 -- Codes that are read one behind the other, and the sum of their values.
 use Rattle.std.specs.Prelude.{cond, List, ℕ, zero, suc, ◌+◌, ◌%◌, ◌^◌, leb, eqb, length}
 use Rattle.bits.specs.Bounds.{longest_stream}
-use Rattle.bits.specs.Programs.{Prog, done, run, ◌>>=◌, if◌then◌else◌}
+use Rattle.bits.specs.Programs.{Prog, done, run, ◌>>=◌, when◌then◌else◌}
 use Rattle.codes.specs.Codes.{dct_coeff, macroblock_address_increment}
 
 -- so many codes, and their values added to `sum` modulo 2 ^ 32
@@ -13,7 +13,7 @@ summed code (suc n) sum = do
 
 -- the code of a table: of coefficients for 0, of increments for any other number
 abbrev pub code_of : ℕ → Prog ℕ
-code_of table = if eqb table 0 then dct_coeff else macroblock_address_increment
+code_of table = when eqb table 0 then dct_coeff else macroblock_address_increment
 
 -- `count` codes of a table, from the beginning of the stream on; RULES Q1: 0 for a stream that is too long
 unfoldable pub code_sum : List ℕ → ℕ → ℕ → ℕ

@@ -50,6 +50,7 @@ fn increment_sum(s: &[u8], tables: &Tables, count: usize) -> u64
 
 // `count` codes of coefficients, if `table` is 0, or else of increments; 0 for a stream that is too long (RULES Q1).
 #[unsafe(no_mangle)]
+#[tactic(auto, using(crate::proofs::Sums::long_sum, crate::proofs::Sums::coefficients_sum, crate::proofs::Sums::increments_sum))]
 pub extern "C" fn mpeg1_code_sum(s: &[u8], table: u32, count: usize) -> u64
     ensures { result ≡ code_sum s.now table count }
 {

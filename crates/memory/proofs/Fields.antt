@@ -1,5 +1,5 @@
 -- Laws of a list of fields, whatever it is.
-use mathlib.Core.Bool.{Bool, true, false, false≢true, and_false}
+use mathlib.Core.Bool.{Bool, true, false, false≢true, and-false}
 use mathlib.Core.List.{List, [], ◌∷◌, ◌++◌, append_assoc, map}
 use mathlib.Core.Path.{◌≡◌, refl, ap₂, ◌∙◌}
 use Prim.Native.Nat.{ℕ, zero, suc, ◌+◌, ◌≤◌, ◌<◌}
@@ -85,7 +85,7 @@ unfolding within
 within_not [] n k h w p = absurd (omega arith)
 within_not (g ∷ fs) [] k h w p = refl
 within_not (g ∷ fs) (x ∷ n) zero h w p = rw (fits_not g x w p)
-within_not (g ∷ fs) (x ∷ n) (suc k) h w p = rw (within_not fs n k (omega arith) w p) (and_false (fits g x))
+within_not (g ∷ fs) (x ∷ n) (suc k) h w p = rw (within_not fs n k (omega arith) w p) (and-false (fits g x))
 
 -- ---- elements
 

@@ -1,6 +1,6 @@
 -- The ways through the definitions of the calls, one for each answer.
-use mathlib.Core.Path.{◌≡◌}
-use mathlib.Core.Bool.{true, false, and_false}
+use mathlib.Core.Path.{◌≡◌, sym, ◌∙◌}
+use mathlib.Core.Bool.{true, false, false≢true, and-false}
 use mathlib.Core.List.{List}
 use Prim.Native.Nat.{ℕ, ◌≤◌, ◌<◌}
 use borrow.Author.Tests.{le-leb, lt-leb}
@@ -16,7 +16,7 @@ use Rattle.decoder.specs.Conversion as Conversion
 use Rattle.memory.specs.Memory.{Memory, over, written, record_of, has_room, is_record}
 use Rattle.decoder.specs.Answers.{result, number, decode_answer, opening_error_code, conversion_error_code}
 use Rattle.mpeg1.specs.Calls.{host_result, HostOutput, host_output, picture_numbers, picture_count, host_open, RefinesDecode, host_decode, converts}
-use Rattle.mpeg1.specs.Calls.{host_convert}
+use Rattle.mpeg1.specs.Calls.{host_convert, HostDecodes}
 use Rattle.bits.specs.Bounds.{longest_stream}
 
 -- ---- opening
@@ -53,7 +53,11 @@ module _ (s l : List ℕ) (x : Memory) (k : List ℕ) (time : Float) where
     -- no room for a picture's numbers
     pub decodes-short : length k < picture_count → host_output (host_result 2 l x) k time ≡ host_decode s l x k time
     unfolding host_decode
-    decodes-short p = rw (le-leb (length s) longest_stream h, lt-leb picture_count (length k) p, and_false (is_record x))
+    decodes-short p = rw (le-leb (length s) longest_stream h, lt-leb picture_count (length k) p, and-false (is_record x))
+
+    -- the same as a contract, for a search
+    pub decodes_short : length k < picture_count → HostDecodes s l x k time (host_output (host_result 2 l x) k time)
+    decodes_short p = record { left = decodes-short p; held = λ i h q. absurd (false≢true (sym (lt-leb picture_count (length k) p) ∙ q)) }
 
     pub decodes : {a : Outcome} {store : List ℕ} {z : Memory} → is_record x ≡ true → picture_count ≤ length k
         → RefinesDecode a store z (decode (record_of x) s l) x → told a store z k time ≡ host_decode s l x k time

@@ -1,7 +1,7 @@
 -- The calls of `decoder` on memory that a host owns. An answer is 0 or the number of a refusal (RULES Q).
 use Rattle.std.specs.Prelude.{◌≡◌, true, not, ◌&&◌, List, [], ◌∷◌, ℕ, leb, Float, ℤ, length, replicate}
 use Rattle.bits.specs.Bounds.{longest_stream}
-use Rattle.bits.specs.Programs.{if◌then◌else◌}
+use Rattle.bits.specs.Programs.{when◌then◌else◌}
 use Rattle.header.specs.State.{zero_float}
 use Rattle.playback.specs.declared.outcome.{Outcome.Outcome, Shown.Shown}
 use Rattle.decoder.specs.Record.{CallResult}
@@ -43,7 +43,7 @@ saved answer y x = host_result answer y.store (written y.decoder x)
 
 -- RULES O: opening; 2 where there is no room for the record, which a refused opening gives too
 unfoldable pub host_open : List ℕ → List ℕ → Memory → HostResult
-host_open s l x = if not (has_room x) then host_result 2 l x else saved (opening_error_code (opening s l).answer) (opening s l) x
+host_open s l x = when not (has_room x) then host_result 2 l x else saved (opening_error_code (opening s l).answer) (opening s l) x
 
 -- contract of `mpeg1_open`: given the stream s, the store l and the memory x it left y; with room for a record the memory holds that of the opening
 pub record HostOpens (s l : List ℕ) (x : Memory) (y : HostResult) : Type 0 where
@@ -68,8 +68,8 @@ decode_output y x k t = elim (decode_answer y.answer) [
 -- hand-out of that record
 unfoldable pub host_decode : List ℕ → List ℕ → Memory → List ℕ → Float → HostOutput
 host_decode s l x k t =
-    if not (leb (length s) longest_stream) then host_output (host_result 1 l x) k t
-    else if not (is_record x && leb picture_count (length k)) then host_output (host_result 2 l x) k t
+    when not (leb (length s) longest_stream) then host_output (host_result 1 l x) k t
+    else when not (is_record x && leb picture_count (length k)) then host_output (host_result 2 l x) k t
     else decode_output (decode (record_of x) s l) x k t
 
 -- contract of `mpeg1_decode`: given the stream s, the store l, the memory x, room k for a picture's numbers and its time t it left y; where the memory
@@ -97,7 +97,7 @@ converts answer area = record { answer = answer; area = area }
 -- RULES Q: the conversion: 2 where the memory holds no record
 unfoldable pub host_convert : List ℕ → Memory → ℕ → List ℕ → ℕ → ℕ → Converts
 host_convert l x k a w h =
-    if not (is_record x) then converts 2 a
+    when not (is_record x) then converts 2 a
     else let y = Conversion.converted (record_of x) l k a w h in converts (conversion_error_code y.answer) y.area
 
 -- contract of `mpeg1_write_rgb_scaled`: given the store l, the memory x, the store number k, the area a and the sizes w and h it left y

@@ -2,7 +2,7 @@
 use Rattle.std.specs.Prelude.{cond, ◌&&◌, List, ℕ, ◌*◌, ◌/◌, ◌≤◌, eqb, leb, Float, length, get_or, replicate}
 use Rattle.std.specs.Float.{nan}
 use Rattle.bits.specs.Bounds.{last_position}
-use Rattle.bits.specs.Programs.{if◌then◌else◌}
+use Rattle.bits.specs.Programs.{when◌then◌else◌}
 use Rattle.prediction.specs.declared.planes.Plane.{Plane}
 use Rattle.prediction.specs.declared.planes.Plane.TheVariants.{Y, Cr, Cb}
 use Rattle.prediction.specs.Planes.{block_size, plane_length, plane_start, stores_bytes}
@@ -23,7 +23,7 @@ sequence_unchecked n = sequence_in n (replicate matrix_count 0)
 unfoldable pub seen : List ℕ → Sequence
 seen n =
     let q = sequence_unchecked n in
-    if leb number_count (length n) && leb (number n 1) 1 then (if possible_sequence q then q else fresh_sequence) else fresh_sequence
+    when leb number_count (length n) && leb (number n 1) 1 then (when possible_sequence q then q else fresh_sequence) else fresh_sequence
 
 -- the macroblocks of a picture are few
 pub record MacroblockBounds (q : Sequence) : Type 0 where
@@ -32,7 +32,7 @@ pub record MacroblockBounds (q : Sequence) : Type 0 where
 
 -- number k if it is at most m, else 0
 abbrev pub number_view : List ℕ → ℕ → ℕ → ℕ
-number_view n k m = if leb number_count (length n) && leb (number n k) m then number n k else 0
+number_view n k m = when leb number_count (length n) && leb (number n k) m then number n k else 0
 
 -- RULES Q2: the type read last, and the whole bytes read so far
 abbrev pub type_seen : List ℕ → ℕ
@@ -47,18 +47,18 @@ plane_number p = cond (eqb p 0) Y (cond (eqb p 1) Cr Cb)
 
 -- RULES 6.11: bytes in a row of a plane; bytes of a plane; where the plane of the store number k begins. 0 for another number of a plane or a store
 abbrev pub row_bytes : List ℕ → ℕ → ℕ
-row_bytes n p = if leb p 2 then (seen n).sizes.mb_width * block_size (plane_number p) else 0
+row_bytes n p = when leb p 2 then (seen n).sizes.mb_width * block_size (plane_number p) else 0
 
 abbrev pub plane_bytes : List ℕ → ℕ → ℕ
-plane_bytes n p = if leb p 2 then plane_length (plane_number p) (seen n).sizes.mb_size else 0
+plane_bytes n p = when leb p 2 then plane_length (plane_number p) (seen n).sizes.mb_size else 0
 
 abbrev pub plane_begin : List ℕ → ℕ → ℕ → ℕ
-plane_begin n k p = if leb k 2 && leb p 2 then plane_start k (plane_number p) (seen n).sizes.mb_size else 0
+plane_begin n k p = when leb k 2 && leb p 2 then plane_start k (plane_number p) (seen n).sizes.mb_size else 0
 
 -- number k of a clock; 0.0 where the memory is too short
 abbrev pub clock_number : List Float → ℕ → Float
-clock_number c k = if leb clock_count (length c) then get_or c k nan else zero_float
+clock_number c k = when leb clock_count (length c) then get_or c k nan else zero_float
 
 -- RULES 6.11, O.4: bytes of the three stores of a picture; 0 for a size that no header may have
 abbrev pub store_bytes_of : ℕ → ℕ → ℕ
-store_bytes_of w h = if leb 1 w && leb w 4095 && leb 1 h && leb h 4095 then stores_bytes (sizes_of w h).mb_size else 0
+store_bytes_of w h = when leb 1 w && leb w 4095 && leb 1 h && leb h 4095 then stores_bytes (sizes_of w h).mb_size else 0

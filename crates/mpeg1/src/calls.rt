@@ -70,6 +70,7 @@ fn decode_record(
 
 // RULES 8: 0 with the picture's numbers and time, or 1 to 9.
 #[unsafe(no_mangle)]
+#[tactic(auto, using(crate::proofs::Answers::decodes_short))]
 pub extern "C" fn mpeg1_decode(
     stream: &[u8],
     store: &mut [u8],

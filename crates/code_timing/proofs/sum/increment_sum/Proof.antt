@@ -6,23 +6,23 @@ use Rattle.code_timing.proofs.Summing.{Summing, summing-first, summing_on, summi
 use Rattle.code_timing.proofs.sum.increment_sum.Statement.{statement}
 use Rattle.code_timing.proofs.sum.increment_sum.Tie as tie
 
-abbrev invariant-loop : tie.invariant-loop
+abbrev invariant-loop : tie.invariant-loop-k
 invariant-loop s tables count reader₀ sum₀ k₀ reader sum k = Summing macroblock_address_increment s count reader sum k
 
-abbrev decreases-loop : tie.decreases-loop
+abbrev decreases-loop : tie.decreases-loop-k
 decreases-loop s tables count reader₀ sum₀ k₀ reader sum k = count - k
 
-read-requires : tie.Need-read-macroblock-address-increment-requires invariant-loop decreases-loop
-read-requires c κs = (c.before.loop.invariant.inside, c.before.before.before.before.requires.1)
+read-requires : tie.Need-read_macroblock_address_increment-code-requires invariant-loop decreases-loop
+read-requires c κs = (c.before.loop-k.invariant.inside, c.before.before.before.before.requires.1)
 
-loop-again : tie.Need-loop-preserved invariant-loop decreases-loop
+loop-again : tie.Need-loop-k-preserved invariant-loop decreases-loop
 loop-again c =
     let read = c.before.before in
-    summing_on read.before.before.loop.invariant read.before.loop-test.true read.read-macroblock-address-increment.ensures
+    summing_on read.before.before.loop-k.invariant read.before.loop-k-test.true read.read_macroblock_address_increment-code.ensures
 
-pub increment-sum-spec : {M : Type 1} → statement M
-increment-sum-spec =
+pub increment_sum_spec : {M : Type 1} → statement M
+increment_sum_spec =
     tie.close
-    (tie.spec invariant-loop decreases-loop (λ c κs. search rules) (λ c. summing-first c.before.before.requires.0 c.new.ensures) read-requires
+    (tie.spec invariant-loop decreases-loop (λ c κs. search rules) (λ c. summing-first c.before.before.requires.0 c.new-reader.ensures) read-requires
     (λ c. omega arith) (λ c. omega arith) (λ c. omega arith) (λ c. omega arith) loop-again
-    (λ c. summing-end c.before.loop.invariant c.loop-test.false))
+    (λ c. summing-end c.before.loop-k.invariant c.loop-k-test.false))

@@ -6,19 +6,19 @@ use Rattle.memory.proofs.Copying.{Copied, copied_none, copied_on, copied_all}
 use Rattle.memory.proofs.copies.copy_numbers.Statement.{statement}
 use Rattle.memory.proofs.copies.copy_numbers.Tie as tie
 
-abbrev invariant-loop : tie.invariant-loop
+abbrev invariant-loop : tie.invariant-loop-i
 invariant-loop numbers₀ at values i₀ numbers i = Copied numbers₀ at values 0 numbers i
 
-abbrev decreases-loop : tie.decreases-loop
+abbrev decreases-loop : tie.decreases-loop-i
 decreases-loop numbers₀ at values i₀ numbers i = length values - i
 
-loop-again : tie.Need-loop-preserved invariant-loop decreases-loop
-loop-again c = copied_on c.before.before.loop.invariant c.before.loop-test.true refl
+loop-again : tie.Need-loop-i-preserved invariant-loop decreases-loop
+loop-again c = copied_on c.before.before.loop-i.invariant c.before.loop-i-test.true refl
 
 returns : tie.Need-returns invariant-loop decreases-loop
-returns c = copied_all c.before.loop.invariant c.loop-test.false c.before.before.requires
+returns c = copied_all c.before.loop-i.invariant c.loop-i-test.false c.before.before.requires
 
-pub copy-numbers-spec : {M : Type 1} → statement M
-copy-numbers-spec =
+pub copy_numbers_spec : {M : Type 1} → statement M
+copy_numbers_spec =
     tie.close (tie.spec invariant-loop decreases-loop (λ c. copied_none) (λ c. omega arith) (λ c. omega arith) (λ c. omega arith) (λ c. omega arith)
-    (λ c. omega arith) (λ c. omega arith) (λ c. omega arith) loop-again (λ c. c.before.loop.invariant.long) returns)
+    (λ c. omega arith) (λ c. omega arith) (λ c. omega arith) loop-again (λ c. c.before.loop-i.invariant.long) returns)

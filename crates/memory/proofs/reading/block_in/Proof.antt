@@ -12,7 +12,7 @@ returns : tie.Need-returns
 returns c =
     let s = c.before.before.before.before in
     let l = s.args.integers.now in
-    filled (replicate 64 (pos 0)) (mid_of 9 64 l) c.before.copy-integers.ensures (omega (arith, length_mid 9 64 l (omega (arith, s.requires))))
+    filled (replicate 64 (pos 0)) (mid_of 9 64 l) c.before.copy_integers.ensures (omega (arith, length_mid 9 64 l (omega (arith, s.requires))))
 
-pub block-in-spec : {M : Type 1} → statement M
-block-in-spec = tie.close (tie.spec (λ c. search rules) (λ c. search rules) (λ c. search rules) (λ c. search rules) (λ c κs. search rules) returns)
+pub block_in_spec : {M : Type 1} → statement M
+block_in_spec = tie.close (tie.spec (λ c. search rules) (λ c. search rules) (λ c. search rules) (λ c. search rules) (λ c κs. search rules) returns)

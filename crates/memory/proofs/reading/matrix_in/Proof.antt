@@ -9,7 +9,7 @@ use Rattle.memory.proofs.Copying.{filled}
 use Rattle.memory.proofs.reading.matrix_in.Statement.{statement}
 use Rattle.memory.proofs.reading.matrix_in.Tie as tie
 
-abbrev entry : tie.After-values2 → tie.Start
+abbrev entry : tie.After-values-2-1 → tie.Start
 entry c = let values = c.before.before.before in values.before.before
 
 returns : tie.Need-returns
@@ -17,10 +17,10 @@ returns c =
     let a = (entry c).args.at in
     let l = (entry c).args.matrices.now in
     let e : a + 64 - a ≡ 64 = omega arith in
-    filled (replicate 64 0) (mid_of a (a + 64 - a) l) c.before.copy-bytes.ensures
+    filled (replicate 64 0) (mid_of a (a + 64 - a) l) c.before.copy_bytes.ensures
     (omega (arith, length_mid a (a + 64 - a) l (omega (arith, (entry c).requires)))) ∙ ap (λ n. mid_of a n l) e
 
-pub matrix-in-spec : {M : Type 1} → statement M
-matrix-in-spec =
+pub matrix_in_spec : {M : Type 1} → statement M
+matrix_in_spec =
     tie.close (tie.spec (λ c. search rules) (λ c. search rules) (λ c. search rules) (λ c. search rules) (λ c. search rules) (λ c κs. search rules)
     returns)

@@ -10,5 +10,5 @@ returns c =
     let s = c.before.before.before in
     rw (three-of 6 s.args.integers.now (pos 0) (omega (arith, s.requires))) (search rules)
 
-pub predictors-in-spec : {M : Type 1} → statement M
-predictors-in-spec = tie.close (tie.spec (λ c. search rules) (λ c. search rules) (λ c. search rules) returns)
+pub predictors_in_spec : {M : Type 1} → statement M
+predictors_in_spec = tie.close (tie.spec (λ c. search rules) (λ c. search rules) (λ c. search rules) returns)

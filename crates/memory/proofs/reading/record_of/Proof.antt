@@ -18,34 +18,34 @@ ranged : (s : tie.Start) → in_range s.args.numbers.now ≡ true
 ranged s = record-ranged (lent s) s.requires
 
 -- the parts read, from the last one back to the entry
-abbrev entry : tie.After-shared-slice-known4 → tie.Start
-entry c = c.before.before.before.before
+abbrev entry : tie.After-shared_slice_known-3-1 → tie.Start
+entry c = c.before.before.before
 
-abbrev read : tie.After-shared-slice-known5 → tie.Start
+abbrev read : tie.After-block_in-block_data → tie.Start
 read c = entry c.before.before.before.before
 
-picture-in-requires : tie.Need-picture-in-requires
+picture-in-requires : tie.Need-picture_in-picture-requires
 picture-in-requires c κs =
-    let s = entry c.before in let r = roomed s in (ranged s, r.numbers, r.integers)
+    let s = entry c.before.before in let r = roomed s in (ranged s, r.numbers, r.integers)
 
 returns : tie.Need-returns
 unfolding record_of
 returns c =
     let b = c.before.before.before.before in
-    rw (b.before.before.sequence-in.ensures, b.before.picture-in.ensures, b.block_in.ensures, c.clock-in.ensures)
+    rw (b.before.before.sequence_in-sequence.ensures, b.before.picture_in-picture.ensures, b.block_in-block_data.ensures, c.clock_in.ensures)
 
-pub record-of-spec : {M : Type 1} → statement M
-record-of-spec =
+pub record_of_spec : {M : Type 1} → statement M
+record_of_spec =
     tie.close
     (tie.spec
-    (λ c. omega (arith, (roomed (entry c)).numbers))
-    (λ c κs. let r = roomed (entry c) in (r.numbers, r.matrices))
+    (λ c. omega (arith, (roomed (entry c.before)).numbers))
+    (λ c κs. let r = roomed (entry c.before) in (r.numbers, r.matrices))
     picture-in-requires
-    (λ c κs. (roomed (entry c.before.before)).integers)
-    (λ c. omega (arith, (roomed (read c)).numbers))
+    (λ c κs. (roomed (entry c.before.before.before)).integers)
     (λ c. omega (arith, (roomed (read c.before)).numbers))
-    (λ c. let s = read c.before in omega (arith, short-at s.args.numbers.now (ranged s) 19 refl))
     (λ c. omega (arith, (roomed (read c.before.before)).numbers))
-    (λ c. let s = read c.before.before in omega (arith, short-at s.args.numbers.now (ranged s) 20 refl))
-    (λ c κs. (roomed (read c.before.before)).clock)
+    (λ c. let s = read c.before.before in omega (arith, short-at s.args.numbers.now (ranged s) 19 refl))
+    (λ c. omega (arith, (roomed (read c.before.before.before)).numbers))
+    (λ c. let s = read c.before.before.before in omega (arith, short-at s.args.numbers.now (ranged s) 20 refl))
+    (λ c κs. (roomed (read c.before.before.before)).clock)
     returns)

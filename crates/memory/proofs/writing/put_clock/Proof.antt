@@ -13,9 +13,9 @@ returns : tie.Need-returns
 unfolding store_row
 returns c =
     let s = c.before.before in let l = s.args.clock.now in
-    stored 0 4 l c.clock-of.result nan (omega (arith, s.requires)) (ap length c.clock-of.ensures) ∙ ap (put_mid 0 4 l) c.clock-of.ensures
+    stored 0 4 l c.clock_of-values.result nan (omega (arith, s.requires)) (ap length c.clock_of-values.ensures) ∙ ap (put_mid 0 4 l) c.clock_of-values.ensures
 
-pub put-clock-spec : {M : Type 1} → statement M
-put-clock-spec =
+pub put_clock_spec : {M : Type 1} → statement M
+put_clock_spec =
     tie.close (tie.spec (λ c κs. search rules) (λ c. search rules) (λ c. search rules) (λ c. search rules) (λ c. simp length-set (omega arith))
     (λ c. search rules) (λ c. simp length-set (omega arith)) (λ c. search rules) (λ c. search rules) (λ c. search rules) returns)

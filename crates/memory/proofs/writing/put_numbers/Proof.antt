@@ -7,7 +7,7 @@ use Rattle.memory.proofs.writing.put_numbers.Tie as tie
 returns : tie.Need-returns
 returns c =
     let k = c.before.before in let v = k.before.before.before in let s = v.before.before in
-    (k.copy-numbers.ensures ∙ ap (λ z. over z s.args.numbers.now) v.Numbers-of.ensures.0, v.Numbers-of.ensures.1)
+    (k.copy_numbers.ensures ∙ ap (λ z. over z s.args.numbers.now) v.numbers_of-values.ensures.0, v.numbers_of-values.ensures.1)
 
-pub put-numbers-spec : {M : Type 1} → statement M
-put-numbers-spec = tie.close (tie.spec (λ c κs. search rules) (λ c. search rules) (λ c κs. search rules) (λ c. search rules) returns)
+pub put_numbers_spec : {M : Type 1} → statement M
+put_numbers_spec = tie.close (tie.spec (λ c κs. search rules) (λ c. search rules) (λ c κs. search rules) (λ c. search rules) returns)

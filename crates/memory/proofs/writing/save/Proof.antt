@@ -12,44 +12,44 @@ abbrev lent : tie.Start → Memory
 lent s = memory s.args.numbers.now s.args.integers.now s.args.matrices.now s.args.clock.now
 
 -- the calls, from the last one back to the entry
-abbrev at-matrices : tie.After-put-clock-arg → tie.After-put-matrices
+abbrev at-matrices : tie.After-put_clock-arg-1 → tie.After-put_matrices
 at-matrices c = c.before.before.before
 
-abbrev at-integers : tie.After-put-matrices-arg → tie.After-put-integers
+abbrev at-integers : tie.After-put_matrices-arg-1 → tie.After-put_integers
 at-integers c = c.before.before
 
-abbrev at-numbers : tie.After-put-integers-arg → tie.After-put-numbers
+abbrev at-numbers : tie.After-put_integers-arg-1 → tie.After-put_numbers
 at-numbers c = c.before.before.before
 
-abbrev entry : tie.After-put-numbers-arg → tie.Start
+abbrev entry : tie.After-put_numbers-arg-1 → tie.Start
 entry c = c.before.before.before.before
 
 roomed : (s : tie.Start) → Room (lent s)
 roomed s = room (lent s) s.requires
 
-put-numbers-requires : tie.Need-put-numbers-requires
+put-numbers-requires : tie.Need-put_numbers-requires
 put-numbers-requires c κs = (roomed (entry c)).numbers
 
-put-integers-requires : tie.Need-put-integers-requires
+put-integers-requires : tie.Need-put_integers-requires
 put-integers-requires c κs = (roomed (entry (at-numbers c).before)).integers
 
-put-matrices-requires : tie.Need-put-matrices-requires
+put-matrices-requires : tie.Need-put_matrices-requires
 put-matrices-requires c κs = (roomed (entry (at-numbers (at-integers c).before).before)).matrices
 
-put-clock-requires : tie.Need-put-clock-requires
+put-clock-requires : tie.Need-put_clock-requires
 put-clock-requires c κs = (roomed (entry (at-numbers (at-integers (at-matrices c).before).before).before)).clock
 
 returns : tie.Need-returns
 returns c =
     let k = c.before.before in let m = at-matrices k.before in let p = at-integers m.before in let n = at-numbers p.before in
     let s = entry n.before in let d = s.args.d in
-    let wrote : memory n.put-numbers.last.0 p.put-integers.last.0 m.put-matrices.last.0 k.put-clock.new.0 ≡ written d (lent s) =
-    wrote-all d (lent s) n.put-numbers.ensures.0 p.put-integers.ensures.0 m.put-matrices.ensures.0 k.put-clock.ensures in
+    let wrote : memory n.put_numbers.new.numbers p.put_integers.new.integers m.put_matrices.new.matrices k.put_clock.new.clock ≡ written d (lent s) =
+    wrote-all d (lent s) n.put_numbers.ensures.0 p.put_integers.ensures.0 m.put_matrices.ensures.0 k.put_clock.ensures in
     let typed : Typed d =
-    record { numbers = n.put-numbers.ensures.1; integers = p.put-integers.ensures.1; matrices = m.put-matrices.ensures.1 } in
+    record { numbers = n.put_numbers.ensures.1; integers = p.put_integers.ensures.1; matrices = m.put_matrices.ensures.1 } in
     (wrote, subst (λ (z : Memory). HoldsRecord z d) (sym wrote) (held d typed (lent s)))
 
-pub save-spec : {M : Type 1} → statement M
-save-spec =
+pub save_spec : {M : Type 1} → statement M
+save_spec =
     tie.close (tie.spec put-numbers-requires put-integers-requires put-matrices-requires put-clock-requires (λ c. search rules) (λ c. search rules)
     (λ c. search rules) (λ c. search rules) returns)

@@ -4,7 +4,7 @@ use Rattle.mpeg1.proofs.views.mpeg1_height.Statement.{statement}
 use Rattle.mpeg1.proofs.views.mpeg1_height.Tie as tie
 
 returns : tie.Need-returns
-returns c = ap (λ q. q.height) c.seen.ensures.0
+returns c = ap (λ q. q.height) c.seen-q.ensures.0
 
-pub mpeg1-height-spec : {M : Type 1} → statement M
-mpeg1-height-spec = tie.close (tie.spec (λ c κs. search rules) returns)
+pub mpeg1_height_spec : {M : Type 1} → statement M
+mpeg1_height_spec = tie.close (tie.spec (λ c κs. search rules) returns)

@@ -3,7 +3,7 @@ use Rattle.mpeg1.proofs.views.mpeg1_picture_type.Statement.{statement}
 use Rattle.mpeg1.proofs.views.mpeg1_picture_type.Tie as tie
 
 returns : tie.Need-returns
-returns c = c.number-seen.ensures.0
+returns c = c.number_seen.ensures.0
 
-pub mpeg1-picture-type-spec : {M : Type 1} → statement M
-mpeg1-picture-type-spec = tie.close (tie.spec (λ c κs. search rules) (λ c. search rules) returns)
+pub mpeg1_picture_type_spec : {M : Type 1} → statement M
+mpeg1_picture_type_spec = tie.close (tie.spec (λ c κs. search rules) (λ c. search rules) returns)

@@ -5,16 +5,16 @@ use Rattle.prediction.specs.Planes.{plane_length}
 use Rattle.mpeg1.proofs.views.mpeg1_plane_bytes.Statement.{statement}
 use Rattle.mpeg1.proofs.views.mpeg1_plane_bytes.Tie as tie
 
-returns : tie.Need-returns
-returns c = rw (lt-leb c.before.before.args.plane 2 c.if1.true)
+returns : tie.Need-returns-then-plane-gt2
+returns c = rw (lt-leb c.before.before.args.plane 2 c.if-plane-gt2.true)
 
-returns-2 : tie.Need-returns-2
+returns-2 : tie.Need-returns
 returns-2 c =
     let e = c.before.before.before in
-    rw (le-leb e.before.before.args.plane 2 e.if1.false)
-    (c.plane-length.ensures
-    ∙ ap₂ (λ p q. plane_length p q.sizes.mb_size) c.before.plane-number.ensures c.before.before.seen.ensures.0)
+    rw (le-leb e.before.before.args.plane 2 e.if-plane-gt2.false)
+    (c.plane_length.ensures
+    ∙ ap₂ (λ p q. plane_length p q.sizes.mb_size) c.before.plane_number.ensures c.before.before.seen-q.ensures.0)
 
-pub mpeg1-plane-bytes-spec : {M : Type 1} → statement M
-mpeg1-plane-bytes-spec =
-    tie.close (tie.spec returns (λ c κs. search rules) (λ c κs. search rules) (λ c κs. c.before.seen.ensures.1.size) returns-2)
+pub mpeg1_plane_bytes_spec : {M : Type 1} → statement M
+mpeg1_plane_bytes_spec =
+    tie.close (tie.spec returns (λ c κs. search rules) (λ c κs. search rules) (λ c κs. c.before.seen-q.ensures.1.size) returns-2)

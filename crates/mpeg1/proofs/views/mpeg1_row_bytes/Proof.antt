@@ -9,20 +9,20 @@ use Rattle.mpeg1.proofs.Seen.{block-most}
 use Rattle.mpeg1.proofs.views.mpeg1_row_bytes.Statement.{statement}
 use Rattle.mpeg1.proofs.views.mpeg1_row_bytes.Tie as tie
 
-returns : tie.Need-returns
-returns c = rw (lt-leb c.before.before.args.plane 2 c.if1.true)
+returns : tie.Need-returns-then-plane-gt2
+returns c = rw (lt-leb c.before.before.args.plane 2 c.if-plane-gt2.true)
 
-mul-result : tie.Need-overflow-mul-result
+mul-result : tie.Need-overflow_mul-result
 mul-result c =
-    let size : c.block_size.result ≤ 16 = rw c.block_size.ensures (block-most c.before.plane-number.result) in
-    record { fits = omega (arith, mul-le-mul c.before.before.seen.ensures.1.across size) }
+    let size : c.block_size.result ≤ 16 = rw c.block_size.ensures (block-most c.before.plane_number.result) in
+    record { fits = omega (arith, mul-le-mul c.before.before.seen-q.ensures.1.across size) }
 
-returns-2 : tie.Need-returns-2
+returns-2 : tie.Need-returns
 returns-2 c =
     let e = c.before.before.before in
-    rw (le-leb e.before.before.args.plane 2 e.if1.false)
-    (ap₂ (λ q k. q.sizes.mb_width * k) c.before.before.seen.ensures.0
-    (c.block_size.ensures ∙ ap block_size c.before.plane-number.ensures))
+    rw (le-leb e.before.before.args.plane 2 e.if-plane-gt2.false)
+    (ap₂ (λ q k. q.sizes.mb_width * k) c.before.before.seen-q.ensures.0
+    (c.block_size.ensures ∙ ap block_size c.before.plane_number.ensures))
 
-pub mpeg1-row-bytes-spec : {M : Type 1} → statement M
-mpeg1-row-bytes-spec = tie.close (tie.spec returns (λ c κs. search rules) (λ c κs. search rules) (λ c κs. search rules) mul-result returns-2)
+pub mpeg1_row_bytes_spec : {M : Type 1} → statement M
+mpeg1_row_bytes_spec = tie.close (tie.spec returns (λ c κs. search rules) (λ c κs. search rules) (λ c κs. search rules) mul-result returns-2)

@@ -4,7 +4,7 @@ use Rattle.mpeg1.proofs.views.mpeg1_width.Statement.{statement}
 use Rattle.mpeg1.proofs.views.mpeg1_width.Tie as tie
 
 returns : tie.Need-returns
-returns c = ap (λ q. q.width) c.seen.ensures.0
+returns c = ap (λ q. q.width) c.seen-q.ensures.0
 
-pub mpeg1-width-spec : {M : Type 1} → statement M
-mpeg1-width-spec = tie.close (tie.spec (λ c κs. search rules) returns)
+pub mpeg1_width_spec : {M : Type 1} → statement M
+mpeg1_width_spec = tie.close (tie.spec (λ c κs. search rules) returns)
