@@ -21,7 +21,7 @@ use Rattle.laws.proofs.Tables.{anywhere}
 use Rattle.codes.specs.DecodingTables.{biased_value, merged_entry, all, DecodingTables, macroblock_codes, block_codes, fixed_tables, tables_with, matrix_of, is_byte}
 use Rattle.codes.specs.Matrices.{zig_zag, down_from, diagonals, intra_quant_matrix, non_intra_quant_matrix, premultiplier_matrix}
 use Rattle.codes.specs.Tables.{macroblock_address_increment_index, macroblock_address_increment_value, macroblock_type_intra_index, macroblock_type_intra_value}
-use Rattle.codes.specs.Tables.{macroblock_type_predictive_index, macroblock_type_predictive_value, macroblock_type_bindex, macroblock_type_bvalue}
+use Rattle.codes.specs.Tables.{macroblock_type_predictive_index, macroblock_type_predictive_value, macroblock_type_b_index, macroblock_type_b_value}
 use Rattle.codes.specs.Tables.{code_block_pattern_index, code_block_pattern_value, motion_index, motion_value}
 use Rattle.codes.specs.Tables.{dct_size_luminance_index, dct_size_luminance_value, dct_size_chrominance_index, dct_size_chrominance_value, dct_coeff_index, dct_coeff_value}
 use Rattle.codes.proofs.Entries.{natural, above}
@@ -61,7 +61,7 @@ module _ (i : ℤ) (h : nat_abs i ≤ 255) where
 -- a value, as the code computes what is lent of it
 module _ (x : ℤ) (s : Short x) where
   read : Dif (reread w32 x) (up x) (dn x)
-  read = back (fits_by (v x) (omega (arith, s.most)) (omega (arith, s.least))) (v x)
+  read = back {w = w32} (fits_by (v x) (omega (arith, s.most)) (omega (arith, s.least))) (v x)
 
   pub raised-fits : SFits w32 (reread w32 x +ℤ pos 1024)
   raised-fits = fits_by (read ⊕ lit 1024) (omega (arith, s.most)) (omega (arith, s.least))
@@ -216,7 +216,7 @@ pub record Bytes64 (m : List ℕ) : Type 0 where
 
 pub macroblock-codes-length : length macroblock_codes ≡ 246
 unfolding macroblock_codes macroblock_address_increment_index macroblock_address_increment_value macroblock_type_intra_index macroblock_type_intra_value
-    macroblock_type_predictive_index macroblock_type_predictive_value macroblock_type_bindex macroblock_type_bvalue code_block_pattern_index code_block_pattern_value
+    macroblock_type_predictive_index macroblock_type_predictive_value macroblock_type_b_index macroblock_type_b_value code_block_pattern_index code_block_pattern_value
 macroblock-codes-length = refl
 
 pub block-codes-length : length block_codes ≡ 456

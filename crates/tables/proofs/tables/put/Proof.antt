@@ -11,32 +11,32 @@ use Rattle.tables.proofs.Made.{byte-is, byte_cast, Pasted, none-pasted, pasted-o
 use Rattle.tables.proofs.tables.put.Statement.{statement}
 use Rattle.tables.proofs.tables.put.Tie as tie
 
-abbrev invariant-loop : tie.invariant-loop
+abbrev invariant-loop : tie.invariant-loop-k
 invariant-loop tables₀ at table k₀ tables k = Pasted tables₀ at (map nat_abs table) k tables
 
-abbrev decreases-loop : tie.decreases-loop
+abbrev decreases-loop : tie.decreases-loop-k
 decreases-loop tables₀ at table k₀ tables k = length table - k
 
-cast-entry : tie.Need-overflow-cast-entry invariant-loop decreases-loop
-cast-entry c = let x = c.before.before in byte_cast x.before.args.table.now x.before.requires.1 x.loop.k
+cast-entry : tie.Need-overflow_cast-entry invariant-loop decreases-loop
+cast-entry c = let x = c.before.before in byte_cast x.before.args.table.now x.before.requires.1 x.loop-k.k
 
-loop-again : tie.Need-loop-preserved invariant-loop decreases-loop
+loop-again : tie.Need-loop-k-preserved invariant-loop decreases-loop
 loop-again c =
     let x = c.before.before in
-    let k = x.loop.k in
+    let k = x.loop-k.k in
     let t = x.before.args.table.now in
     let all = length-map nat_abs t in
-    pasted-on x.loop.invariant (omega arith) (byte-is t x.before.requires.1 k ∙ sym (map_at nat_abs t (pos 0) k))
+    pasted-on x.loop-k.invariant (omega arith) (byte-is t x.before.requires.1 k ∙ sym (map_at nat_abs t (pos 0) k))
 
 returns : tie.Need-returns invariant-loop decreases-loop
 returns c =
     let x = c.before in
     let all = length-map nat_abs x.before.args.table.now in
-    rw (← all) (all-pasted x.loop.invariant (omega arith))
+    rw (← all) (all-pasted x.loop-k.invariant (omega arith))
 
 pub put_spec : {M : Type 1} → statement M
 put_spec =
     tie.close
     (tie.spec
     invariant-loop decreases-loop (λ c. none-pasted (omega (arith, length-map nat_abs c.args.table.now))) (λ c. search rules) (λ c. search rules) cast-entry
-    (λ c. omega arith) (λ c. search rules) (λ c. omega arith) (λ c. omega arith) (λ c. omega arith) loop-again (λ c. c.before.loop.invariant.long) returns)
+    (λ c. omega arith) (λ c. search rules) (λ c. omega arith) (λ c. omega arith) (λ c. omega arith) loop-again (λ c. c.before.loop-k.invariant.long) returns)

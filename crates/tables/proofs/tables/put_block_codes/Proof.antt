@@ -25,34 +25,32 @@ returns c =
     let x4 = x5.before.before.before.before in let x3 = x4.before.before.before.before in let x2 = x3.before.before in
     let x1 = x2.before.before in
     let t = x1.before.before.before.before.args.t.now in
-    let long = x1.before.put-codes-arg.given.0.1 in
+    let long = x1.before.put_codes-arg-1.given.0.1 in
     let vectors = merged_table motion_index motion_value in
-    let l1 = laid-codes vectors 0 24 long (none-laid t 246 (omega (arith, long))) tt tt x1.put-codes.ensures in
-    let l2 = laid-codes vectors 24 24 long l1 tt tt x2.put-codes2.ensures in
-    let l3 = laid-codes vectors 48 20 long l2 tt tt x3.put-codes3.ensures in
-    let l4 = laid-codes (merged_table dct_size_luminance_index (map pos dct_size_luminance_value)) 0 18 long l3 tt tt x4.put-codes4.ensures in
-    let l5 = laid-codes (merged_table dct_size_chrominance_index (map pos dct_size_chrominance_value)) 0 18 long l4 tt tt x5.put-codes5.ensures in
+    let l1 = laid-codes vectors 0 24 long (none-laid t 246 (omega (arith, long))) tt tt x1.put_codes.ensures in
+    let l2 = laid-codes vectors 24 24 long l1 tt tt x2.put_codes-2.ensures in
+    let l3 = laid-codes vectors 48 20 long l2 tt tt x3.put_codes-3.ensures in
+    let l4 = laid-codes (merged_table dct_size_luminance_index (map pos dct_size_luminance_value)) 0 18 long l3 tt tt x4.put_codes-4.ensures in
+    let l5 = laid-codes (merged_table dct_size_chrominance_index (map pos dct_size_chrominance_value)) 0 18 long l4 tt tt x5.put_codes-5.ensures in
     let coefficients = merged_table dct_coeff_index (map pos dct_coeff_value) in
-    let l6 = laid-codes coefficients 0 24 long l5 tt tt x6.put-codes6.ensures in
-    let l7 = laid-codes coefficients 24 24 long l6 tt tt x7.put-codes7.ensures in
-    let l8 = laid-codes coefficients 48 24 long l7 tt tt x8.put-codes8.ensures in
-    let l9 = laid-codes coefficients 72 24 long l8 tt tt x9.put-codes9.ensures in
-    let l10 = laid-codes coefficients 96 24 long l9 tt tt x10.put-codes10.ensures in
-    let l11 = laid-codes coefficients 120 24 long l10 tt tt x11.put-codes11.ensures in
-    let l12 = laid-codes coefficients 144 24 long l11 tt tt x12.put-codes12.ensures in
-    let l13 = laid-codes coefficients 168 24 long l12 tt tt x13.put-codes13.ensures in
-    let l14 = laid-codes coefficients 192 24 long l13 tt tt x14.put-codes14.ensures in
-    let l15 = laid-codes coefficients 216 8 long l14 tt tt x15.put-codes15.ensures in
-    let order = laid_on zig_zag 64 long l15 refl tt refl z.put-bytes.ensures in
+    let l6 = laid-codes coefficients 0 24 long l5 tt tt x6.put_codes-6.ensures in
+    let l7 = laid-codes coefficients 24 24 long l6 tt tt x7.put_codes-7.ensures in
+    let l8 = laid-codes coefficients 48 24 long l7 tt tt x8.put_codes-8.ensures in
+    let l9 = laid-codes coefficients 72 24 long l8 tt tt x9.put_codes-9.ensures in
+    let l10 = laid-codes coefficients 96 24 long l9 tt tt x10.put_codes-10.ensures in
+    let l11 = laid-codes coefficients 120 24 long l10 tt tt x11.put_codes-11.ensures in
+    let l12 = laid-codes coefficients 144 24 long l11 tt tt x12.put_codes-12.ensures in
+    let l13 = laid-codes coefficients 168 24 long l12 tt tt x13.put_codes-13.ensures in
+    let l14 = laid-codes coefficients 192 24 long l13 tt tt x14.put_codes-14.ensures in
+    let l15 = laid-codes coefficients 216 8 long l14 tt tt x15.put_codes-15.ensures in
+    let order = laid_on zig_zag 64 long l15 refl tt refl z.put_bytes.ensures in
     let all = laid_on (map nat_abs premultiplier_matrix) 64 long order refl tt refl c.put.ensures in
     all.0.is ∙ ap (paste t 246 block_codes) (sym block-codes-length) ∙ ap (λ (k : ℕ). paste t k block_codes (length block_codes)) (sym macroblock-codes-length)
 
-pub put-block-codes-spec : {M : Type 1} → statement M
-put-block-codes-spec =
+pub put_block_codes_spec : {M : Type 1} → statement M
+put_block_codes_spec =
     tie.close
     (tie.spec
-    (λ c. search rules) (λ c. search rules) (λ c κs. search rules) (λ c κs. search rules) (λ c κs. search rules) (λ c. search rules) (λ c. search rules)
-    (λ c κs. search rules) (λ c. search rules) (λ c. search rules) (λ c κs. search rules) (λ c. search rules) (λ c. search rules) (λ c κs. search rules)
     (λ c κs. search rules) (λ c κs. search rules) (λ c κs. search rules) (λ c κs. search rules) (λ c κs. search rules) (λ c κs. search rules)
-    (λ c κs. search rules) (λ c κs. search rules) (λ c κs. search rules) (λ c. search rules) (λ c κs. search rules) (λ c. search rules) (λ c κs. search rules)
-    returns)
+    (λ c κs. search rules) (λ c κs. search rules) (λ c κs. search rules) (λ c κs. search rules) (λ c κs. search rules) (λ c κs. search rules)
+    (λ c κs. search rules) (λ c κs. search rules) (λ c κs. search rules) (λ c κs. search rules) (λ c κs. search rules) returns)

@@ -15,14 +15,14 @@ use Rattle.tables.proofs.Made.{index_is, index_cast, raised-fits, raised_cast, r
 use Rattle.tables.proofs.tables.put_codes.Statement.{statement}
 use Rattle.tables.proofs.tables.put_codes.Tie as tie
 
-abbrev invariant-loop : tie.invariant-loop
+abbrev invariant-loop : tie.invariant-loop-k
 invariant-loop tables₀ at index value first last k₀ tables k =
     Pasted tables₀ (at + first) (drop first (merged_table index value)) (k - first) tables × (first ≤ k) × (k ≤ last)
 
-abbrev decreases-loop : tie.decreases-loop
+abbrev decreases-loop : tie.decreases-loop-k
 decreases-loop tables₀ at index value first last k₀ tables k = last - k
 
-loop-holds : tie.Need-loop-init invariant-loop decreases-loop
+loop-holds : tie.Need-loop-k-init invariant-loop decreases-loop
 loop-holds c =
     let a = c.args in
     let none : 0 ≡ a.first - a.first = omega arith in
@@ -32,39 +32,39 @@ loop-holds c =
     (rw none at (none-pasted {before = a.tables.now} {at = a.at + a.first} {part = drop a.first all} (omega arith)), omega arith, omega arith)
 
 -- the index and the value of the entry k
-abbrev index : tie.After-found invariant-loop decreases-loop → ℤ
-index c = get_or c.before.before.before.before.args.index.now c.before.before.before.loop.k (pos 0)
+abbrev index : tie.After-found-1 invariant-loop decreases-loop → ℤ
+index c = get_or c.before.before.before.before.args.index.now c.before.before.before.loop-k.k (pos 0)
 
-abbrev value : tie.After-found invariant-loop decreases-loop → ℤ
-value c = get_or c.before.before.before.before.args.value.now c.before.before.before.loop.k (pos 0)
+abbrev value : tie.After-found-1 invariant-loop decreases-loop → ℤ
+value c = get_or c.before.before.before.before.args.value.now c.before.before.before.loop-k.k (pos 0)
 
-near : (c : tie.After-found invariant-loop decreases-loop) → nat_abs (index c) ≤ 255
-near c = let s = c.before.before.before.before in near-at s.args.index.now s.requires.1.1.0 c.before.before.before.loop.k
+near : (c : tie.After-found-1 invariant-loop decreases-loop) → nat_abs (index c) ≤ 255
+near c = let s = c.before.before.before.before in near-at s.args.index.now s.requires.1.1.0 c.before.before.before.loop-k.k
 
-short : (c : tie.After-found invariant-loop decreases-loop) → Short (value c)
-short c = let s = c.before.before.before.before in short-at s.args.value.now s.requires.1.1.1 c.before.before.before.loop.k
+short : (c : tie.After-found-1 invariant-loop decreases-loop) → Short (value c)
+short c = let s = c.before.before.before.before in short-at s.args.value.now s.requires.1.1.1 c.before.before.before.loop-k.k
 
-entry : (c : tie.Joined1 invariant-loop decreases-loop) → c.if1.entry ≡ merged_entry (index c.before) (value c.before)
+entry : (c : tie.Joined-next-le0 invariant-loop decreases-loop) → c.if-next-le0.entry ≡ merged_entry (index c.before) (value c.before)
 entry c =
     let f = c.before in
-    let i = to_z-of_z {w = w32} {z = index f} (sfits_of f.before.next.given) in
+    let i = to_z-of_z {w = w32} {z = index f} (sfits_of f.before.next-1.given) in
     ⊎_elim
-    (λ w. w.1 ∙ raised_is (value f) (short f) ∙ sym (if_yes (nat_abs (index f)) (rw i at w.0.taken) refl))
-    (λ w. w.1 ∙ index_is (index f) (near f) ∙ sym (if_no (biased_value (value f)) (rw i at w.0.left) refl))
-    c.if1.branch
+    (λ w. w.entry-is ∙ raised_is (value f) (short f) ∙ sym (if_yes (nat_abs (index f)) (rw i at w.if-next-le0.true) refl))
+    (λ w. w.entry-is ∙ index_is (index f) (near f) ∙ sym (if_no (biased_value (value f)) (rw i at w.if-next-le0.false) refl))
+    c.if-next-le0.branch-raw
 
-most : (c : tie.Joined1 invariant-loop decreases-loop) → c.if1.entry ≤ 65535
+most : (c : tie.Joined-next-le0 invariant-loop decreases-loop) → c.if-next-le0.entry ≤ 65535
 most c = let f = c.before in omega (arith, entry c, entry-most (index f) (value f) (near f))
 
-loop-again : tie.Need-loop-preserved invariant-loop decreases-loop
+loop-again : tie.Need-loop-k-preserved invariant-loop decreases-loop
 loop-again c =
     let j = c.before in
     let x = j.before.before.before.before in
     let a = x.before.args in
-    let k = x.loop.k in
+    let k = x.loop-k.k in
     let long = joined_length a.index.now a.value.now in
     let laid = entry j ∙ sym (joined_at a.index.now a.value.now k (omega arith)) in (
-      pasted-from (merged_table a.index.now a.value.now) a.at a.first k x.loop.invariant.0 (omega arith) (omega arith) laid,
+      pasted-from (merged_table a.index.now a.value.now) a.at a.first k x.loop-k.invariant.0 (omega arith) (omega arith) laid,
       omega arith,
       omega arith,
     )
@@ -72,14 +72,14 @@ loop-again c =
 returns : tie.Need-returns invariant-loop decreases-loop
 returns c =
     let x = c.before in
-    let all : x.loop.k ≡ x.before.args.last = omega arith in
-    rw all at x.loop.invariant.0.is
+    let all : x.loop-k.k ≡ x.before.args.last = omega arith in
+    rw all at x.loop-k.invariant.0.is
 
-pub put-codes-spec : {M : Type 1} → statement M
-put-codes-spec =
+pub put_codes_spec : {M : Type 1} → statement M
+put_codes_spec =
     tie.close
     (tie.spec
     invariant-loop decreases-loop loop-holds (λ c. search rules) (λ c. omega arith) (λ c. search rules) (λ c. omega arith) (λ c. raised-fits (value c) (short c))
-    (λ c. raised_cast (value c) (short c)) (λ c. index_cast (index c.before) (near c.before) c.if1.false) (λ c. omega (arith, most c.before))
-    (λ c. omega arith) (λ c. search rules) (λ c. omega (arith, c.before.before.before.before.before.loop.invariant.0.long)) (λ c. omega arith)
-    (λ c. omega arith) loop-again (λ c. c.before.loop.invariant.0.long) returns)
+    (λ c. raised_cast (value c) (short c)) (λ c. index_cast (index c.before) (near c.before) c.if-next-le0.false) (λ c. omega (arith, most c.before))
+    (λ c. omega arith) (λ c. search rules) (λ c. omega (arith, c.before.before.before.before.before.loop-k.invariant.0.long)) (λ c. omega arith)
+    (λ c. omega arith) loop-again (λ c. c.before.loop-k.invariant.0.long) returns)
