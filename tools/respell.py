@@ -4,9 +4,10 @@
 usage: respell.py [--dry] [FOLDER]      once, behind the kit's port.py, at the top of the repository or in FOLDER
 
 A definition, lemma, field or constructor in camel case is written in snake case. A dash in such a name stays where it joins two names, as in
-`run-bind`, and is an underscore where it leads to a plain word, as in `g_any`. A file of specs/ that has the name of a module that Rattle makes
-(contracts) is renamed, structs and enums that the older language copied derive Clone and Copy, and each root file asks for the tactics. Names of
-functions, files and strings stay. A new name that is already a name of the same file is an error. README and docs/ get the new names, too.
+`run-bind`, and is an underscore where it leads to a plain word, as in `g_any`. The choice if .. then .. else, which is the library's own with another
+precedence, is when .. then .. else. A file of specs/ that has the name of a module that Rattle makes (contracts) is renamed, structs and enums that the
+older language copied derive Clone and Copy, and each root file asks for the tactics. Names of functions, files and strings stay. A new name that is already
+a name of the same file is printed. README and docs/ get the new names, too.
 """
 import os
 import re
@@ -43,7 +44,7 @@ def files(*ends):
 def snake(word):
     if not re.match(r"[a-z]", word) or not re.search("[A-Z]", word):
         return word
-    return re.sub(r"(?<=[a-z0-9])([A-Z])", r"_\1", word).lower()
+    return re.sub(r"(?<=[a-z0-9])([A-Z])", r"_\1", re.sub(r"TypeB(?=[A-Z])", "TypeB_", word)).lower()
 
 
 antt = {p: read(p) for p in files(".antt")}
@@ -145,6 +146,15 @@ for p in files(".rt", ".antt"):
     u = re.sub(r"(Rattle\.\w+\.specs\.)Contracts\b", r"\1Promises", t)
     if p.endswith("/specs/Lib.antt"):
         u = re.sub(r"(?m)^pub mod Contracts$", "pub mod Promises", u)
+    if u != t:
+        write(p, u)
+for p in files(".rt", ".antt"):
+    t = read(p)
+    u = t.replace("if◌then◌else◌", "when◌then◌else◌")
+    if p.endswith(".antt"):
+        u = re.sub(r"--[^\n]*|(?<![\w.'-])if(?![\w'-])", lambda m: m[0] if m[0].startswith("--") else "when", u)
+    elif u != t:
+        u = re.sub(r"\bif\b([^{}\n]*)\bthen\b", r"when\1then", u)
     if u != t:
         write(p, u)
 pages = [os.path.join(top, "README.md")] + [os.path.join(top, "docs", n) for n in sorted(os.listdir(os.path.join(top, "docs"))) if n.endswith(".md")]
