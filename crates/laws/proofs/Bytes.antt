@@ -9,11 +9,11 @@ use lib.Bits.{bit_and, and_high}
 use lib.Dec.{T, ltb, eqb}
 use lib.IntN.{ℤ, pos, negsuc, nat_abs}
 use lib.Pow.{pow_pos, pow-add, shl_exact}
-use lib.Signed.{lt_z, non_neg, quot_z}
+use lib.Signed.{non_neg, quot_z}
 use mir.Syntax.{Width, w8}
 use mir.Val.{SFits, Fits, bits, hbits, to_z, of_z}
 use Rattle.laws.specs.Signed.{clamp255, half_toward_zero, odd}
-use Rattle.laws.proofs.Ints.{Dif, up, dn, v, lit, neg, as-dif, at-dif, eq-by, lt_yes, lt_no, one_side, fits_by, fits-of, cast-by, parity}
+use Rattle.laws.proofs.Ints.{Dif, up, dn, v, lit, neg, as-dif, at-dif, one_side, fits_by, fits-of, cast-by, parity}
 use Rattle.laws.proofs.Nums.{Num, num, read, write}
 
 -- ---- casts. That a cast fits is `fits` of Nums at the new width, and `search needs` for an unsigned number that is cast to a wider signed one.
@@ -32,20 +32,6 @@ pub clamp-is : (z : ℤ) → clamp255 z ≡ min (up z) 255
 unfolding clamp255
 clamp-is (pos n) = refl
 clamp-is (negsuc n) = omega arith
-
--- its two choices: 0 or z, then 255 or that
-pub floor-yes : (z : ℤ) → lt_z z (pos 0) ≡ true → pos 0 ≡ pos (up z)
-floor-yes z e = ap pos (omega (arith, one_side z, lt_yes (v z) (lit 0) e))
-
-pub floor-no : (z : ℤ) → lt_z z (pos 0) ≡ false → z ≡ pos (up z)
-floor-no z e = eq-by (v z) (lit (up z)) (omega (arith, one_side z, lt_no (v z) (lit 0) e))
-
-module _ (z : ℤ) {low : ℤ} (l : low ≡ pos (up z)) where
-  pub clamp-yes : lt_z (pos 255) low ≡ true → pos 255 ≡ pos (clamp255 z)
-  clamp-yes e = ap pos (omega (arith, clamp-is z, lt_yes (lit 255) (at-dif l (lit (up z))) e))
-
-  pub clamp-no : lt_z (pos 255) low ≡ false → low ≡ pos (clamp255 z)
-  clamp-no e = l ∙ ap pos (omega (arith, clamp-is z, lt_no (lit 255) (at-dif l (lit (up z))) e))
 
 pub clamp_cast : (z : ℤ) {y : ℤ} → y ≡ pos (clamp255 z) → T (non_neg y) × Fits w8 (nat_abs y)
 clamp_cast z e = cast_unsigned e (omega (arith, clamp-is z))

@@ -61,7 +61,8 @@ module _ {A : Type 0} where
   set-right (x ∷ p) r j v = ap (λ (n : ℕ). set (x ∷ (p ++ r)) n v) (suc-add (length p) j) ∙ ap (λ (z : List A). x ∷ z) (set-right p r j v)
 
   -- a store into a part is one into the whole
-  set-put : (a k : ℕ) (xs ys : List A) (j : ℕ) (v : A) → a ≤ length xs → j < length ys → set (put_mid a k xs ys) (a + j) v ≡ put_mid a k xs (set ys j v)
+  set-put : (a k : ℕ) (xs ys : List A) (j : ℕ) (v : A) → a ≤ length xs → j < length ys
+      → set (put_mid a k xs ys) (a + j) v ≡ put_mid a k xs (set ys j v)
   set-put a k xs ys j v h l =
       ap (λ (n : ℕ). set (put_mid a k xs ys) (n + j) v) (sym (length-take-le a xs h))
       ∙ set-right (take a xs) (ys ++ post_of a k xs) j v

@@ -4,13 +4,11 @@
 ghost use Rattle.std.specs.Prelude.{◌≡◌};
 ghost use Rattle.laws.specs.Signed.{clamp255, half_toward_zero};
 
-// Brings n into 0..=255. Two choices and no early return: loops that clamp then become vectors.
+// Brings n into 0..=255.
 pub fn clamp_u8(n: i32) -> u8
     ensures { result ≡ clamp255 n }
 {
-    let low = if n < 0 { 0 } else { n };
-    let within = if low > 255 { 255 } else { low };
-    within as u8
+    n.clamp(0, 255) as u8
 }
 
 // Half of n, rounded toward zero.
