@@ -1,6 +1,5 @@
 // RULES 2.7: the order of coefficients and the matrices.
-ghost use Rattle.std.specs.Prelude.{◌≡◌, ◌*◌, ◌≤◌, T, leb, nat_abs};
-ghost use Rattle.std.specs.Int.Signed.{non_neg};
+ghost use Rattle.std.specs.Prelude.{◌≡◌};
 ghost use Rattle.codes.specs.Matrices.{zig_zag, intra_quant_matrix, non_intra_quant_matrix, premultiplier_matrix, bounded};
 
 pub const ZIG_ZAG: [u8; 64] = [
@@ -17,24 +16,28 @@ pub const INTRA_QUANT_MATRIX: [u8; 64] = [
 
 pub const NON_INTRA_QUANT_MATRIX: [u8; 64] = [16; 64];
 
-pub const PREMULTIPLIER_MATRIX: [i32; 64] = [
+pub const PREMULTIPLIER_MATRIX: [u8; 64] = [
     32, 44, 42, 38, 32, 25, 17, 9, 44, 62, 58, 52, 44, 35, 24, 12, 42, 58, 55, 49, 42, 33, 23, 12,
     38, 52, 49, 44, 38, 30, 20, 10, 32, 44, 42, 38, 32, 25, 17, 9, 25, 35, 33, 30, 25, 20, 14, 7,
     17, 24, 23, 20, 17, 14, 9, 5, 9, 12, 12, 10, 9, 7, 5, 2,
 ];
 
+// A constant has no clauses: docs/CLAIMS.md names those of the functions (RULES 2.7).
+#[tactic(auto, unfolding(crate::specs::Matrices::zig_zag, crate::specs::Matrices::down_from, crate::specs::Matrices::diagonals))]
 pub fn zig_zag() -> [u8; 64]
     ensures { result ≡ zig_zag }
 {
     ZIG_ZAG
 }
 
+#[tactic(auto, unfolding(crate::specs::Matrices::intra_quant_matrix))]
 pub fn intra_quant_matrix() -> [u8; 64]
     ensures { result ≡ intra_quant_matrix }
 {
     INTRA_QUANT_MATRIX
 }
 
+#[tactic(auto, unfolding(crate::specs::Matrices::non_intra_quant_matrix))]
 pub fn non_intra_quant_matrix() -> [u8; 64]
     ensures { result ≡ non_intra_quant_matrix }
 {
@@ -44,29 +47,17 @@ pub fn non_intra_quant_matrix() -> [u8; 64]
 pub fn premultiplier_matrix() -> [i32; 64]
     ensures { result ≡ premultiplier_matrix }
 {
-    PREMULTIPLIER_MATRIX
-}
-
-// Whether z is at most 2048 × the premultiplier, in size.
-fn within(premultiplier: i32, z: i32) -> bool
-    requires { T (non_neg premultiplier) × (nat_abs premultiplier ≤ 62) }
-    ensures { result ≡ leb (nat_abs z) (2048 * nat_abs premultiplier) }
-{
-    let most = 2048 * premultiplier;
-    (-most <= z) & (z <= most)
+    PREMULTIPLIER_MATRIX.map(|premultiplier| i32::from(premultiplier))
 }
 
 // Whether the transform can take the coefficients (RULES 4.4). No early end, so that several are tested at once.
 pub fn bounded(block: &[i32; 64]) -> bool
     ensures { result ≡ bounded block.now }
 {
-    let premultipliers = premultiplier_matrix();
+    let premultipliers = PREMULTIPLIER_MATRIX;
     let mut all = true;
-    let mut i: usize = 0;
-    while i < 64 {
-        let inside = within(premultipliers[i], block[i]);
-        all = all & inside;
-        i += 1;
+    for i in 0..64 {
+        all &= block[i].unsigned_abs() <= 2048 * u32::from(premultipliers[i]);
     }
     all
 }

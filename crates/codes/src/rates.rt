@@ -12,6 +12,7 @@ pub const PICTURE_RATE: [f64; 16] = [
     0.000, 0.000, 0.000, 0.000,
 ];
 
+// A constant has no clauses: docs/CLAIMS.md names those of the functions (RULES 2.8, 2.9).
 pub fn pixel_aspect_ratio() -> [f64; 14]
     ensures { result ≡ pixel_aspect_ratio }
 {
