@@ -11,45 +11,27 @@ use lib.ListN.{length, get_or, set, take, drop, length-append, length-take, leng
 use lib.Seq.{take-append-add, drop-drop, drop-paste, set-append_left, take-set-lt, drop-set-lt, take_at, drop_at}
 use lib.Seq.{get_or-append-add, get_or-drop, take_all, take-paste, length-paste, paste-zero, paste-suc, paste}
 use lib.Signed.{le_z, non_neg}
-use mir.Facts.{and_yes}
-use mir.Syntax.{w16, w32}
+use mir.Syntax.{w32}
 use mir.Val.{SFits, Fits}
 use Rattle.laws.proofs.Ints.{up, dn, v, lit, ◌⊕◌, Dif, back, reread, fits_by, cast-by, cast_is}
 use Rattle.laws.proofs.Bytes.{cast_unsigned}
 use Rattle.laws.proofs.Nums.{Num, num, rd}
 use Rattle.laws.proofs.Tables.{anywhere}
-use Rattle.codes.specs.DecodingTables.{biased_value, merged_entry, all, DecodingTables, macroblock_codes, block_codes, fixed_tables, tables_with, matrix_of, is_byte}
+use Rattle.codes.specs.DecodingTables.{biased_value, merged_entry, DecodingTables, macroblock_codes, block_codes, fixed_tables, tables_with, matrix_of}
 use Rattle.codes.specs.Matrices.{zig_zag, down_from, diagonals, intra_quant_matrix, non_intra_quant_matrix, premultiplier_matrix}
 use Rattle.codes.specs.Tables.{macroblock_address_increment_index, macroblock_address_increment_value, macroblock_type_intra_index, macroblock_type_intra_value}
 use Rattle.codes.specs.Tables.{macroblock_type_predictive_index, macroblock_type_predictive_value, macroblock_type_b_index, macroblock_type_b_value}
 use Rattle.codes.specs.Tables.{code_block_pattern_index, code_block_pattern_value, motion_index, motion_value}
 use Rattle.codes.specs.Tables.{dct_size_luminance_index, dct_size_luminance_value, dct_size_chrominance_index, dct_size_chrominance_value, dct_coeff_index, dct_coeff_value}
-use Rattle.codes.proofs.Entries.{natural, above}
-use Rattle.codes.proofs.Joined.{all-at, Short}
+use Rattle.codes.proofs.Entries.{above}
+use Rattle.codes.proofs.Joined.{Short}
 use Rattle.codes.specs.DecodingTables.{intra_matrix_at, non_intra_matrix_at, tables_length}
 
 -- ---- entries as they are laid
 
--- a number that is a byte, as the code casts it
-byte_at : (xs : List ℤ) → T (all is_byte xs) → (k : ℕ) → let z = get_or xs k (pos 0) in T (non_neg z) × (nat_abs z ≤ 255)
-byte_at xs t k =
-    let z = get_or xs k (pos 0) in
-    let b = and_yes (non_neg z) (leb (nat_abs z) 255) (all-at is_byte xs tt t k) in
-    (b.0, leb→le (nat_abs z) 255 b.1)
-
-module _ (xs : List ℤ) (t : T (all is_byte xs)) (k : ℕ) where
-  byte-read : Num (reread w32 (get_or xs k (pos 0))) (get_or xs k (pos 0)) 255
-  byte-read = rd w32 (num (byte_at xs t k).1) tt
-
-  pub byte-is : nat_abs (reread w32 (get_or xs k (pos 0))) ≡ nat_abs (get_or xs k (pos 0))
-  byte-is = ap nat_abs byte-read.is
-
-  pub byte_cast : let y = reread w32 (get_or xs k (pos 0)) in T (non_neg y) × Fits w16 (nat_abs y)
-  byte_cast = cast_unsigned (byte-read.is ∙ natural _ (byte_at xs t k).0) (omega (arith, (byte_at xs t k).1))
-
 -- an index above 0, as the code casts it
 module _ (i : ℤ) (h : nat_abs i ≤ 255) where
-  index_read : Num (reread w32 i) i 255
+  pub index_read : Num (reread w32 i) i 255
   index_read = rd w32 (num h) tt
 
   pub index_is : nat_abs (reread w32 i) ≡ nat_abs i

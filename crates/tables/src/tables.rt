@@ -1,7 +1,7 @@
 // The array of tables, made of the constant arrays once a picture: a constant array is built anew at each use.
-ghost use Rattle.std.specs.Prelude.{◌≡◌, map, ◌+◌, ◌-◌, ◌≤◌, T, nat_abs, length, drop};
+ghost use Rattle.std.specs.Prelude.{◌≡◌, ◌+◌, ◌-◌, ◌≤◌, T, length, drop};
 ghost use Rattle.std.proofs.Math.Seq.{paste};
-ghost use Rattle.codes.specs.DecodingTables.{merged_table, all, abs_below256, is_byte, is_table_value, macroblock_codes, block_codes, tables_with, intra_matrix_at};
+ghost use Rattle.codes.specs.DecodingTables.{merged_table, all, abs_below256, is_table_value, macroblock_codes, block_codes, tables_with, intra_matrix_at};
 ghost use Rattle.codes.specs.DecodingTables.{non_intra_matrix_at, tables_length};
 
 use crate::code_tables::{
@@ -18,16 +18,12 @@ use codes::lent::{
 };
 use codes::matrices::{PREMULTIPLIER_MATRIX, ZIG_ZAG};
 
-fn put(tables: &mut [u16], at: usize, table: &[i32])
-    requires table_in_bounds { at + length table.now ≤ length tables.old }
-    requires t { T (all is_byte table.now) }
-    ensures { tables.new ≡ paste tables.old at (map nat_abs table.now) (length table.now) }
+fn put_bytes(tables: &mut [u16], at: usize, table: &[u8])
+    requires { at + length table.now ≤ length tables.old }
+    ensures { tables.new ≡ paste tables.old at table.now (length table.now) }
 {
-    let mut k: usize = 0;
-    while k < table.len() {
-        let entry = table[k] as u16;
-        tables[at + k] = entry;
-        k += 1;
+    for (k, entry) in table.iter().enumerate() {
+        tables[at + k] = u16::from(*entry);
     }
 }
 
@@ -39,25 +35,11 @@ fn put_codes(tables: &mut [u16], at: usize, index: &[i32], value: &[i32], first:
     ensures { tables.new
         ≡ paste tables.old (at + first) (drop first (merged_table index.now value.now)) (last - first) }
 {
-    let mut k = first;
-    while k < last {
+    for k in first..last {
         let next = index[k];
         let found = (value[k] + 1024) as u32 % 65536;
         let entry = if next <= 0 { found } else { next as u32 };
         tables[at + k] = entry as u16;
-        k += 1;
-    }
-}
-
-fn put_bytes(tables: &mut [u16], at: usize, table: &[u8])
-    requires { at + length table.now ≤ length tables.old }
-    ensures { tables.new ≡ paste tables.old at table.now (length table.now) }
-{
-    let mut k: usize = 0;
-    while k < table.len() {
-        let entry = table[k] as u16;
-        tables[at + k] = entry;
-        k += 1;
     }
 }
 
@@ -68,13 +50,9 @@ fn put_matrices(tables: &mut Tables, intra_matrix: &[u8], other_matrix: &[u8])
     ensures { tables.new
         ≡ paste (paste tables.old intra_matrix_at intra_matrix.now 64) non_intra_matrix_at other_matrix.now 64 }
 {
-    let mut k: usize = 0;
-    while k < 64 {
-        let intra = intra_matrix[k] as u16;
-        let other = other_matrix[k] as u16;
-        tables[INTRA_MATRIX + k] = intra;
-        tables[NON_INTRA_MATRIX + k] = other;
-        k += 1;
+    for k in 0..64 {
+        tables[INTRA_MATRIX + k] = u16::from(intra_matrix[k]);
+        tables[NON_INTRA_MATRIX + k] = u16::from(other_matrix[k]);
     }
 }
 
@@ -135,7 +113,7 @@ fn put_block_codes(t: &mut Tables)
     put_codes(t, COEFFICIENT, index, value, 192, 216);
     put_codes(t, COEFFICIENT, index, value, 216, 224);
     put_bytes(t, SCAN, &ZIG_ZAG);
-    put(t, PREMULTIPLIERS, &PREMULTIPLIER_MATRIX);
+    put_bytes(t, PREMULTIPLIERS, &PREMULTIPLIER_MATRIX);
 }
 
 // The tables with these matrices.
