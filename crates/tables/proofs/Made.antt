@@ -1,5 +1,5 @@
 -- The tables that are made of the constant arrays, and that they are what is lent. Assumes nothing.
-use mathlib.Core.Path.{◌≡◌, refl, ap, ap₂, sym, subst, ◌∙◌}
+use mathlib.Core.Path.{◌≡◌, refl, ap, ap₂, sym, ◌∙◌}
 use mathlib.Core.Bool.{Bool, true, false, cond}
 use mathlib.Core.List.{List, [], ◌∷◌, ◌++◌, append_assoc, append-nil}
 use Prim.Native.Nat.{ℕ, zero, suc, ◌+◌, ◌-◌, ◌%◌, ◌≤◌, ◌<◌}
@@ -8,7 +8,7 @@ use native.Mathlib.Omega.{arith}
 use lib.Dec.{T, ltb, ltb→lt, leb, leb→le}
 use lib.IntN.{ℤ, pos, nat_abs, ◌+ℤ◌}
 use lib.ListN.{length, get_or, set, take, drop, length-append, length-take, length-drop, drop_of_length-le}
-use lib.Seq.{take-append-add, drop-drop, drop-paste, set-append_left, take-set-lt, drop-set-lt, take_at, drop_at}
+use lib.Seq.{take-append-add, drop-drop, drop-paste, take_at, drop_at}
 use lib.Seq.{get_or-append-add, get_or-drop, take_all, take-paste, length-paste, paste-zero, paste-suc, paste}
 use lib.Signed.{le_z, non_neg}
 use mir.Syntax.{w32}
@@ -100,43 +100,6 @@ pasted-from table at first k p f l e =
     let count : k - first + 1 ≡ k + 1 - first = omega arith in
     let entry : first + (k - first) ≡ k = omega arith in
     rw (place, count) at (pasted-on p (omega arith) (e ∙ rw (get_or-drop first table (k - first) 0, entry)))
-
--- a store before the part that is pasted
-paste-after : (d : List ℕ) (at : ℕ) (s : List ℕ) (n i : ℕ) (v : ℕ) → i < at → at ≤ length d
-    → set (paste d at s n) i v ≡ paste (set d i v) at s n
-paste-after d at s n i v l h =
-    let front : i < length (take at d) = simp length-take (omega arith) in
-    let more : i < length (take at d ++ take n s) = simp length-append (omega arith) in
-    set-append_left (take at d ++ take n s) (drop (at + n) d) i v more
-    ∙ ap (λ (x : List ℕ). x ++ drop (at + n) d) (set-append_left (take at d) (take n s) i v front)
-    ∙ rw (take-set-lt at d i v l, drop-set-lt (at + n) d i v (omega arith))
-
--- a loop that copies both matrices, one behind the other, has copied k entries of each
-abbrev pub Both : List ℕ → List ℕ → List ℕ → ℕ → List ℕ → Type 0
-Both before intra other k = Pasted (paste before intra_matrix_at intra k) non_intra_matrix_at other k
-
-module _ (before intra other : List ℕ) (h : (length before ≡ tables_length) × ((length intra ≡ 64) × (length other ≡ 64))) where
-  pub none_both : Both before intra other 0 before
-  none_both = subst (λ (t : List ℕ). Pasted t non_intra_matrix_at other 0 before) (paste-zero before intra_matrix_at intra) (none-pasted (omega arith))
-
-  pub both-on : {k : ℕ} {now : List ℕ} → Both before intra other k now → k < 64
-      → Both before intra other (k + 1) (set (set now (intra_matrix_at + k) (get_or intra k 0)) (non_intra_matrix_at + k) (get_or other k 0))
-  both-on {k} {now} p q =
-      let x = get_or intra k 0 in
-      let m = paste before intra_matrix_at intra k in
-      let first : Pasted before intra_matrix_at intra (k + 1) (set m (intra_matrix_at + k) x) =
-      pasted-on (pasted (omega arith) (omega arith) refl) (omega arith) refl in
-      let second : Pasted (set m (intra_matrix_at + k) x) non_intra_matrix_at other k (set now (intra_matrix_at + k) x) =
-      pasted p.most (omega (arith, first.long))
-      (ap (λ (t : List ℕ). set t (intra_matrix_at + k) x) p.is
-      ∙ paste-after m non_intra_matrix_at other k (intra_matrix_at + k) x (omega arith) (omega (arith, p.inside))) in
-      subst (λ (t : List ℕ). Pasted t non_intra_matrix_at other (k + 1) (set (set now (intra_matrix_at + k) x) (non_intra_matrix_at + k) (get_or other k 0))) first.is
-      (pasted-on second (omega arith) refl)
-
-  pub all_both : {k : ℕ} {now : List ℕ} → Both before intra other k now → 64 ≤ k → now ≡ paste (paste before intra_matrix_at intra 64) non_intra_matrix_at other 64
-  all_both {k} p q =
-      let all : k ≡ 64 = omega (arith, p.most) in
-      p.is ∙ ap (λ (i : ℕ). paste (paste before intra_matrix_at intra i) non_intra_matrix_at other i) all
 
 -- a table behind another
 paste-on : (t a b : List ℕ) (at n m : ℕ) → length a ≡ n → m ≤ length b → at + n + m ≤ length t

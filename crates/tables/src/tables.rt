@@ -1,8 +1,7 @@
 // The array of tables, made of the constant arrays once a picture: a constant array is built anew at each use.
 ghost use Rattle.std.specs.Prelude.{◌≡◌, ◌+◌, ◌-◌, ◌≤◌, T, length, drop};
 ghost use Rattle.std.proofs.Math.Seq.{paste};
-ghost use Rattle.codes.specs.DecodingTables.{merged_table, all, abs_below256, is_table_value, macroblock_codes, block_codes, tables_with, intra_matrix_at};
-ghost use Rattle.codes.specs.DecodingTables.{non_intra_matrix_at, tables_length};
+ghost use Rattle.codes.specs.DecodingTables.{merged_table, all, abs_below256, is_table_value, macroblock_codes, block_codes, tables_with};
 
 use crate::code_tables::{
     CODE_BLOCK_PATTERN_INDEX, CODE_BLOCK_PATTERN_VALUE, DCT_COEFF_INDEX, DCT_COEFF_VALUE,
@@ -18,6 +17,7 @@ use codes::lent::{
 };
 use codes::matrices::{PREMULTIPLIER_MATRIX, ZIG_ZAG};
 
+// A table of bytes, from `at` on.
 fn put_bytes(tables: &mut [u16], at: usize, table: &[u8])
     requires { at + length table.now ≤ length tables.old }
     ensures { tables.new ≡ paste tables.old at table.now (length table.now) }
@@ -43,20 +43,8 @@ fn put_codes(tables: &mut [u16], at: usize, index: &[i32], value: &[i32], first:
     }
 }
 
-// Both matrices, the other behind that of intra blocks. One loop for the two: the compiler makes vectors of it, and single bytes of two loops.
-fn put_matrices(tables: &mut Tables, intra_matrix: &[u8], other_matrix: &[u8])
-    requires tables_len { length tables.old ≡ tables_length }
-    requires intra_matrix_len { (length intra_matrix.now ≡ 64) × (length other_matrix.now ≡ 64) }
-    ensures { tables.new
-        ≡ paste (paste tables.old intra_matrix_at intra_matrix.now 64) non_intra_matrix_at other_matrix.now 64 }
-{
-    for k in 0..64 {
-        tables[INTRA_MATRIX + k] = u16::from(intra_matrix[k]);
-        tables[NON_INTRA_MATRIX + k] = u16::from(other_matrix[k]);
-    }
-}
-
 // The code tables of increments, types and patterns. A long one is laid in parts: the compiler makes constants of a loop of up to some 25 turns.
+// With all 224 coefficients in one part it copied the constant arrays at each call, and kept the loop.
 fn put_macroblock_codes(t: &mut Tables)
     ensures { t.new ≡ paste t.old 0 macroblock_codes (length macroblock_codes) }
 {
@@ -123,6 +111,7 @@ pub fn tables_with(intra_matrix: &[u8; 64], other_matrix: &[u8; 64]) -> Tables
     let mut tables = [0u16; LENGTH];
     put_macroblock_codes(&mut tables);
     put_block_codes(&mut tables);
-    put_matrices(&mut tables, intra_matrix, other_matrix);
+    put_bytes(&mut tables, INTRA_MATRIX, intra_matrix);
+    put_bytes(&mut tables, NON_INTRA_MATRIX, other_matrix);
     tables
 }

@@ -12,6 +12,5 @@ returns c =
     let empty = none-laid (replicate tables_length 0) 0 (omega arith) in
     let first = laid_on macroblock_codes 246 refl empty macroblock-codes-length tt macroblock-codes-length c.put_macroblock_codes.ensures in
     let fixed = laid_on block_codes 456 refl first block-codes-length tt block-codes-length (c.put_block_codes.ensures ∙ ap behind macroblock-codes-length) in
-    let both = c.put_matrices.ensures in
-    let intra = laid_on c.args.intra_matrix.now 64 refl fixed c.told-intra_matrix tt refl refl in
-    all_laid (laid_on c.args.other_matrix.now 64 refl intra c.told-other_matrix tt refl both) refl
+    let intra = laid_on c.args.intra_matrix.now 64 refl fixed c.told-intra_matrix tt c.told-intra_matrix c.put_bytes.ensures in
+    all_laid (laid_on c.args.other_matrix.now 64 refl intra c.told-other_matrix tt c.told-other_matrix c.put_bytes-2.ensures) refl
