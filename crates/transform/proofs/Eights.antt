@@ -1,15 +1,9 @@
 -- Eight numbers by their places.
 use mathlib.Core.Path.{◌≡◌, refl}
-use Prim.Native.Nat.{ℕ, zero, suc, ◌*◌, ◌^◌, ◌≤◌, ◌<◌}
-use native.Mathlib.Nat.{mul-le-mul}
+use Prim.Native.Nat.{ℕ, zero, suc, ◌<◌}
 use native.Mathlib.Omega.{arith}
-use borrow.Author.Rules.{sfits_of}
 use lib.Dec.{lit<}
 use lib.IntN.{ℤ}
-use lib.Signed.{mag}
-use mir.Facts.{to_z-of_z}
-use mir.Syntax.{w32}
-use Rattle.laws.proofs.Ints.{reread}
 use Rattle.transform.specs.Butterfly.{eight, nth}
 
 pub nth-eight : (f : ℕ → ℤ) (k : ℕ) → k < 8 → nth (eight f) k ≡ f k
@@ -35,11 +29,3 @@ eight-same f g h =
       v6 = h 6 (lit< tt) i;
       v7 = h 7 (lit< tt) i;
     }
-
--- a field or an element is what was put there
-pub read_back : (z : ℤ) → mag z < 2 ^ 31 → reread w32 z ≡ z
-read_back z h = to_z-of_z {w = w32} (sfits_of h)
-
--- no number of a column or a row lies behind its last
-pub before_last : (step : ℕ) {k : ℕ} → k < 8 → k * step ≤ 7 * step
-before_last step {k} h = let r : k ≤ 7 = omega arith in let q : step ≤ step = omega arith in mul-le-mul r q

@@ -5,7 +5,7 @@ ghost use Rattle.transform.specs.Steps.{over256};
 ghost use Rattle.laws.specs.Sizes.{AtMost};
 ghost use Rattle.transform.specs.Bounds.{input_size, output_size};
 
-// A column or a row.
+// A column or a row. Fields and no array: the step names each of the eight, and none is indexed.
 #[derive(Clone, Copy)]
 pub struct Eight {
     pub v0: i32,
@@ -23,14 +23,16 @@ pub fn butterfly(a: Eight) -> Eight
     requires { AtMost 8 input_size (nth a) }
     ensures { result ≡ butterfly a }
 {
-    let m0 = a.v0;
-    let a1 = a.v1;
-    let a2 = a.v2;
-    let a3 = a.v3;
-    let b1 = a.v4;
-    let a5 = a.v5;
-    let a6 = a.v6;
-    let a7 = a.v7;
+    let Eight {
+        v0: m0,
+        v1: a1,
+        v2: a2,
+        v3: a3,
+        v4: b1,
+        v5: a5,
+        v6: a6,
+        v7: a7,
+    } = a;
     let b3 = a2 + a6;
     let b4 = a5 - a3;
     let tmp1 = a1 + a7;
@@ -64,30 +66,14 @@ pub fn rounded(o: Eight) -> Eight
     requires { AtMost 8 output_size (nth o) }
     ensures { result ≡ eight (λ k. over256 (nth o k)) }
 {
-    let o0 = o.v0;
-    let o1 = o.v1;
-    let o2 = o.v2;
-    let o3 = o.v3;
-    let o4 = o.v4;
-    let o5 = o.v5;
-    let o6 = o.v6;
-    let o7 = o.v7;
-    let r0 = (o0 + 128) >> 8;
-    let r1 = (o1 + 128) >> 8;
-    let r2 = (o2 + 128) >> 8;
-    let r3 = (o3 + 128) >> 8;
-    let r4 = (o4 + 128) >> 8;
-    let r5 = (o5 + 128) >> 8;
-    let r6 = (o6 + 128) >> 8;
-    let r7 = (o7 + 128) >> 8;
     Eight {
-        v0: r0,
-        v1: r1,
-        v2: r2,
-        v3: r3,
-        v4: r4,
-        v5: r5,
-        v6: r6,
-        v7: r7,
+        v0: (o.v0 + 128) >> 8,
+        v1: (o.v1 + 128) >> 8,
+        v2: (o.v2 + 128) >> 8,
+        v3: (o.v3 + 128) >> 8,
+        v4: (o.v4 + 128) >> 8,
+        v5: (o.v5 + 128) >> 8,
+        v6: (o.v6 + 128) >> 8,
+        v7: (o.v7 + 128) >> 8,
     }
 }
