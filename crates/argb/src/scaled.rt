@@ -1,5 +1,5 @@
 // A picture as pixels of any size up to 4096 each way.
-ghost use Rattle.std.specs.Prelude.{◌≡◌, ◌+◌, ◌*◌, ◌-◌, ◌/◌, ◌≤◌, ◌<◌, length, get_or};
+ghost use Rattle.std.specs.Prelude.{◌≡◌, ◌+◌, ◌*◌, ◌/◌, ◌≤◌, ◌<◌, length, get_or};
 ghost use Rattle.laws.specs.Stores.{store_row};
 ghost use Rattle.argb.specs.Scaled.{picture, PlanesFit, sample_pixel, scaled};
 
@@ -63,13 +63,11 @@ fn write_row(
     let step = width / dst_w;
     let part = width % dst_w;
     let mut c = Column { sx: 0, rest: 0 };
-    let mut tx: usize = 0;
-    while tx < dst_w {
+    for tx in 0..dst_w {
         let sx = c.sx;
         let ci = c_row + sx / 2;
         dst[to + tx] = pixel(y[y_row + sx], cr[ci], cb[ci]);
         c = further(c, dst_w, step, part);
-        tx += 1;
     }
 }
 
@@ -85,17 +83,16 @@ fn colour_row(y: &[u8], cr: &[u8], cb: &[u8], size: DisplaySize, sy: usize, row:
     let pairs = luma_width / 2;
     let y_row = sy * luma_width;
     let c_row = sy / 2 * pairs;
-    let mut k: usize = 0;
-    while k < pairs {
+    for k in 0..pairs {
         let r = cr[c_row + k];
         let b = cb[c_row + k];
         row[2 * k] = pixel(y[y_row + 2 * k], r, b);
         row[2 * k + 1] = pixel(y[y_row + (2 * k + 1)], r, b);
-        k += 1;
     }
 }
 
 // A row of colours of which `width` are shown, spread over dst_w pixels.
+// `further` is what this loop and that of write_row share: over a closure for the colour, the clause would speak of its calls, and no longer of a value.
 fn spread_row(row: &[u32; 4096], width: usize, dst: &mut [u32], dst_w: usize, to: usize)
     requires le_width { (1 ≤ width) × (width ≤ 4096) × (1 ≤ dst_w) × (dst_w ≤ 4096) }
     requires dst_w_in_bounds { to + dst_w ≤ length dst.old }
@@ -104,26 +101,10 @@ fn spread_row(row: &[u32; 4096], width: usize, dst: &mut [u32], dst_w: usize, to
     let step = width / dst_w;
     let part = width % dst_w;
     let mut c = Column { sx: 0, rest: 0 };
-    let mut tx: usize = 0;
-    while tx < dst_w {
+    for tx in 0..dst_w {
         let sx = c.sx;
         dst[to + tx] = row[sx];
         c = further(c, dst_w, step, part);
-        tx += 1;
-    }
-}
-
-// The row of dst_w pixels that ends at `to`, once more from `to` on.
-fn copy_row(dst: &mut [u32], dst_w: usize, to: usize)
-    requires { (dst_w ≤ to) × (to + dst_w ≤ length dst.old) }
-    ensures { dst.new ≡ store_row dst.old to (λ x. get_or dst.old (to - dst_w + x) 0) dst_w }
-{
-    let from = to - dst_w;
-    let mut tx: usize = 0;
-    while tx < dst_w {
-        let c = dst[from + tx];
-        dst[to + tx] = c;
-        tx += 1;
     }
 }
 
@@ -152,12 +133,11 @@ pub fn write_rgb_scaled(
     let height = size.height;
     let mut row = [0u32; 4096];
     let mut shown = height;
-    let mut ty: usize = 0;
-    while ty < dst_h {
+    for ty in 0..dst_h {
         let sy = ty * height / dst_h;
         let to = ty * dst_w;
         if sy == shown {
-            copy_row(dst, dst_w, to);
+            dst.copy_within(to - dst_w..to, to);
         } else if width <= dst_w {
             colour_row(y, cr, cb, size, sy, &mut row);
             spread_row(&row, width, dst, dst_w, to);
@@ -165,6 +145,5 @@ pub fn write_rgb_scaled(
             write_row(y, cr, cb, size, sy, dst, dst_w, to);
         }
         shown = sy;
-        ty += 1;
     }
 }
