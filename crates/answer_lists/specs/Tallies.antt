@@ -1,5 +1,6 @@
 -- How many cases agree.
-use Rattle.std.specs.Prelude.{ℕ, ◌+◌, Bool, cond, eqb, ltb}
+use Rattle.std.specs.Prelude.{ℕ, ◌+◌, Bool, cond, ltb, Some, None}
+use Rattle.std.specs.Option.{option_or}
 use Rattle.answer_lists.specs.declared.tally.Tally.{Tally}
 
 -- one more; a counter stops at 2^32 - 1
@@ -7,7 +8,7 @@ unfoldable pub more : ℕ → ℕ
 more n = cond (ltb n 4294967295) (n + 1) n
 
 abbrev pub none : Tally
-none = record { cases = 0; agreed = 0; first = 0 }
+none = record { cases = 0; agreed = 0; first = None }
 
 -- one case more, which agrees or not
 abbrev pub counted : Tally → Bool → Tally
@@ -15,5 +16,5 @@ counted t b =
     record {
       cases = more t.cases;
       agreed = cond b (more t.agreed) t.agreed;
-      first = cond b t.first (cond (eqb t.first 0) (more t.cases) t.first);
+      first = cond b t.first (option_or t.first (Some (more t.cases)));
     }

@@ -3,8 +3,9 @@ ghost use Rattle.std.specs.Prelude.{◌≡◌};
 ghost use Rattle.answer_lists.specs.Blocks.{blank, block_of, matrix_of};
 
 use crate::bytes::byte_at;
-use crate::numbers::{number_at, signed};
+use crate::numbers::number_at;
 
+#[tactic(auto, unfolding(crate::specs::Blocks::blank))]
 pub fn blank() -> [i32; 64]
     ensures { result ≡ blank }
 {
@@ -16,11 +17,8 @@ pub fn block_of(list: &[u8]) -> [i32; 64]
     ensures { result ≡ block_of list.now }
 {
     let mut block = blank();
-    let mut i: usize = 0;
-    while i < 64 {
-        let z = signed(number_at(list, 4 * i));
-        block[i] = z;
-        i += 1;
+    for i in 0..64 {
+        block[i] = number_at(list, 4 * i).cast_signed();
     }
     block
 }
@@ -30,10 +28,8 @@ pub fn matrix_of(list: &[u8]) -> [u8; 64]
     ensures { result ≡ matrix_of list.now }
 {
     let mut matrix = [0u8; 64];
-    let mut i: usize = 0;
-    while i < 64 {
+    for i in 0..64 {
         matrix[i] = byte_at(list, i) as u8;
-        i += 1;
     }
     matrix
 }

@@ -13,7 +13,8 @@ pub fn space() -> [u8; 262144]
     [0; 262144]
 }
 
-// Reads until the space is full or nothing is left, and answers how many bytes it has. What an error of a read leaves in the space is not known.
+// Reads until the space is full or nothing is left, and answers how many bytes it has: `read_exact` would refuse a list that is shorter. What an error of
+// a read leaves in the space is not known.
 fn read_full<R: Read>(reader: &mut R, space: &mut [u8]) -> Result<usize>
     ensures ok { IfOk result (λ count. IsPrefixLen count space.new) }
     ensures err { OnErr result (length space.new ≡ length space.old) }

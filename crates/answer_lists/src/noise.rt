@@ -3,6 +3,7 @@ ghost use Rattle.std.specs.Prelude.{◌≡◌, length};
 ghost use Rattle.laws.specs.Stores.{store_row};
 ghost use Rattle.answer_lists.specs.Noise.{noise};
 
+#[tactic(auto, unfolding(crate::specs::Noise::noise))]
 fn noise(seed: u32, i: usize) -> u8
     ensures { result ≡ noise seed i }
 {
@@ -14,9 +15,7 @@ fn noise(seed: u32, i: usize) -> u8
 pub fn fill(d: &mut [u8], seed: u32)
     ensures { d.new ≡ store_row d.old 0 (noise seed) (length d.old) }
 {
-    let mut i: usize = 0;
-    while i < d.len() {
-        d[i] = noise(seed, i);
-        i += 1;
+    for (i, byte) in d.iter_mut().enumerate() {
+        *byte = noise(seed, i);
     }
 }

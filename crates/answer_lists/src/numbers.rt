@@ -6,7 +6,7 @@ ghost use Rattle.answer_lists.specs.Numbers.{number_at};
 
 use crate::bytes::byte_at;
 
-// The number at a byte of a list.
+// The number at a byte of a list. A byte past its end counts as 0, so there may be no four bytes for `from_be_bytes` to take.
 pub fn number_at(list: &[u8], at: usize) -> u32
     ensures { result ≡ number_at list.now at }
 {
@@ -23,18 +23,12 @@ pub fn number_at(list: &[u8], at: usize) -> u32
 pub fn signed(n: u32) -> i32
     ensures { result ≡ to_z w32 n }
 {
-    if n < 2147483648 {
-        return n as i32;
-    }
-    -1 - ((4294967295 - n) as i32)
+    n.cast_signed()
 }
 
 // What a list holds z as.
 pub fn twos_complement(z: i32) -> u32
     ensures { result ≡ of_z w32 z }
 {
-    if z < 0 {
-        return 4294967295 - ((-1 - z) as u32);
-    }
-    z as u32
+    z.cast_unsigned()
 }

@@ -1,23 +1,13 @@
 // How many cases of a list agree.
 ghost use Rattle.std.specs.Prelude.{◌≡◌};
-ghost use Rattle.answer_lists.specs.Tallies.{more, none, counted};
+ghost use Rattle.answer_lists.specs.Tallies.{none, counted};
 
-// first: the number of the first case that does not agree, counted from 1; 0 where all do.
+// first: the number of the first case that does not agree, counted from 1; none where all do.
 #[derive(Clone, Copy)]
 pub struct Tally {
     pub cases: u32,
     pub agreed: u32,
-    pub first: u32,
-}
-
-// One more, up to what a counter holds.
-fn more(n: u32) -> u32
-    ensures { result ≡ more n }
-{
-    if n < 4294967295 {
-        return n + 1;
-    }
-    n
+    pub first: Option<u32>,
 }
 
 impl Tally {
@@ -27,36 +17,26 @@ impl Tally {
         Tally {
             cases: 0,
             agreed: 0,
-            first: 0,
+            first: None,
         }
     }
 
-    // One case more.
+    // One case more. A counter stops at the largest number that it holds.
     pub fn counted(self, agrees: bool) -> Tally
         ensures { result ≡ counted self agrees }
     {
-        let cases = more(self.cases);
-        let agreed = self.agreed;
-        let first = self.first;
+        let cases = self.cases.saturating_add(1);
         if agrees {
-            let more_agreed = more(agreed);
             return Tally {
-                cases: cases,
-                agreed: more_agreed,
-                first: first,
-            };
-        }
-        if first == 0 {
-            return Tally {
-                cases: cases,
-                agreed: agreed,
-                first: cases,
+                cases,
+                agreed: self.agreed.saturating_add(1),
+                ..self
             };
         }
         Tally {
-            cases: cases,
-            agreed: agreed,
-            first: first,
+            cases,
+            first: self.first.or(Some(cases)),
+            ..self
         }
     }
 }

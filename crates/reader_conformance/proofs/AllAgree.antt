@@ -4,6 +4,7 @@ use mathlib.Core.Bool.{Bool, true, false, cond}
 use mathlib.Core.List.{List}
 use Prim.Native.Nat.{ℕ, zero, suc, ◌+◌, ◌≤◌, ◌<◌}
 use native.Mathlib.Omega.{arith}
+use Rattle.std.proofs.Common.{Some}
 use borrow.Author.Tests.{ltb-true, ltb-false}
 use lib.Dec.{ltb}
 use lib.ListN.{length}
@@ -64,7 +65,7 @@ all-agree l = go (ltb (length l) 4) (ltb longest_stream (length l)) (ltb (length
     tested : Bool → Bool → Bool → Tally
     tested a b d =
         cond a (counted none false)
-        (cond b (counted none false) (cond d (record { cases = number_at l 0; agreed = 0; first = 1 }) (score_from l (number_at l 0) beginning none)))
+        (cond b (counted none false) (cond d (record { cases = number_at l 0; agreed = 0; first = Some 1 }) (score_from l (number_at l 0) beginning none)))
 
     go : (a b d : Bool) → (b ≡ false → length l ≤ longest_stream) → (d ≡ false → number_at l 0 ≤ length l) → (d ≡ true → length l < number_at l 0)
         → (tested a b d).agreed ≡ (tested a b d).cases → Whole l (number_at l 0) beginning

@@ -4,6 +4,7 @@ use mathlib.Core.Bool.{false}
 use mathlib.Core.List.{List}
 use Prim.Native.Nat.{ℕ, zero, suc, ◌-◌, ◌≤◌, ◌<◌}
 use native.Mathlib.Omega.{arith}
+use Rattle.std.proofs.Common.{Some}
 use borrow.Author.Tests.{lt-ltb, le-ltb}
 use lib.ListN.{length}
 use Rattle.answer_lists.specs.declared.tally.Tally.{Tally}
@@ -52,6 +53,6 @@ module _ (l : List ℕ) (n : ℕ) (some : 4 ≤ length l) (short : length l ≤ 
   unfolding scored
   whole h = rw (le-ltb _ _ some, le-ltb _ _ short, ← is, le-ltb _ _ h)
 
-  pub too_many : length l < n → ◌≡◌ {A = Tally} (record { cases = n; agreed = 0; first = 1 }) (scored l)
+  pub too_many : length l < n → ◌≡◌ {A = Tally} (record { cases = n; agreed = 0; first = Some 1 }) (scored l)
   unfolding scored
   too_many h = rw (le-ltb _ _ some, le-ltb _ _ short, ← is, lt-ltb _ _ h)

@@ -1,5 +1,5 @@
 -- The list reader.bin: how its cases follow one another, and how many of them agree with ours.
-use Rattle.std.specs.Prelude.{ℕ, zero, suc, ◌+◌, ◌-◌, ◌≤◌, Bool, true, false, cond, ◌&&◌, List, eqb, ltb, length, get_or}
+use Rattle.std.specs.Prelude.{Some, ℕ, zero, suc, ◌+◌, ◌-◌, ◌≤◌, Bool, true, false, cond, ◌&&◌, List, eqb, ltb, length, get_or}
 use Rattle.bits.specs.Runs.{position_of}
 use Rattle.bits.specs.Bounds.{longest_stream, last_position}
 use Rattle.bits.specs.Bits.{bits_at, has_bytes, part_at, bytes_of}
@@ -89,5 +89,5 @@ unfoldable pub scored : List ℕ → Tally
 scored l =
     cond (ltb (length l) 4) (counted none false)
     (cond (ltb longest_stream (length l)) (counted none false)
-    (cond (ltb (length l) (number_at l 0)) (record { cases = number_at l 0; agreed = 0; first = 1 })
+    (cond (ltb (length l) (number_at l 0)) (record { cases = number_at l 0; agreed = 0; first = Some 1 })
     (score_from l (number_at l 0) beginning none)))

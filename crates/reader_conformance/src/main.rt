@@ -90,9 +90,9 @@ fn print<R: Print>(rt: &R, name: &[u8], tally: Tally) -> Result<()> {
     print!(rt; " of ")?;
     print_count(rt, tally.cases)?;
     print!(rt; " agree")?;
-    if tally.first != 0 {
+    if let Some(first) = tally.first {
         print!(rt; ", the first that does not is ")?;
-        print_count(rt, tally.first)?;
+        print_count(rt, first)?;
     }
     end_line(rt)
 }

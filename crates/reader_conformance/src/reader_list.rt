@@ -190,7 +190,7 @@ pub fn score(list: &[u8]) -> Tally
         return Tally {
             cases: cases,
             agreed: 0,
-            first: 1,
+            first: Some(1),
         };
     }
     let reader = Reader::new();
