@@ -1,6 +1,6 @@
 -- RULES 5.2 to 5.5 (11172-2, 2.4.2.7): the syntax of a vector's component, as programs over reads.
 use Rattle.std.specs.Prelude.{◌||◌, ℕ, ◌^◌, eqb, ℤ, pos, ◌+ℤ◌}
-use Rattle.bits.specs.Programs.{Prog, done, bind, bits, eq_z, ◌>>=◌, ◌>>◌, when◌then◌else◌}
+use Rattle.bits.specs.Programs.{Prog, done, bits, eq_z, ◌>>=◌, when◌then◌else◌}
 use Rattle.codes.specs.Codes.{motion}
 use Rattle.motion.specs.Displacement.{displacement_from, corrected}
 

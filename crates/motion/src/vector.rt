@@ -21,17 +21,6 @@ pub struct MotionVector {
     pub motion: i32,
 }
 
-// |n|
-fn abs(n: i32) -> u32
-    requires { nat_abs n < 2147483648 }
-    ensures { result ≡ nat_abs n }
-{
-    if n < 0 {
-        return (-n) as u32;
-    }
-    n as u32
-}
-
 // The displacement that a code other than 0 and its residual say (RULES 5.4).
 fn displacement(r: u32, m_code: i32, residual: u32) -> i32
     requires r_bound { r ≤ 6 }
@@ -39,7 +28,7 @@ fn displacement(r: u32, m_code: i32, residual: u32) -> i32
     requires residual_bound { residual < 2 ^ r }
     ensures { result ≡ displacement_from (2 ^ r) m_code residual }
 {
-    let size = ((abs(m_code) - 1) << r) + residual + 1;
+    let size = ((m_code.unsigned_abs() - 1) << r) + residual + 1;
     let d = size as i32;
     if m_code < 0 {
         return -d;
