@@ -11,7 +11,7 @@ use lib.Bits.{bit_and, bit_or, or_shifted}
 use lib.Dec.{eqb, leb, ltb}
 use lib.IntN.{ℤ, pos, negsuc, neg_ℤ, nat_abs, ◌+ℤ◌, ◌-ℤ◌, ◌*ℤ◌}
 use lib.ListN.{length, get_or, get_or-replicate}
-use lib.Signed.{lt_z, quot_z, shr_z}
+use lib.Signed.{quot_z, shr_z}
 use lib.Pow.{pow-add, pow_mono, pow_pos}
 use mir.Facts.{to_z-neg}
 use mir.Syntax.{w32}

@@ -1,6 +1,6 @@
 -- RULES 3.3, 3.7 to 3.12: the coefficients of a block, from what it says and what was left over.
 use Rattle.std.specs.Prelude.{Bool, not, ◌&&◌, List, [], ◌∷◌, ℕ, ◌+◌, eqb, ℤ, pos, ◌+ℤ◌, ◌*ℤ◌, get_or, set, replicate}
-use Rattle.bits.specs.Programs.{Prog, done, ◌>>=◌, ◌>>◌, when◌then◌else◌}
+use Rattle.bits.specs.Programs.{Prog, done, ◌>>=◌, when◌then◌else◌}
 use Rattle.codes.specs.Matrices.{zig_zag, premultiplier_matrix}
 use Rattle.coefficients.specs.declared.block.{Block.Block, BlockEnd.BlockEnd}
 use Rattle.coefficients.specs.declared.block.BlockEnd.TheVariants.{Complete, Dropped, DcOutOfRange}

@@ -1,6 +1,6 @@
 -- RULES 3.5, 3.6 (11172-2, 2.4.2.8): a coefficient as it is coded.
 use Rattle.std.specs.Prelude.{◌&&◌, ℕ, ◌/◌, ◌%◌, eqb, ltb, ℤ, pos, neg_ℤ, ◌-ℤ◌}
-use Rattle.bits.specs.Programs.{Prog, done, bits, ◌>>=◌, ◌>>◌, when◌then◌else◌}
+use Rattle.bits.specs.Programs.{Prog, done, bits, ◌>>=◌, when◌then◌else◌}
 use Rattle.codes.specs.Codes.{dct_coeff}
 use Rattle.coefficients.specs.declared.coefficient.Coefficient.{Coefficient}
 use Rattle.coefficients.specs.declared.coefficient.Coefficient.TheVariants.{EndOfBlock, RunLevel}

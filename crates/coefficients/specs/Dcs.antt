@@ -1,7 +1,7 @@
 -- The DC value of an intra block.
 use Rattle.std.specs.Prelude.{Bool, cond, ◌&&◌, ℕ, ◌+◌, ◌-◌, ◌/◌, ◌%◌, ◌^◌, eqb, ℤ, pos, neg_ℤ, ◌-ℤ◌}
 use Rattle.std.specs.Int.Signed.{le_z}
-use Rattle.bits.specs.Programs.{Prog, done, bits, ◌>>=◌, ◌>>◌, when◌then◌else◌}
+use Rattle.bits.specs.Programs.{Prog, done, bits, ◌>>=◌, when◌then◌else◌}
 use Rattle.codes.specs.Codes.{dct_size_luminance, dct_size_chrominance}
 use Rattle.coefficients.specs.DcTable.{lines, difference_in}
 

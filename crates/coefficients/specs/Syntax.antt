@@ -1,7 +1,7 @@
 -- RULES 3.1 to 3.7 (11172-2, 2.4.2.8): a block as it is coded.
 use Rattle.std.specs.Prelude.{Bool, cond, List, [], ◌∷◌, ◌++◌, ℕ, ◌+◌, ltb, ℤ, pos, ◌+ℤ◌}
 use Rattle.laws.specs.Loops.{Step, continue, finish}
-use Rattle.bits.specs.Programs.{Prog, done, loop, ◌>>=◌, ◌>>◌, when◌then◌else◌}
+use Rattle.bits.specs.Programs.{Prog, done, loop, ◌>>=◌, when◌then◌else◌}
 use Rattle.coefficients.specs.declared.coefficient.Coefficient.{Coefficient}
 use Rattle.coefficients.specs.declared.coefficient.Coefficient.TheVariants.{EndOfBlock, RunLevel}
 use Rattle.coefficients.specs.declared.block.BlockEnd.{BlockEnd}

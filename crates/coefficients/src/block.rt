@@ -167,8 +167,7 @@ pub fn read_block(
 pub fn block_data_after(values: &mut [i32; 64], q: Quantiser, block: Block)
     ensures { values.new ≡ block_data_after q (block_read_of values.old block) }
 {
-    let end = block.end;
-    if let BlockEnd::Complete = end {
+    if let BlockEnd::Complete = block.end {
         *values = [0; 64];
     }
 }

@@ -68,5 +68,5 @@ pub fn read_dc_difference(
 pub fn dc_in_range(value: i32) -> bool
     ensures { result ≡ dc_in_range value }
 {
-    -256 <= value && value <= 255
+    (-256..=255).contains(&value)
 }

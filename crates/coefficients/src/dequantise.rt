@@ -41,13 +41,7 @@ fn made_odd(x: i32) -> i32
 fn clipped(x: i32) -> i32
     ensures { (result ≡ clipped x) × (nat_abs result ≤ 2048) }
 {
-    if x < -2048 {
-        return -2048;
-    }
-    if x > 2047 {
-        return 2047;
-    }
-    x
+    x.clamp(-2048, 2047)
 }
 
 // The coefficient before it is multiplied by the premultiplier.
@@ -55,8 +49,6 @@ pub fn dequantise(q: Quantiser, level: i32, entry: u8) -> i32
     requires { (nat_abs level ≤ 256) × (q.scale ≤ 31) }
     ensures { (result ≡ dequantised q level entry) × (nat_abs result ≤ 2048) }
 {
-    let intra = q.intra;
-    let scale = q.scale;
-    let product = doubled(intra, level) * scale as i32 * entry as i32;
+    let product = doubled(q.intra, level) * q.scale as i32 * i32::from(entry);
     clipped(made_odd(product >> 4))
 }
