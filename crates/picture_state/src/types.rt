@@ -2,7 +2,7 @@
 use bits::reader::Reader;
 
 // A vector of one direction, with the flags and the size that its reading needs.
-#[derive(Clone, Copy)]
+#[derive(Clone, Copy, Default)]
 pub struct Motion {
     pub full_px: bool,
     pub is_set: bool,
