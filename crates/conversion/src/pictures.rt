@@ -14,13 +14,7 @@ use prediction::planes::{Plane, plane_length, plane_start};
 pub fn fits(w: usize, h: usize, room: usize) -> bool
     ensures { result ≡ (leb w 4096 && leb h 4096 && leb (w * h) room) }
 {
-    if 4096 < w {
-        return false;
-    }
-    if 4096 < h {
-        return false;
-    }
-    w * h <= room
+    w <= 4096 && h <= 4096 && w * h <= room
 }
 
 // RULES 6.11: a plane of the store number k, for n macroblocks.
@@ -30,8 +24,7 @@ fn plane(store: &[u8], k: usize, q: Plane, n: usize) -> &[u8]
     ensures { result.now ≡ mid_of (plane_start k q n) (plane_length q n) store.now }
 {
     let start = plane_start(k, q, n);
-    let end = start + plane_length(q, n);
-    &store[start..end]
+    &store[start..start + plane_length(q, n)]
 }
 
 // RULES 9.1, 9.2: the picture in the store number `index`.
@@ -45,13 +38,10 @@ pub fn write_picture(q: Sequence, store: &[u8], index: usize, area: &mut [u32], 
     let y = plane(store, index, Plane::Y, n);
     let cr = plane(store, index, Plane::Cr, n);
     let cb = plane(store, index, Plane::Cb, n);
-    let width = q.width;
-    let height = q.height;
-    let luma_width = q.sizes.mb_width * 16;
     let size = DisplaySize {
-        width,
-        height,
-        luma_width,
+        width: q.width,
+        height: q.height,
+        luma_width: q.sizes.mb_width * 16,
     };
     write_rgb_scaled(y, cr, cb, size, area, w, h);
 }
