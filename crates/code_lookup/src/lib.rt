@@ -1,4 +1,4 @@
-// What eight bits begin: 16 × the value of the code and its length, or 0 for a longer code.
+// What eight bits begin: 16 × the value of the code and its length, or 0 for a longer code. Not one function: each is its table, and nothing else.
 #![tactic(auto)]
 
 ghost use Rattle.std.specs.Prelude.{◌≡◌, ◌<◌, get_or};
