@@ -31,3 +31,7 @@ module _ (x : Memory) where
   pub record-ranged : is_record x ≡ true → in_range x.numbers ≡ true
   unfolding is_record
   record-ranged e = (both (has_room x) (in_range x.numbers) e).1
+
+  -- and the room itself
+  pub roomed : is_record x ≡ true → Room x
+  roomed e = room (record-roomy e)

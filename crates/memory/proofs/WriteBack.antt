@@ -8,7 +8,7 @@ use native.Mathlib.Omega.{arith}
 use borrow.Rule.Slice.PartMut.{mid_of}
 use lib.Ieee.{Float, nan}
 use lib.IntN.{ℤ, pos}
-use lib.ListN.{length, get_or, take, drop, take-append-drop}
+use lib.ListN.{length, get_or, take, take-append-drop}
 use lib.Seq.{drop-cons, length-take-le, take-add}
 use Rattle.memory.specs.Fields.{record_in, numbers_of, integers_of, matrices_of, clock_of, number_count, integer_count, matrix_count, clock_count}
 use Rattle.memory.specs.Memory.{Memory, over, written, record_of, in_range, is_record}

@@ -1,6 +1,6 @@
 // The format of a record: how long its parts are, the most that each number may be, and the values of its fields, as `fields` has them.
 ghost use Rattle.std.specs.Prelude.{◌≡◌, take};
-ghost use Rattle.memory.specs.Fields.{fields, flag_number, numbers_of, integers_of, clock_of, TypedNumbers};
+ghost use Rattle.memory.specs.Fields.{fields, numbers_of, integers_of, clock_of, TypedNumbers};
 
 use decoder::record::Decoder;
 
@@ -23,12 +23,6 @@ pub const BOUNDS: [usize; NUMBERS] = [
     FLAG, FLAG, WORD32, FLAG, WORD32, WORD32,
 ];
 
-fn flag(x: bool) -> usize
-    ensures { result ≡ flag_number x }
-{
-    if x { 1 } else { 0 }
-}
-
 // The numbers, in the order of `fields`.
 pub fn numbers_of(d: Decoder) -> [usize; NUMBERS]
     ensures { (result ≡ numbers_of d) × TypedNumbers fields.numbers d }
@@ -40,7 +34,7 @@ pub fn numbers_of(d: Decoder) -> [usize; NUMBERS]
     let b = s.motion_backward;
     [
         d.state.position.0,
-        flag(q.has_sequence_header),
+        usize::from(q.has_sequence_header),
         q.width,
         q.height,
         q.sizes.mb_width,
@@ -51,13 +45,13 @@ pub fn numbers_of(d: Decoder) -> [usize; NUMBERS]
         p.stores.fwd,
         p.stores.bwd,
         s.quantizer_scale as usize,
-        flag(f.full_px),
-        flag(f.is_set),
+        usize::from(f.full_px),
+        usize::from(f.is_set),
         f.r_size as usize,
-        flag(b.full_px),
-        flag(b.is_set),
+        usize::from(b.full_px),
+        usize::from(b.is_set),
         b.r_size as usize,
-        flag(d.state.display.has_reference_frame),
+        usize::from(d.state.display.has_reference_frame),
         d.state.display.frames_decoded as usize,
         d.stop as usize,
     ]
@@ -72,34 +66,6 @@ pub fn single_integers(d: Decoder) -> [i32; 6]
     let f = s.motion_forward;
     let b = s.motion_backward;
     [p.start_code, s.macroblock_address, f.h, f.v, b.h, b.v]
-}
-
-pub fn predictors_of(d: Decoder) -> [i32; 3]
-    ensures { result ≡ d.state.picture.slice.dc_predictor }
-{
-    let p = d.state.picture;
-    let s = p.slice;
-    s.dc_predictor
-}
-
-pub fn block_data_of(d: Decoder) -> [i32; 64]
-    ensures { result ≡ d.block_data }
-{
-    d.block_data
-}
-
-pub fn intra_of(d: Decoder) -> [u8; 64]
-    ensures { result ≡ d.sequence.matrices.intra_quant_matrix }
-{
-    let m = d.sequence.matrices;
-    m.intra_quant_matrix
-}
-
-pub fn non_intra_of(d: Decoder) -> [u8; 64]
-    ensures { result ≡ d.sequence.matrices.non_intra_quant_matrix }
-{
-    let m = d.sequence.matrices;
-    m.non_intra_quant_matrix
 }
 
 pub fn clock_of(d: Decoder) -> [f64; 4]

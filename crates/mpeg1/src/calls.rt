@@ -8,7 +8,6 @@ ghost use Rattle.mpeg1.specs.Calls.{HostOpens, HostDecodes, HostConverts};
 use bits::position::LONGEST_STREAM;
 use decoder::answers::{conversion_error_code, decode_error_code, opening_error_code};
 use decoder::record::Decoder;
-use memory::copies::copy_numbers;
 use memory::format::CLOCK;
 use memory::reading::{has_room, is_record, record_of};
 use memory::writing::save;
@@ -42,9 +41,8 @@ pub extern "C" fn mpeg1_open(
         return 2;
     }
     let opened = Decoder::open(stream, store);
-    let answer = opened.answer;
     save(opened.decoder, numbers, integers, matrices, clock);
-    opening_error_code(answer)
+    opening_error_code(opened.answer)
 }
 
 // RULES 8: the hand-out of the record that the memory holds. A record that stays as it is (RULES Q2, Q6, QA) is written back, which changes nothing
@@ -99,8 +97,7 @@ pub extern "C" fn mpeg1_decode(
     let Outcome::Picture(p) = outcome else {
         return decode_error_code(outcome);
     };
-    let told = picture_numbers(p);
-    copy_numbers(picture, 0, &told);
+    picture[..PICTURE_NUMBERS].copy_from_slice(&picture_numbers(p));
     *time = p.time;
     0
 }
@@ -125,6 +122,5 @@ pub extern "C" fn mpeg1_write_rgb_scaled(
         return 2;
     }
     let d = record_of(numbers, integers, matrices, &still);
-    let answer = d.write_rgb_scaled(store, index, area, width, height);
-    conversion_error_code(answer)
+    conversion_error_code(d.write_rgb_scaled(store, index, area, width, height))
 }

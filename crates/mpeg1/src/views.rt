@@ -15,14 +15,10 @@ use prediction::planes::{MACROBLOCK_STORES, Plane, block_size, plane_length, pla
 fn seen(numbers: &[usize]) -> Sequence
     ensures { (result ≡ View.seen numbers.now) × View.MacroblockBounds result }
 {
-    if numbers.len() < NUMBERS {
+    if numbers.len() < NUMBERS || 1 < numbers[1] {
         return fresh_sequence();
     }
-    if 1 < numbers[1] {
-        return fresh_sequence();
-    }
-    let none = [0u8; MATRICES];
-    let q = sequence_in(numbers, &none);
+    let q = sequence_in(numbers, &[0u8; MATRICES]);
     if !possible_sequence(q) {
         return fresh_sequence();
     }
@@ -35,36 +31,30 @@ fn number_seen(numbers: &[usize], k: usize, m: usize) -> usize
     ensures value { result ≡ View.number_view numbers.now k m }
     ensures upper_bound { result ≤ m }
 {
-    if numbers.len() < NUMBERS {
-        return 0;
+    match numbers.first_chunk::<NUMBERS>() {
+        Some(seen) if seen[k] <= m => seen[k],
+        _ => 0,
     }
-    let x = numbers[k];
-    if m < x {
-        return 0;
-    }
-    x
 }
 
 fn clock_number(clock: &[f64], k: usize) -> f64
     requires { k < clock_count }
     ensures { result ≡ View.clock_number clock.now k }
 {
-    if clock.len() < CLOCK {
-        return 0.0;
+    match clock.first_chunk::<CLOCK>() {
+        Some(seen) => seen[k],
+        None => 0.0,
     }
-    clock[k]
 }
 
 fn plane_number(plane: usize) -> Plane
     ensures { result ≡ View.plane_number plane }
 {
-    if plane == 0 {
-        return Plane::Y;
+    match plane {
+        0 => Plane::Y,
+        1 => Plane::Cr,
+        _ => Plane::Cb,
     }
-    if plane == 1 {
-        return Plane::Cr;
-    }
-    Plane::Cb
 }
 
 #[unsafe(no_mangle)]
@@ -114,28 +104,24 @@ pub extern "C" fn mpeg1_picture_numbers() -> usize
 pub extern "C" fn mpeg1_store_bytes(width: usize, height: usize) -> usize
     ensures { result ≡ View.store_bytes_of width height }
 {
-    if !((1 <= width) & (width <= 4095) & (1 <= height) & (height <= 4095)) {
+    if !((1..=4095).contains(&width) & (1..=4095).contains(&height)) {
         return 0;
     }
-    let sizes = sizes_of(width, height);
-    let n = sizes.mb_size;
-    MACROBLOCK_STORES * n
+    MACROBLOCK_STORES * sizes_of(width, height).mb_size
 }
 
 #[unsafe(no_mangle)]
 pub extern "C" fn mpeg1_width(numbers: &[usize]) -> usize
     ensures { result ≡ (View.seen numbers.now).width }
 {
-    let q = seen(numbers);
-    q.width
+    seen(numbers).width
 }
 
 #[unsafe(no_mangle)]
 pub extern "C" fn mpeg1_height(numbers: &[usize]) -> usize
     ensures { result ≡ (View.seen numbers.now).height }
 {
-    let q = seen(numbers);
-    q.height
+    seen(numbers).height
 }
 
 // The type read last: 1 I, 2 P, 3 B.
@@ -176,9 +162,7 @@ pub extern "C" fn mpeg1_row_bytes(numbers: &[usize], plane: usize) -> usize
     if 2 < plane {
         return 0;
     }
-    let q = seen(numbers);
-    let across = q.sizes.mb_width;
-    across * block_size(plane_number(plane))
+    seen(numbers).sizes.mb_width * block_size(plane_number(plane))
 }
 
 #[unsafe(no_mangle)]
@@ -188,9 +172,7 @@ pub extern "C" fn mpeg1_plane_bytes(numbers: &[usize], plane: usize) -> usize
     if 2 < plane {
         return 0;
     }
-    let q = seen(numbers);
-    let n = q.sizes.mb_size;
-    plane_length(plane_number(plane), n)
+    plane_length(plane_number(plane), seen(numbers).sizes.mb_size)
 }
 
 #[unsafe(no_mangle)]
@@ -200,7 +182,5 @@ pub extern "C" fn mpeg1_plane_start(numbers: &[usize], index: usize, plane: usiz
     if !((index <= 2) & (plane <= 2)) {
         return 0;
     }
-    let q = seen(numbers);
-    let n = q.sizes.mb_size;
-    plane_start(index, plane_number(plane), n)
+    plane_start(index, plane_number(plane), seen(numbers).sizes.mb_size)
 }

@@ -5,7 +5,7 @@ use borrow.Author.Tests.{lt-leb}
 use lib.ListN.{length}
 use Rattle.bits.specs.Bounds.{longest_stream}
 use Rattle.decoder.specs.Answers.{decode_error_code}
-use Rattle.memory.specs.Memory.{memory, over}
+use Rattle.memory.specs.Memory.{memory}
 use Rattle.mpeg1.specs.Calls.{host_decode}
 use Rattle.mpeg1.proofs.Answers.{decodes-1, decodes-2, told, decodes}
 use Rattle.mpeg1.proofs.calls.mpeg1_decode.Goals as goal
@@ -54,7 +54,7 @@ returns c =
     let x = memory s.numbers.now s.integers.now s.matrices.now s.clock.now in
     let d = c.decode_record-outcome in
     let z = memory d.new.numbers d.new.integers d.new.matrices d.new.clock in
-    let put = c.copy_numbers.ensures ∙ ap (λ y. over y s.picture.now) c.picture_numbers-told.ensures in
+    let put = c.copy_from_slice.ensures.after ∙ c.picture_numbers.ensures in
     let gives =
     decodes s.stream.now s.store.now x s.picture.now s.time.now c.if-stream-gt-LONGEST_STREAM.false (sym c.is_record.ensures ∙ c.if-not-is_record.false)
     (omega arith) d.ensures in
