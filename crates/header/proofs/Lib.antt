@@ -1,4 +1,3 @@
 pub mod Clearing
 pub mod Entries
-pub mod Floats
 pub mod Sizing

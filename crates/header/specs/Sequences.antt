@@ -1,6 +1,6 @@
 -- RULES O.3 (11172-2, 2.4.2.3): the sequence header, from behind its start code on.
 use Rattle.std.specs.Prelude.{List, ℕ, min, ◌-◌, eqb, Float, get_or, set, replicate}
-use Rattle.bits.specs.Programs.{Prog, done, bind, bits, for_below, ◌>>=◌, ◌>>◌, when◌then◌else◌}
+use Rattle.bits.specs.Programs.{Prog, done, bits, for_below, ◌>>=◌, when◌then◌else◌}
 use Rattle.codes.specs.Matrices.{zig_zag, intra_quant_matrix, non_intra_quant_matrix}
 use Rattle.codes.specs.Rates.{pixel_aspect_ratio, picture_rate}
 use Rattle.picture_state.specs.declared.types.Matrices.{Matrices}

@@ -1,6 +1,6 @@
 // RULES Q2: are width, height and the sizes possible? The tests that need no other to be asked first are joined by `&`.
 ghost use Rattle.std.specs.Prelude.{◌≡◌, ◌≤◌};
-ghost use Rattle.header.specs.Possible.{sizes_of, same_sizes, possible_sequence};
+ghost use Rattle.header.specs.Possible.{sizes_of, possible_sequence};
 
 use crate::state::Sequence;
 use picture_state::types::Sizes;
@@ -10,43 +10,25 @@ pub fn sizes_of(width: usize, height: usize) -> Sizes
     requires { (width ≤ 4095) × (height ≤ 4095) }
     ensures { result ≡ sizes_of width height }
 {
-    let mb_width = (width + 15) / 16;
-    let mb_height = (height + 15) / 16;
-    let mb_size = mb_width * mb_height;
+    let mb_width = width.div_ceil(16);
+    let mb_height = height.div_ceil(16);
     Sizes {
         mb_width,
         mb_height,
-        mb_size,
+        mb_size: mb_width * mb_height,
     }
-}
-
-fn same_sizes(x: Sizes, z: Sizes) -> bool
-    ensures { result ≡ same_sizes x z }
-{
-    (x.mb_width == z.mb_width) & (x.mb_height == z.mb_height) & (x.mb_size == z.mb_size)
 }
 
 // Sizes follow only from a width and a height within their bounds, so these are tested first.
 pub fn possible_sequence(q: Sequence) -> bool
     ensures { result ≡ possible_sequence q }
 {
-    let width = q.width;
-    let height = q.height;
-    let has_header = q.has_sequence_header;
-    if 4095 < width {
+    if 4095 < q.width || 4095 < q.height {
         return false;
     }
-    if 4095 < height {
-        return false;
+    if q.has_sequence_header {
+        let same = q.sizes == sizes_of(q.width, q.height);
+        return (1 <= q.width) & (1 <= q.height) & same;
     }
-    if has_header {
-        let same = same_sizes(q.sizes, sizes_of(width, height));
-        return (1 <= width) & (1 <= height) & same;
-    }
-    let none = Sizes {
-        mb_width: 0,
-        mb_height: 0,
-        mb_size: 0,
-    };
-    same_sizes(q.sizes, none)
+    q.sizes == Sizes::default()
 }

@@ -124,14 +124,7 @@ pub fn read_rest(s: &[u8], reader: Reader) -> RestRead
 pub fn aspect_of(code: usize) -> f64
     ensures { result ≡ Header.aspect_of code }
 {
-    let table = pixel_aspect_ratio();
-    if code == 0 {
-        return table[0];
-    }
-    if 14 < code {
-        return table[13];
-    }
-    table[code - 1]
+    pixel_aspect_ratio()[code.saturating_sub(1).min(13)]
 }
 
 // RULES 2.9.
@@ -139,6 +132,5 @@ pub fn rate_of(code: usize) -> f64
     requires { code < 16 }
     ensures { result ≡ Header.rate_of code }
 {
-    let table = picture_rate();
-    table[code]
+    picture_rate()[code]
 }

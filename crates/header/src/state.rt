@@ -17,22 +17,14 @@ pub struct Sequence {
 pub fn fresh_sequence() -> Sequence
     ensures { result ≡ fresh_sequence }
 {
-    let sizes = Sizes {
-        mb_width: 0,
-        mb_height: 0,
-        mb_size: 0,
-    };
-    let intra_quant_matrix = [0u8; 64];
-    let non_intra_quant_matrix = [0u8; 64];
-    let matrices = Matrices {
-        intra_quant_matrix,
-        non_intra_quant_matrix,
-    };
     Sequence {
         has_sequence_header: false,
         width: 0,
         height: 0,
-        sizes,
-        matrices,
+        sizes: Sizes::default(),
+        matrices: Matrices {
+            intra_quant_matrix: [0; 64],
+            non_intra_quant_matrix: [0; 64],
+        },
     }
 }

@@ -3,13 +3,10 @@ ghost use Rattle.std.specs.Prelude.{◌≡◌, ◌≤◌, length};
 ghost use Rattle.header.specs.Store.{cleared};
 
 // The first n bytes become 0.
+#[tactic(auto, unfolding(crate::specs::Store::cleared))]
 pub fn clear(store: &mut [u8], n: usize)
     requires { n ≤ length store.old }
     ensures { store.new ≡ cleared n store.old }
 {
-    let mut i: usize = 0;
-    while i < n {
-        store[i] = 0;
-        i += 1;
-    }
+    store[..n].fill(0);
 }

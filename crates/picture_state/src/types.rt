@@ -20,7 +20,7 @@ pub struct Stores {
 }
 
 // Macroblocks in a row, rows of macroblocks, and macroblocks.
-#[derive(Clone, Copy)]
+#[derive(Clone, Copy, PartialEq, Eq, Debug, Default)]
 pub struct Sizes {
     pub mb_width: usize,
     pub mb_height: usize,
