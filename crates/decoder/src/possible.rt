@@ -16,30 +16,26 @@ use playback::state::possible_display;
 fn possible_numbers(at: usize, stop: u32) -> bool
     ensures { result ≡ (leb at last_position && possible_stop stop) }
 {
-    (at <= LAST_POSITION) & ((stop == 0) | (stop == 8) | (stop == 9))
+    (at <= LAST_POSITION) & matches!(stop, 0 | 8 | 9)
 }
 
 pub fn possible(d: Decoder) -> bool
     ensures { result ≡ possible d }
 {
-    let values = d.block_data;
-    let left = bounded(&values);
-    let numbers = possible_numbers(d.state.position.0, d.stop);
-    let display = possible_display(d.state.display);
-    let sequence = possible_sequence(d.sequence);
-    let picture = possible_picture(d.state.picture);
-    numbers & display & sequence & picture & left
+    possible_numbers(d.state.position.0, d.stop)
+        & possible_display(d.state.display)
+        & possible_sequence(d.sequence)
+        & possible_picture(d.state.picture)
+        & bounded(&d.block_data)
 }
 
 // As a hand-out asks it, which has a stream.
 pub fn possible_with(s: &[u8], d: Decoder) -> bool
     ensures { result ≡ possible_with s.now d }
 {
-    let values = d.block_data;
-    let left = bounded(&values);
-    let numbers = possible_numbers(d.state.position.0, d.stop);
-    let display = possible_display(d.state.display);
-    let sequence = possible_sequence(d.sequence);
-    let picture = possible_picture(d.state.picture);
-    numbers & display & sequence & picture & left
+    possible_numbers(d.state.position.0, d.stop)
+        & possible_display(d.state.display)
+        & possible_sequence(d.sequence)
+        & possible_picture(d.state.picture)
+        & bounded(&d.block_data)
 }

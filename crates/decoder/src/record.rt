@@ -21,21 +21,18 @@ pub fn store_bytes(d: Decoder) -> usize
     requires { Fit d }
     ensures { result ≡ store_bytes d }
 {
-    let n = d.sequence.sizes.mb_size;
-    MACROBLOCK_STORES * n
+    MACROBLOCK_STORES * d.sequence.sizes.mb_size
 }
 
 // RULES O.1: the fresh record.
+#[tactic(auto, unfolding(crate::specs::Record::fresh))]
 pub fn fresh() -> Decoder
     ensures { result ≡ fresh }
 {
-    let sequence = fresh_sequence();
-    let state = fresh_state();
-    let block_data = [0i32; 64];
     Decoder {
-        sequence,
-        state,
-        block_data,
+        sequence: fresh_sequence(),
+        state: fresh_state(),
+        block_data: [0; 64],
         stop: 0,
     }
 }

@@ -24,8 +24,7 @@ impl Decoder {
         if store.len() < store_bytes(self) {
             return Converted::Refused(6);
         }
-        let has_header = self.sequence.has_sequence_header;
-        if !(has_header & (index <= 2)) {
+        if !(self.sequence.has_sequence_header & (index <= 2)) {
             return Converted::Refused(10);
         }
         if !fits(w, h, area.len()) {
