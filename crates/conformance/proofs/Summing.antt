@@ -10,36 +10,7 @@ use mir.Facts.{to_z-of_z}
 use mir.Syntax.{w32}
 use mir.Val.{SFits, of_z, to_z}
 use lib.Seq.{drop-cons, drop-length}
-use Rattle.conformance.specs.Sums.{mixed, summed, words}
-
--- i numbers are in the sum, and the others follow
-pub record Summing (before : ℕ) (ns : List ℕ) (sum i : ℕ) : Type 0 where
-  pub most : i ≤ length ns
-  pub small : sum < 4294967311
-  pub rest : summed sum (drop i ns) ≡ summed before ns
-
-module _ {before : ℕ} {ns : List ℕ} where
-  pub summing-none : before < 4294967311 → Summing before ns before 0
-  summing-none h = record { most = omega arith; small = h; rest = refl }
-
-  pub summing-one : {sum next i : ℕ} → Summing before ns sum i → i < length ns → (next ≡ mixed sum (get_or ns i 0)) × (next < 4294967311)
-      → Summing before ns next (i + 1)
-  unfolding summed
-  summing-one {sum} {next} {i} s h m = record {
-    most = omega arith;
-    small = m.1;
-    rest =
-        ap (λ (k : ℕ). summed k (drop (i + 1) ns)) m.0
-        ∙ ap (λ (k : ℕ). summed (mixed sum (get_or ns i 0)) (drop k ns)) (add-one i)
-        ∙ ap (summed sum) (sym (drop-cons ns i 0 h))
-        ∙ s.rest;
-  }
-
-  pub summing-all : {sum i : ℕ} → Summing before ns sum i → length ns ≤ i → (sum ≡ summed before ns) × (sum < 4294967311)
-  unfolding summed
-  summing-all {sum} {i} s h =
-      let e : i ≡ length ns = omega (arith, s.most) in
-      (sym (ap (summed sum) (ap (λ (k : ℕ). drop k ns) e ∙ drop-length ns)) ∙ s.rest, s.small)
+use Rattle.conformance.specs.Sums.{mixed, summed, words, single}
 
 -- ---- elements that are summed as several numbers
 
@@ -81,3 +52,9 @@ module _ {A : Type 0} {f : A → List ℕ} {before : ℕ} {xs : List A} where
 -- a signed number that was read from its bits
 pub held-is : {n : ℕ} (z : ℤ) → n ≡ of_z w32 (to_z w32 (of_z w32 z)) → SFits w32 z → n ≡ of_z w32 z
 held-is z e h = e ∙ ap (of_z w32) (to_z-of_z {w = w32} {z = z} h)
+
+-- numbers that are summed as they are
+pub words-single : (ns : List ℕ) → words single ns ≡ ns
+unfolding words
+words-single [] = refl
+words-single (n ∷ ns) = ap (λ (z : List ℕ). n ∷ z) (words-single ns)

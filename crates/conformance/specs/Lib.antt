@@ -1,4 +1,5 @@
 pub mod Cases
 pub mod Floats
+pub mod Lent
 pub mod Records
 pub mod Sums

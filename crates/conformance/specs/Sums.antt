@@ -17,6 +17,10 @@ unfoldable pub words : {A : Type 0} → (A → List ℕ) → List A → List ℕ
 words f [] = []
 words f (x ∷ xs) = f x ++ words f xs
 
+-- a number below 2^32
+abbrev pub single : ℕ → List ℕ
+single n = n ∷ []
+
 -- a number of 64 bits: its high half, then its low one
 abbrev pub halves : ℕ → List ℕ
 halves n = n / 4294967296 ∷ n % 4294967296 ∷ []

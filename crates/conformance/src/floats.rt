@@ -7,14 +7,16 @@ ghost use Rattle.conformance.specs.Floats as F;
 pub fn bits(x: f64) -> u64
     ensures { result ≡ F.bits x }
 {
-    if x == x {
-        return f64::to_bits(x);
+    if x.is_nan() {
+        9221120237041090560
+    } else {
+        x.to_bits()
     }
-    9221120237041090560
 }
 
+#[tactic(auto, unfolding(crate::specs::Floats::fraction))]
 pub fn fraction(numerator: u32, denominator: u32) -> f64
     ensures { result ≡ F.fraction numerator denominator }
 {
-    numerator as f64 / denominator as f64
+    f64::from(numerator) / f64::from(denominator)
 }

@@ -30,14 +30,12 @@ fn run<R: Print>(rt: &R, stream: &[u8], text: &[u8], records: bool) -> Result<()
 }
 
 fn run_list<R: Print>(rt: &R, stream: &[u8], list: &[u8], records: bool) -> Result<()> {
-    let mut left = number_at(list, 0);
     let mut at: usize = 4;
-    while 0 < left {
+    for _ in 0..number_at(list, 0) {
         show_name(rt, text_at(list, at))?;
         at = after_text(list, at);
         run(rt, stream, text_at(list, at), records)?;
         at = after_text(list, at);
-        left -= 1;
     }
     Ok(())
 }

@@ -1,60 +1,82 @@
-// Records made by hand, in the order of the memory that a call is lent.
-ghost use Rattle.std.specs.Prelude.{◌≡◌};
+// The memory that the calls are lent: records made by hand, in its order.
+ghost use Rattle.std.specs.Prelude.{◌≡◌, ◌+◌, ◌<◌};
+ghost use Rattle.memory.specs.Memory.{memory};
 ghost use Rattle.conformance.specs.Records.{numbers_in, integers_in, matrices_in, clock_in};
+ghost use Rattle.answer_lists.specs.Numbers.{number_at};
+ghost use Rattle.conformance.specs.Floats.{fraction};
+ghost use Rattle.conformance.specs.Lent.{memory_of};
 
 use crate::floats::fraction;
 use answer_lists::bytes::byte_at;
 use answer_lists::numbers::{number_at, signed};
 use memory::format::{CLOCK, INTEGERS, MATRICES, NUMBERS};
+use std::array;
 
 // Behind the numbers and the integers.
 const MATRICES_AT: usize = 4 * (NUMBERS + INTEGERS);
 
+// Behind the matrices.
+const CLOCK_AT: usize = MATRICES_AT + MATRICES;
+
+#[derive(Drop)]
+pub struct Memory {
+    pub numbers: [usize; NUMBERS],
+    pub integers: [i32; INTEGERS],
+    pub matrices: [u8; MATRICES],
+    pub clock: [f64; CLOCK],
+}
+
 pub fn numbers_in(list: &[u8]) -> [usize; NUMBERS]
     ensures { result ≡ numbers_in list.now }
 {
-    let mut numbers = [0usize; NUMBERS];
-    let mut i: usize = 0;
-    while i < NUMBERS {
-        numbers[i] = number_at(list, 4 * i) as usize;
-        i += 1;
-    }
-    numbers
+    array::from_fn(|k| number_at(list, 4 * k) as usize)
 }
 
 pub fn integers_in(list: &[u8]) -> [i32; INTEGERS]
     ensures { result ≡ integers_in list.now }
 {
-    let mut integers = [0i32; INTEGERS];
-    let mut i: usize = 0;
-    while i < INTEGERS {
-        integers[i] = signed(number_at(list, 4 * (NUMBERS + i)));
-        i += 1;
-    }
-    integers
+    array::from_fn(|k| signed(number_at(list, 4 * (NUMBERS + k))))
 }
 
 pub fn matrices_in(list: &[u8]) -> [u8; MATRICES]
     ensures { result ≡ matrices_in list.now }
 {
-    let mut matrices = [0u8; MATRICES];
-    let mut i: usize = 0;
-    while i < MATRICES {
-        matrices[i] = byte_at(list, MATRICES_AT + i) as u8;
-        i += 1;
-    }
-    matrices
+    array::from_fn(|k| byte_at(list, MATRICES_AT + k) as u8)
+}
+
+fn float_at(list: &[u8], at: usize) -> f64
+    requires { at < 4294967296 }
+    ensures { result ≡ fraction (number_at list.now at) (number_at list.now (at + 4)) }
+{
+    fraction(number_at(list, at), number_at(list, at + 4))
 }
 
 pub fn clock_in(list: &[u8]) -> [f64; CLOCK]
     ensures { result ≡ clock_in list.now }
 {
-    let mut clock = [0.0f64; CLOCK];
-    let mut i: usize = 0;
-    while i < CLOCK {
-        let at = MATRICES_AT + MATRICES + 8 * i;
-        clock[i] = fraction(number_at(list, at), number_at(list, at + 4));
-        i += 1;
+    array::from_fn(|k| float_at(list, CLOCK_AT + 8 * k))
+}
+
+impl Memory {
+    pub fn new() -> Memory {
+        Memory {
+            numbers: [0; NUMBERS],
+            integers: [0; INTEGERS],
+            matrices: [0; MATRICES],
+            clock: [0.0; CLOCK],
+        }
     }
-    clock
+
+    // The record that a text holds.
+    pub fn read(list: &[u8]) -> Memory
+        ensures { memory_of result
+            ≡ memory (numbers_in list.now) (integers_in list.now) (matrices_in list.now) (clock_in list.now) }
+    {
+        Memory {
+            numbers: numbers_in(list),
+            integers: integers_in(list),
+            matrices: matrices_in(list),
+            clock: clock_in(list),
+        }
+    }
 }

@@ -2,11 +2,12 @@
 ghost use Rattle.std.specs.Prelude.{◌≡◌, replicate, IfOk, OnErr};
 ghost use Rattle.std.specs.Float.{binary64};
 ghost use Rattle.std.specs.Float.Ieee.{of_bits};
-ghost use Rattle.memory.specs.Memory.{memory};
 ghost use Rattle.mpeg1.specs.Calls.{host_result, host_open, picture_count, host_decode};
+ghost use Rattle.conformance.specs.Lent.{memory_of};
 
 use crate::floats::bits;
-use crate::sums::{sum_bytes, sum_numbers, sum_record};
+use crate::records::Memory;
+use crate::sums::{sum, sum_record};
 use answer_lists::bytes::part;
 use mpeg1::calls::{PICTURE_NUMBERS, mpeg1_decode, mpeg1_open, mpeg1_write_rgb_scaled};
 use mpeg1::views::{mpeg1_plane_bytes, mpeg1_plane_start};
@@ -27,41 +28,32 @@ pub fn show_name<R: Print>(rt: &R, name: &[u8]) -> Result<()> {
 }
 
 // The answer, 0 where it is no refusal, and what the call has left.
-fn show_state<R: Print>(
-    rt: &R,
-    answer: u32,
-    store: &[u8],
-    numbers: &[usize],
-    integers: &[i32],
-    matrices: &[u8],
-    clock: &[f64],
-) -> Result<()> {
+fn show_state<R: Print>(rt: &R, answer: u32, store: &[u8], lent: &Memory) -> Result<()> {
     print!(rt; "{answer}")?;
-    show_sum(rt, sum_record(numbers, integers, matrices, clock))?;
-    show_sum(rt, sum_bytes(1, store))
+    show_sum(rt, sum_record(lent))?;
+    show_sum(rt, sum(1, store))
 }
 
 // An opening, and its line. Where the line is not written, what the call has left stands all the same.
-pub fn open<R: Print>(
-    rt: &R,
-    stream: &[u8],
-    store: &mut [u8],
-    numbers: &mut [usize],
-    integers: &mut [i32],
-    matrices: &mut [u8],
-    clock: &mut [f64],
-) -> Result<u32>
+pub fn open<R: Print>(rt: &R, stream: &[u8], store: &mut [u8], lent: &mut Memory) -> Result<u32>
     ensures ok { IfOk result
-        (λ answer. host_result answer store.new (memory numbers.new integers.new matrices.new clock.new)
+        (λ answer. host_result answer store.new (memory_of lent.new)
         ≡ host_open stream.now store.old
-        (memory numbers.old integers.old matrices.old clock.old)) }
-    ensures err { let opened = host_open stream.now store.old (memory numbers.old integers.old matrices.old clock.old) in
+        (memory_of lent.old)) }
+    ensures err { let opened = host_open stream.now store.old (memory_of lent.old) in
         OnErr result
-        (host_result opened.answer store.new (memory numbers.new integers.new matrices.new clock.new)
+        (host_result opened.answer store.new (memory_of lent.new)
         ≡ opened) }
 {
-    let answer = mpeg1_open(stream, store, numbers, integers, matrices, clock);
-    show_state(rt, answer, store, numbers, integers, matrices, clock)?;
+    let answer = mpeg1_open(
+        stream,
+        store,
+        &mut lent.numbers,
+        &mut lent.integers,
+        &mut lent.matrices,
+        &mut lent.clock,
+    );
+    show_state(rt, answer, store, lent)?;
     end_line(rt)?;
     Ok(answer)
 }
@@ -75,66 +67,57 @@ fn show_plane<R: Print>(
 ) -> Result<()> {
     let start = mpeg1_plane_start(numbers, k, plane);
     let bytes = mpeg1_plane_bytes(numbers, plane);
-    show_sum(rt, sum_bytes(1, part(store, start, bytes)))
+    show_sum(rt, sum(1, part(store, start, bytes)))
 }
 
 // A conversion to an area, and its line.
 pub fn show_conversion<R: Print>(
     rt: &R,
     store: &[u8],
-    numbers: &[usize],
-    integers: &[i32],
-    matrices: &[u8],
+    lent: &Memory,
     k: usize,
     area: &mut [u32],
     w: usize,
     h: usize,
 ) -> Result<()> {
-    let answer = mpeg1_write_rgb_scaled(store, numbers, integers, matrices, k, area, w, h);
+    let answer = mpeg1_write_rgb_scaled(
+        store,
+        &lent.numbers,
+        &lent.integers,
+        &lent.matrices,
+        k,
+        area,
+        w,
+        h,
+    );
     print!(rt; "{answer}")?;
-    show_sum(rt, sum_numbers(1, area))?;
+    show_sum(rt, sum(1, area))?;
     end_line(rt)
 }
 
-fn show_picture<R: Print>(
-    rt: &R,
-    store: &[u8],
-    numbers: &[usize],
-    integers: &[i32],
-    matrices: &[u8],
-    k: usize,
-    time: f64,
-) -> Result<()> {
+fn show_picture<R: Print>(rt: &R, store: &[u8], lent: &Memory, k: usize, time: f64) -> Result<()> {
     let time_bits = bits(time);
     print!(rt; " {k} {time_bits:016x}")?;
-    show_plane(rt, store, numbers, k, 0)?;
-    show_plane(rt, store, numbers, k, 1)?;
-    show_plane(rt, store, numbers, k, 2)?;
+    show_plane(rt, store, &lent.numbers, k, 0)?;
+    show_plane(rt, store, &lent.numbers, k, 1)?;
+    show_plane(rt, store, &lent.numbers, k, 2)?;
     print!(rt; " ")?;
     let mut area = [0u32; 1073];
-    show_conversion(rt, store, numbers, integers, matrices, k, &mut area, 37, 29)
+    show_conversion(rt, store, lent, k, &mut area, 37, 29)
 }
 
 // A hand-out, and its line. Where the line is not written, what the call has left stands all the same.
-pub fn decode<R: Print>(
-    rt: &R,
-    stream: &[u8],
-    store: &mut [u8],
-    numbers: &mut [usize],
-    integers: &mut [i32],
-    matrices: &mut [u8],
-    clock: &mut [f64],
-) -> Result<u32>
+pub fn decode<R: Print>(rt: &R, stream: &[u8], store: &mut [u8], lent: &mut Memory) -> Result<u32>
     ensures ok { IfOk result
-        (λ answer. host_result answer store.new (memory numbers.new integers.new matrices.new clock.new)
+        (λ answer. host_result answer store.new (memory_of lent.new)
         ≡ (host_decode stream.now store.old
-        (memory numbers.old integers.old matrices.old clock.old) (replicate picture_count 0) (of_bits binary64 0)
+        (memory_of lent.old) (replicate picture_count 0) (of_bits binary64 0)
         ).kept) }
     ensures err { let handed = host_decode stream.now store.old
-        (memory numbers.old integers.old matrices.old clock.old) (replicate picture_count 0) (of_bits binary64 0)
+        (memory_of lent.old) (replicate picture_count 0) (of_bits binary64 0)
         in
         OnErr result
-        (host_result handed.kept.answer store.new (memory numbers.new integers.new matrices.new clock.new)
+        (host_result handed.kept.answer store.new (memory_of lent.new)
         ≡ handed.kept) }
 {
     let mut picture = [0usize; PICTURE_NUMBERS];
@@ -142,18 +125,18 @@ pub fn decode<R: Print>(
     let answer = mpeg1_decode(
         stream,
         store,
-        numbers,
-        integers,
-        matrices,
-        clock,
+        &mut lent.numbers,
+        &mut lent.integers,
+        &mut lent.matrices,
+        &mut lent.clock,
         &mut picture,
         &mut time,
     );
-    show_state(rt, answer, store, numbers, integers, matrices, clock)?;
+    show_state(rt, answer, store, lent)?;
     if answer != 0 {
         end_line(rt)?;
         return Ok(answer);
     }
-    show_picture(rt, store, numbers, integers, matrices, picture[0], time)?;
+    show_picture(rt, store, lent, picture[0], time)?;
     Ok(answer)
 }

@@ -1,42 +1,18 @@
 // Checksums.
-ghost use Rattle.std.specs.Prelude.{◌≡◌, ◌<◌};
-ghost use Rattle.conformance.specs.Sums.{mixed, summed, words, halves, signed_word, float_words, record_sum};
+#![tactic(auto, unfolding(crate::specs::Sums::mixed, crate::specs::Sums::summed))]
+
+ghost use Rattle.std.specs.Prelude.{◌≡◌, ◌<◌, List, ℕ};
+ghost use Rattle.conformance.specs.Sums.{mixed, summed, words, single, halves, signed_word, float_words, record_sum};
 
 use crate::floats::bits;
+use crate::records::Memory;
 use answer_lists::numbers::twos_complement;
 
 pub fn mixed(sum: u64, n: u32) -> u64
     requires { sum < 4294967311 }
     ensures { (result ≡ mixed sum n) × (result < 4294967311) }
 {
-    (sum * 2654435761 + n as u64) % 4294967311
-}
-
-// Numbers, after others whose checksum is `before`.
-pub fn sum_numbers(before: u64, numbers: &[u32]) -> u64
-    requires { before < 4294967311 }
-    ensures { (result ≡ summed before numbers.now) × (result < 4294967311) }
-{
-    let mut sum = before;
-    let mut i: usize = 0;
-    while i < numbers.len() {
-        sum = mixed(sum, numbers[i]);
-        i += 1;
-    }
-    sum
-}
-
-pub fn sum_bytes(before: u64, bytes: &[u8]) -> u64
-    requires { before < 4294967311 }
-    ensures { (result ≡ summed before bytes.now) × (result < 4294967311) }
-{
-    let mut sum = before;
-    let mut i: usize = 0;
-    while i < bytes.len() {
-        sum = mixed(sum, bytes[i] as u32);
-        i += 1;
-    }
-    sum
+    (sum * 2654435761 + u64::from(n)) % 4294967311
 }
 
 // A number of 64 bits: its high half, then its low one.
@@ -48,52 +24,72 @@ fn sum_word(before: u64, n: u64) -> u64
     mixed(high, (n % 4294967296) as u32)
 }
 
-// The parts of a record.
-fn sum_sizes(before: u64, numbers: &[usize]) -> u64
-    requires { before < 4294967311 }
-    ensures { (result ≡ summed before (words halves numbers.now)) × (result < 4294967311) }
-{
-    let mut sum = before;
-    let mut i: usize = 0;
-    while i < numbers.len() {
-        sum = sum_word(sum, numbers[i] as u64);
-        i += 1;
-    }
-    sum
+// An element of what is summed: numbers of 32 bits, one after the other.
+pub trait Summed {
+    ghost words_of: { Self → List ℕ };
+
+    // They, after others whose checksum is `before`.
+    fn summed(self, before: u64) -> u64
+        requires { before < 4294967311 }
+        ensures { (result ≡ summed before (words_of self)) × (result < 4294967311) };
 }
 
-fn sum_integers(before: u64, integers: &[i32]) -> u64
-    requires { before < 4294967311 }
-    ensures { (result ≡ summed before (words signed_word integers.now)) × (result < 4294967311) }
-{
-    let mut sum = before;
-    let mut i: usize = 0;
-    while i < integers.len() {
-        let z = integers[i];
-        sum = mixed(sum, twos_complement(z));
-        i += 1;
+impl Summed for u8 {
+    ghost words_of = { single };
+
+    fn summed(self, before: u64) -> u64 {
+        mixed(before, u32::from(self))
     }
-    sum
 }
 
-fn sum_floats(before: u64, clock: &[f64]) -> u64
+impl Summed for u32 {
+    ghost words_of = { single };
+
+    fn summed(self, before: u64) -> u64 {
+        mixed(before, self)
+    }
+}
+
+impl Summed for i32 {
+    ghost words_of = { signed_word };
+
+    fn summed(self, before: u64) -> u64 {
+        mixed(before, twos_complement(self))
+    }
+}
+
+impl Summed for usize {
+    ghost words_of = { halves };
+
+    fn summed(self, before: u64) -> u64 {
+        sum_word(before, self as u64)
+    }
+}
+
+impl Summed for f64 {
+    ghost words_of = { float_words };
+
+    fn summed(self, before: u64) -> u64 {
+        sum_word(before, bits(self))
+    }
+}
+
+// A part, after others whose checksum is `before`.
+pub fn sum<T: Summed + Copy>(before: u64, part: &[T]) -> u64
     requires { before < 4294967311 }
-    ensures { (result ≡ summed before (words float_words clock.now)) × (result < 4294967311) }
+    ensures { (result ≡ summed before (words T.words_of part.now)) × (result < 4294967311) }
 {
     let mut sum = before;
-    let mut i: usize = 0;
-    while i < clock.len() {
-        let x = clock[i];
-        sum = sum_word(sum, bits(x));
-        i += 1;
+    for element in part {
+        sum = element.summed(sum);
     }
     sum
 }
 
 // A record, as it lies in memory.
-pub fn sum_record(numbers: &[usize], integers: &[i32], matrices: &[u8], clock: &[f64]) -> u64
-    ensures { result ≡ record_sum numbers.now integers.now matrices.now clock.now }
+pub fn sum_record(lent: &Memory) -> u64
+    ensures { result ≡ record_sum lent.now.numbers lent.now.integers lent.now.matrices lent.now.clock }
 {
-    let heads = sum_integers(sum_sizes(1, numbers), integers);
-    sum_floats(sum_bytes(heads, matrices), clock)
+    let heads = sum(sum(1, &lent.numbers), &lent.integers);
+    sum(sum(heads, &lent.matrices), &lent.clock)
 }

@@ -34,11 +34,6 @@ module _ {F B : Type 0} (g : Mut F (ℕ × Unit {0}) B) (f : F) (R : ℕ → B �
   pub made_each : (ys : List B) (n : ℕ) → IsFromFnResult g f ys n → (k : ℕ) (d : B) → k < n → R k (get_or ys k d)
   made_each ys n r k d l = from ys 0 n k d r.each (omega arith) (omega arith)
 
--- the list of a function's values
-pub made : {F B : Type 0} (g : Mut F (ℕ × Unit {0}) B) (f : F) (v : ℕ → B) (ys : List B) (n : ℕ) (d : B)
-    → ((k : ℕ) (y : B) (q : F) → Called g f (k, tt) y q → (q ≡ f) × (y ≡ v k)) → IsFromFnResult g f ys n → ys ≡ map v (range_with_len 0 n)
-made g f v ys n d step r = fill_by_all v ys n d r.long (λ k l. made_each g f (λ k y. y ≡ v k) step ys n r k d l)
-
 -- a part of a list
 pub part_made : {A : Type 0} (at n : ℕ) (xs ys : List A) → length ys ≡ n → at + n ≤ length xs
     → ((k : ℕ) (d : A) → k < n → get_or xs (at + k) (get_or ys k d) ≡ get_or ys k d) → ys ≡ mid_of at n xs
