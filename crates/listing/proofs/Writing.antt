@@ -1,47 +1,22 @@
 -- Texts that are written one behind the other, and the digits of a number.
 use mathlib.Core.Path.{◌≡◌, refl, sym, ap, subst, ◌∙◌}
 use mathlib.Core.Bool.{Bool, cond}
-use mathlib.Core.List.{List, [], ◌∷◌, ◌++◌}
+use mathlib.Core.List.{List, [], ◌∷◌, ◌++◌, append_assoc}
 use Prim.Native.Nat.{ℕ, zero, suc, ◌+◌, ◌-◌, ◌*◌, ◌/◌, ◌%◌, ◌^◌, ◌≤◌, ◌<◌}
 use native.Mathlib.Nat.{pow-succ', pow-le-pow_right, one-le-pow}
-use native.Mathlib.Numerals.{add-one}
 use native.Mathlib.Omega.{arith}
 use borrow.Author.Tests.{lt-ltb, le-ltb}
-use lib.ListN.{length, get_or, set, take, drop, length-set, length-append}
-use lib.Seq.{sets, drop-cons, drop-length, length-sets, sets-eq, take-append_seam}
+use lib.ListN.{length, set, take, drop, length-append}
+use borrow.Rule.Slice.PartMut.{put_mid}
+use lib.Seq.{sets, drop-drop, length-sets, sets-eq, take-append_seam}
 use Rattle.io.specs.Digits.{hex_digit_ascii, last_digits, IsDigitCount}
 use Rattle.listing.specs.Text.{Wrote, decimal_in, field}
 
--- ---- a copy
-
--- i bytes of t are written, and the page is what t makes of it once the others are
-pub record Copied (page₀ : List ℕ) (at : ℕ) (t page : List ℕ) (i : ℕ) : Type 0 where
-  pub most : i ≤ length t
-  pub long : length page ≡ length page₀
-  pub rest : sets page (at + i) (drop i t) ≡ sets page₀ at t
-
-module _ {page₀ : List ℕ} {at : ℕ} {t : List ℕ} where
-  pub copied_none : Copied page₀ at t page₀ 0
-  copied_none = record { most = omega arith; long = refl; rest = ap (λ (k : ℕ). sets page₀ k t) (omega arith) }
-
-  pub copied-one : {page : List ℕ} {i : ℕ} → Copied page₀ at t page i → i < length t → Copied page₀ at t (set page (at + i) (get_or t i 0)) (i + 1)
-  copied-one {page} {i} c h = record {
-    most = omega arith;
-    long = length-set page (at + i) (get_or t i 0) ∙ c.long;
-    rest =
-        ap (λ (k : ℕ). sets (set page (at + i) (get_or t i 0)) k (drop (i + 1) t)) (omega arith)
-        ∙ ap (λ (k : ℕ). sets (set page (at + i) (get_or t i 0)) (suc (at + i)) (drop k t)) (add-one i)
-        ∙ ap (sets page (at + i)) (sym (drop-cons t i 0 h))
-        ∙ c.rest;
-  }
-
-  pub copied_all : {page : List ℕ} {i : ℕ} → Copied page₀ at t page i → length t ≤ i → Wrote page₀ at t page (at + i)
-  copied_all {page} {i} c h =
-      let e : i ≡ length t = omega (arith, c.most) in
-      record {
-        bytes = sym (ap (sets page (at + i)) (ap (λ (k : ℕ). drop k t) e ∙ drop-length t)) ∙ c.rest;
-        position = ap (λ (k : ℕ). at + k) e;
-      }
+-- a text in its place is its bytes, one after the other
+pub put-sets : (at k : ℕ) (page t : List ℕ) → k ≡ length t → at + length t ≤ length page → put_mid at k page t ≡ sets page at t
+put-sets at k page t e h =
+    ap (λ (z : List ℕ). take at page ++ (t ++ z)) (drop-drop k at page ∙ ap (λ (n : ℕ). drop (at + n) page) e)
+    ∙ sym (sets-eq t page at h ∙ append_assoc (take at page) t (drop (at + length t) page))
 
 -- ---- one text behind another
 

@@ -1,31 +1,13 @@
 // The text of the listing.
-ghost use Rattle.std.specs.Prelude.{◌≡◌, ◌≤◌, length, replicate};
+ghost use Rattle.std.specs.Prelude.{◌≤◌, length};
 ghost use Rattle.io.specs.Counts.{IsPrefixLen};
-ghost use Rattle.decoder.specs.Answers.{decode_error_code};
 ghost use Rattle.decoder.specs.Listing.{listing};
 ghost use Rattle.listing.specs.Text.{Opens, lines_text, listing_text, Wrote};
 
 use crate::text::{write_bytes, write_line};
-use decoder::answers::{Opening, opening_error_code};
+use decoder::answers::{Opening, decode_error_code, opening_error_code};
 use decoder::record::Decoder;
 use playback::outcome::Outcome;
-
-// The number of an answer that is no picture.
-fn number(outcome: Outcome) -> u64
-    ensures { result ≡ decode_error_code outcome }
-{
-    match outcome {
-        Outcome::Picture(_) => 0,
-        Outcome::Refused(answer) => answer as u64,
-    }
-}
-
-// RULES L.1: room for the three stores of 48 macroblocks.
-fn empty_store() -> [u8; 55296]
-    ensures { result ≡ replicate 55296 0 }
-{
-    [0; 55296]
-}
 
 // RULES L.2, L.3: from a stream that was opened, a line for each picture, and one for the number that ends the calls. The place behind them. RULES R.1: a
 // stream of 65,536 bytes has at most 18,079 pictures, and a line at most 84 bytes.
@@ -49,15 +31,16 @@ fn list_pictures(
         decoder = call.decoder;
         let outcome = call.outcome;
         let Outcome::Picture(shown) = outcome else {
-            return write_line(page, at, handed, 0, 0, number(outcome));
+            let answer = u64::from(decode_error_code(outcome));
+            return write_line(page, at, handed, 0, 0, answer);
         };
         handed += 1;
-        let kind = decoder.state.picture.picture_type as u64;
+        let kind = u64::from(decoder.state.picture.picture_type);
         at = write_line(page, at, handed, shown.store as u64, kind, 0);
     }
 }
 
-// RULES L.1, L.3: the lines of a stream; of one that is too long, or that opening refuses, a single one.
+// RULES L.1, L.3: the lines of a stream, over room for the three stores of 48 macroblocks; of one that is too long, or that opening refuses, a single one.
 fn list_lines(stream: &[u8], page: &mut [u8], at: usize) -> usize
     requires { (at ≤ 25) × (1572864 ≤ length page.old) }
     ensures wrote { Wrote page.old at (lines_text (listing stream.now)) page.new result }
@@ -66,11 +49,12 @@ fn list_lines(stream: &[u8], page: &mut [u8], at: usize) -> usize
     if 65536 < stream.len() {
         return write_line(page, at, 0, 0, 0, 1);
     }
-    let mut store = empty_store();
+    let mut store = [0u8; 55296];
     let opened = Decoder::open(stream, &mut store);
     let opening = opened.answer;
     let Opening::Ready = opening else {
-        return write_line(page, at, 0, 0, 0, opening_error_code(opening) as u64);
+        let answer = u64::from(opening_error_code(opening));
+        return write_line(page, at, 0, 0, 0, answer);
     };
     list_pictures(stream, &mut store, opened.decoder, page, at)
 }

@@ -8,12 +8,9 @@ pub fn write_bytes(page: &mut [u8], at: usize, text: &[u8]) -> usize
     requires { at + length text.now ≤ length page.old }
     ensures { Wrote page.old at text.now page.new result }
 {
-    let mut i: usize = 0;
-    while i < text.len() {
-        page[at + i] = text[i];
-        i += 1;
-    }
-    at + i
+    let end = at + text.len();
+    page[at..end].copy_from_slice(text);
+    end
 }
 
 // A number, and the byte behind it.
