@@ -1,13 +1,12 @@
 // A case: six numbers (bytes of the store, store converted, width and height of the output, length of the area, hand-outs) and a record.
 use crate::records::Memory;
-use crate::room;
 use crate::show::{decode, show_conversion};
 use answer_lists::bytes::part;
 use answer_lists::noise::fill;
 use answer_lists::numbers::number_at;
 use std::io::Result;
 
-// A conversion to an area of so many numbers.
+// A conversion to an area of so many numbers, which are no pixels before.
 fn convert<R: Print>(
     rt: &R,
     case: &[u8],
@@ -15,7 +14,7 @@ fn convert<R: Print>(
     lent: &Memory,
     length: usize,
 ) -> Result<()> {
-    let mut area = room::area();
+    let mut area = [7u32; 16384];
     if length <= 16384 {
         let k = number_at(case, 4) as usize;
         let w = number_at(case, 8) as usize;
@@ -37,8 +36,9 @@ fn run<R: Print>(rt: &R, stream: &[u8], case: &[u8], store: &mut [u8]) -> Result
     Ok(())
 }
 
+// The store has room for the three of 48 macroblocks.
 pub fn run_case<R: Print>(rt: &R, stream: &[u8], case: &[u8]) -> Result<()> {
-    let mut store = room::store();
+    let mut store = [0u8; 55296];
     let bytes = number_at(case, 0) as usize;
     if bytes <= 55296 {
         return run(rt, stream, case, &mut store[..bytes]);

@@ -6,7 +6,6 @@
 mod cases;
 mod floats;
 mod records;
-mod room;
 mod show;
 mod streams;
 mod sums;

@@ -98,9 +98,9 @@ pub fn show_conversion<R: Print>(
 fn show_picture<R: Print>(rt: &R, store: &[u8], lent: &Memory, k: usize, time: f64) -> Result<()> {
     let time_bits = bits(time);
     print!(rt; " {k} {time_bits:016x}")?;
-    show_plane(rt, store, &lent.numbers, k, 0)?;
-    show_plane(rt, store, &lent.numbers, k, 1)?;
-    show_plane(rt, store, &lent.numbers, k, 2)?;
+    for plane in 0..3 {
+        show_plane(rt, store, &lent.numbers, k, plane)?;
+    }
     print!(rt; " ")?;
     let mut area = [0u32; 1073];
     show_conversion(rt, store, lent, k, &mut area, 37, 29)

@@ -1,6 +1,5 @@
 // Opening of a stream, and hand-outs.
 use crate::records::Memory;
-use crate::room;
 use crate::show::{decode, open};
 use answer_lists::noise::fill;
 use std::io::Result;
@@ -18,8 +17,9 @@ fn run<R: Print>(rt: &R, stream: &[u8], store: &mut [u8], lent: &mut Memory) -> 
     Ok(())
 }
 
+// The store has room for the three of 48 macroblocks.
 pub fn run_stream<R: Print>(rt: &R, stream: &[u8]) -> Result<()> {
-    let mut store = room::store();
+    let mut store = [0u8; 55296];
     fill(&mut store, 7);
     let mut lent = Memory::new();
     open(rt, stream, &mut store, &mut lent)?;

@@ -1,5 +1,5 @@
 -- What `array::from_fn` makes of a closure that no call changes.
-use mathlib.Core.List.{List, [], ◌∷◌, map}
+use mathlib.Core.List.{List, [], ◌∷◌}
 use mathlib.Core.Path.{◌≡◌, refl, sym, ◌∙◌, subst}
 use Prim.Native.Nat.{ℕ, zero, suc, ◌+◌, ◌≤◌, ◌<◌}
 use native.Mathlib.Decide.{dec_lt}
@@ -9,13 +9,12 @@ use denote.Param.Members.{Mut, Called}
 use lib.ListN.{length, get_or}
 use lib.Seq.{ext_get_or}
 use Rattle.std.proofs.lemmas.List.{get_or_default}
-use Rattle.std.proofs.lemmas.List.FromFn.{fill_by_all}
 use Rattle.std.specs.Array.{IsElementAt, IsFromFnResult, IsFromFnResultFrom}
-use Rattle.std.specs.List.{range_with_len}
 use Rattle.laws.proofs.Lists.{length_mid, mid_at}
 
 -- each element is what the closure gives at its index
-module _ {F B : Type 0} (g : Mut F (ℕ × Unit {0}) B) (f : F) (R : ℕ → B → Type 0) (step : (k : ℕ) (y : B) (q : F) → Called g f (k, tt) y q → (q ≡ f) × R k y) where
+module _ {F B : Type 0} (g : Mut F (ℕ × Unit {0}) B) (f : F) (R : ℕ → B → Type 0)
+    (step : (k : ℕ) (y : B) (q : F) → Called g f (k, tt) y q → (q ≡ f) × R k y) where
   -- at the first index, or behind it
   at : (ys : List B) (i k : ℕ) (d : B) (q : F) (y : B) → IsElementAt ys i y → Called g f (i, tt) y q → (i < k → R k (get_or ys k d)) → i ≤ k → Dec (i < k)
       → R k (get_or ys k d)

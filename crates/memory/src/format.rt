@@ -14,9 +14,9 @@ pub const CLOCK: usize = 4;
 
 const FLAG: usize = 1;
 
-const WORD32: usize = 4294967295;
+const WORD32: usize = u32::MAX as usize;
 
-const SIZE: usize = 18446744073709551615;
+const SIZE: usize = usize::MAX;
 
 pub const BOUNDS: [usize; NUMBERS] = [
     SIZE, FLAG, SIZE, SIZE, SIZE, SIZE, SIZE, WORD32, SIZE, SIZE, SIZE, WORD32, FLAG, FLAG, WORD32,

@@ -26,8 +26,8 @@ module _ (s l : List ℕ) (x : Memory) where
   unfolding host_open
   opens-2 e = rw e
 
-  pub opens : {a : Opening} {d : Decoder} {r : ℕ} {store : List ℕ} {z : Memory} → has_room x ≡ true → call_result a d store ≡ opening s l → r ≡ opening_error_code a
-      → z ≡ written d x → host_result r store z ≡ host_open s l x
+  pub opens : {a : Opening} {d : Decoder} {r : ℕ} {store : List ℕ} {z : Memory} → has_room x ≡ true → call_result a d store ≡ opening s l
+      → r ≡ opening_error_code a → z ≡ written d x → host_result r store z ≡ host_open s l x
   unfolding host_open
   opens h e o p = rw (h, ← e, o, p)
 

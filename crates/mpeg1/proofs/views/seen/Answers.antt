@@ -2,7 +2,8 @@ use Rattle.std.proofs.Common.{sym, ap, ◌∙◌}
 use Rattle.header.specs.Possible.{possible_sequence}
 use Rattle.mpeg1.proofs.Seen.{few, none_seen, seen-short, seen-flag, seen-impossible, seen-is}
 use Rattle.mpeg1.proofs.views.seen.Goals as goal
-use Rattle.mpeg1.proofs.views.seen.Goals.{then-numbers-lt-NUMBERS-via-then-numbers-lt-NUMBERS, then-numbers-lt-NUMBERS-via-else-numbers-lt-NUMBERS+then-numbers-gt1}
+use Rattle.mpeg1.proofs.views.seen.Goals.{then-numbers-lt-NUMBERS-via-then-numbers-lt-NUMBERS}
+use Rattle.mpeg1.proofs.views.seen.Goals.{then-numbers-lt-NUMBERS-via-else-numbers-lt-NUMBERS+then-numbers-gt1}
 
 pub returns-then-numbers-lt-NUMBERS : goal.returns-then-numbers-lt-NUMBERS
 returns-then-numbers-lt-NUMBERS c =
