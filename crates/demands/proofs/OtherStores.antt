@@ -15,12 +15,12 @@ use Rattle.bits.specs.Programs.{next_start_code}
 use Rattle.bits.proofs.Gives.{g_any, g_as}
 use Rattle.coefficients.specs.declared.quantiser.Quantiser.{Quantiser}
 use Rattle.coefficients.specs.Blocks.{BlockCoefficients, first_only}
-use Rattle.prediction.specs.declared.position.{BlockPosition.BlockPosition, PredictionSource.PredictionSource}
-use Rattle.prediction.specs.declared.position.PredictionSource.TheVariants.{SourceOutside, HalfSampleOutside, SourceAt}
+use Rattle.prediction.specs.declared.position.{BlockPosition.BlockPosition}
 use Rattle.prediction.specs.declared.planes.Plane.{Plane}
 use Rattle.prediction.specs.declared.planes.Plane.TheVariants.{Y, Cr, Cb}
-use Rattle.prediction.specs.declared.predict.Predicted.{Predicted}
-use Rattle.prediction.specs.declared.predict.Predicted.TheVariants.{Done, Refused}
+use Rattle.std.specs.Prelude.{Some, None, Ok, Err}
+use Rattle.prediction.specs.Planes.{Predicted}
+use Rattle.prediction.specs.Predict.{PredictionSource}
 use Rattle.prediction.specs.Predict.{macroblock_at, block_position_of, bytes, prediction_source, predicted, address, width, chroma}
 use Rattle.prediction.specs.Planes.{PlaneAfter, of_plane, block_size, plane_of, plane_length, plane_start}
 use Rattle.prediction.specs.Planes.{offset, predict_from_source, and_then_plane, predicted_planes}
@@ -82,9 +82,9 @@ module _ (S : List ℕ → Type 0) (O : Stop → Type 0) (n : ℕ) where
   unfolding and_then_plane unless_refused
   next-results o f h k = go o.answer refl
     where
-      go : (a : Predicted) → o.answer ≡ a → OnResult S O (unless_refused n (elim a as (λ x. PlaneAfter) [ Done ↦ f o.store | Refused ↦ o ]))
-      go Done e = k o.store (rw e at h)
-      go Refused e = h
+      go : (a : Predicted) → o.answer ≡ a → OnResult S O (unless_refused n (elim a as (λ x. PlaneAfter) [ Ok _ ↦ f o.store | Err _ ↦ o ]))
+      go (Ok _) e = k o.store (rw e at h)
+      go (Err _) e = h
 
 module _ (s : List ℕ) (g : Context) (l : List ℕ) (area : g.sizes.mb_size ≡ g.sizes.mb_width * g.sizes.mb_height)
     (cur : g.stores.cur ≤ 2) (long : stores_bytes g.sizes.mb_size ≤ length l) where
@@ -120,9 +120,9 @@ module _ (s : List ℕ) (g : Context) (l : List ℕ) (area : g.sizes.mb_size ≡
     where
       go : (w : PredictionSource) → prediction_source (block_in a q) h v ≡ w
           → OnResult S O (unless_refused a (of_plane q h v (predict_from_source w (block_in a q) (begins from q) (begins g.stores.cur q) h v interpolate m)))
-      go SourceOutside w = e
-      go HalfSampleOutside w = e
-      go (SourceAt i) w =
+      go (Ok None) w = e
+      go (Err _) w = e
+      go (Ok (Some i)) w =
           let source = mid_of (begins from q) (bytes (block_in a q)) m in
           let target = mid_of (begins g.stores.cur q) (bytes (block_in a q)) m in
           copied-same a q m (predicted (block_in a q) source target h v interpolate i) (predicted-length (block_in a q) source target h v interpolate i) e

@@ -13,8 +13,9 @@ use mir.Val.{Fits, to_z, of_z}
 use mir.Facts.{to_z-of_z}
 use Rattle.laws.proofs.Ints.{Dif, up, dn, v, lit, neg, ◌⊕◌, le-no, yes_le, fits_by, cast-by, cast_is}
 use Rattle.laws.proofs.Tests.{by-case}
-use Rattle.prediction.specs.declared.predict.Predicted.{Predicted}
-use Rattle.prediction.specs.declared.predict.Predicted.TheVariants.{Done, Refused}
+use Rattle.std.specs.Prelude.{Ok, Err}
+use Rattle.prediction.specs.Planes.{Predicted}
+use Rattle.prediction.specs.Predict.{half_sample_outside}
 use Rattle.picture_state.specs.declared.types.{Context.Context, Slice.Slice}
 use Rattle.picture_state.specs.Possible.{PossibleSlice}
 use Rattle.picture_state.specs.Result.{and_then}
@@ -103,7 +104,7 @@ module _ (g : Context) (n : ℕ) (x : Slice) {store : List ℕ} (k : StoreFits g
 
   module _ (l : 2 ≤ n) {s : Slice} (is : s ≡ skip_reset g x) {first : ℕ} (at : first ≡ nat_abs (a +ℤ pos 1)) {r : Predicted} {store₁ : List ℕ}
       (told : RefinesPrediction (predict_skipped g s first (n - 1) store) r store₁) where
-    pub advance-refused : r ≡ Refused → RefinesAdvance g n x store s 9 store₁
+    pub advance-refused : r ≡ Err half_sample_outside → RefinesAdvance g n x store s 9 store₁
     unfolding advance
     advance-refused e =
         let t = rw (is, at, e) at told.is in
@@ -113,7 +114,7 @@ module _ (g : Context) (n : ℕ) (x : Slice) {store : List ℕ} (k : StoreFits g
           here = λ z m. let w : ◌≡◌ {A = ℕ} 9 0 = z in let o : ⊥ = omega arith in absurd o;
         }
 
-    pub advance-on : r ≡ Done → {y : Slice} → y ≡ with_address (s.macroblock_address +ℤ pos n) s → RefinesAdvance g n x store y 0 store₁
+    pub advance-on : r ≡ Ok tt → {y : Slice} → y ≡ with_address (s.macroblock_address +ℤ pos n) s → RefinesAdvance g n x store y 0 store₁
     unfolding advance and_then
     advance-on e q =
         let t = numbered-ok (predict_skipped g (skip_reset g x) (nat_abs (a +ℤ pos 1)) (n - 1) store) (rw (is, at, e) at told.is) in

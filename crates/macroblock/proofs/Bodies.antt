@@ -9,8 +9,9 @@ use Rattle.bits.specs.declared.reader.Reader.{Reader}
 use Rattle.bits.specs.Programs.{bits}
 use Rattle.bits.specs.Runs.{RunsInBounds}
 use Rattle.bits.proofs.Gives.{Gives, given_by, g-done, g_any, g-bind, g_if}
-use Rattle.prediction.specs.declared.predict.Predicted.{Predicted}
-use Rattle.prediction.specs.declared.predict.Predicted.TheVariants.{Done, Refused}
+use Rattle.std.specs.Prelude.{Ok, Err}
+use Rattle.prediction.specs.Planes.{Predicted}
+use Rattle.prediction.specs.Predict.{half_sample_outside}
 use Rattle.picture_state.specs.declared.types.{Context.Context, Matrices.Matrices, Slice.Slice, Progress.Progress}
 use Rattle.picture_state.specs.Possible.{PossibleSlice}
 use Rattle.picture_state.specs.State.{slice_state}
@@ -28,7 +29,7 @@ use Rattle.picture_state.proofs.Ready.{ready_on}
 -- ---- prediction
 
 module _ (g : Context) (t : ℕ) (x : Slice) (l : List ℕ) where
-  pub unless_intra : is_intra t ≡ true → RefinesPrediction (predict_unless_intra g t x l) Done l
+  pub unless_intra : is_intra t ≡ true → RefinesPrediction (predict_unless_intra g t x l) (Ok tt) l
   unfolding predict_unless_intra
   unless_intra e = record { is = rw e }
 
@@ -63,7 +64,7 @@ module _ {g : Context} {x y : Slice} {left : List ℤ} {store s : List ℕ} {fro
 
   module _ {q : Predicted} {store₁ : List ℕ} (told : RefinesPrediction (predict_unless_intra g t y store) q store₁)
       (long : length store₁ ≡ length store) where
-    pub body_refused : (m : Matrices) → q ≡ Refused
+    pub body_refused : (m : Matrices) → q ≡ Err half_sample_outside
         → RefinesAtMacroblock (body g m (slice_state x left store)) g s from (record { reader = headed; state = y; stop = 9 }) left store₁
     unfolding body
     body_refused m e =
@@ -77,7 +78,7 @@ module _ {g : Context} {x y : Slice} {left : List ℤ} {store s : List ℕ} {fro
       pub blocks-ready : MacroblockInvariant g s patterned y left store₁
       blocks-ready = ready_on ready p.inside headed-possible ready.reads.block headed-address long
 
-      pub body-on : (m : Matrices) → q ≡ Done → {r : Progress} {left₁ : List ℤ} {store₂ : List ℕ}
+      pub body-on : (m : Matrices) → q ≡ Ok tt → {r : Progress} {left₁ : List ℤ} {store₂ : List ℕ}
           → RefinesAtMacroblock (blocks g m (is_intra t) c (slice_state y left store₁)) g s patterned r left₁ store₂
           → RefinesAtMacroblock (body g m (slice_state x left store)) g s from r left₁ store₂
       unfolding body

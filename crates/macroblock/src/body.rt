@@ -13,17 +13,22 @@ use macroblock_head::heads::{read_head, read_macroblock_type, read_pattern};
 use macroblock_head::predictions::predict;
 use picture_state::flags::flag;
 use picture_state::types::{Context, Progress, Slice};
-use prediction::predict::Predicted;
+use prediction::position::HalfSampleOutside;
 
 // RULES 7.14: prediction, unless intra.
-fn predict_unless_intra(store: &mut [u8], g: Context, t: u32, state: Slice) -> Predicted
+fn predict_unless_intra(
+    store: &mut [u8],
+    g: Context,
+    t: u32,
+    state: Slice,
+) -> Result<(), HalfSampleOutside>
     requires store_fits { StoreFits g store.old }
     requires address_in_picture { AddressInPicture g state.macroblock_address }
     requires possible_slice { PossibleSlice state }
     ensures { RefinesPrediction (predict_unless_intra g t state store.old) result store.new }
 {
     if flag(t, 1) {
-        return Predicted::Done;
+        return Ok(());
     }
     let address = state.macroblock_address as usize;
     predict(store, g, address, state)
@@ -49,7 +54,7 @@ pub fn body(
     let h = read_head(s, t.reader, tables, g.picture_type, flags, before);
     let from = h.reader;
     let state = h.state;
-    let Predicted::Done = predict_unless_intra(store, g, flags, state) else {
+    let Ok(()) = predict_unless_intra(store, g, flags, state) else {
         return Progress {
             reader: from,
             state,

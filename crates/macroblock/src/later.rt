@@ -10,7 +10,6 @@ use crate::addresses::address_plus;
 use macroblock_head::heads::{reset, zeroed};
 use macroblock_head::predictions::predict_skipped;
 use picture_state::types::{Context, Slice};
-use prediction::predict::Predicted;
 
 #[derive(Clone, Copy)]
 pub struct Advanced {
@@ -48,7 +47,7 @@ pub fn advance(store: &mut [u8], g: Context, n: usize, state: Slice) -> Advanced
     }
     let skipped = skip_reset(g, state);
     let first = next.macroblock_address as usize;
-    let Predicted::Done = predict_skipped(store, g, first, n - 1, skipped) else {
+    let Ok(()) = predict_skipped(store, g, first, n - 1, skipped) else {
         return Advanced {
             state: skipped,
             stop: 9,

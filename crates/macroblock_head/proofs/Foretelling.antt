@@ -12,10 +12,11 @@ use mir.Val.{to_z, of_z}
 use Rattle.laws.proofs.Nums.{num, rd}
 use Rattle.laws.proofs.Tests.{if_yes}
 use Rattle.bits.proofs.Rules.{and_yes, and_no}
-use Rattle.prediction.specs.declared.predict.Predicted.{Predicted}
-use Rattle.prediction.specs.declared.predict.Predicted.TheVariants.{Done, Refused}
+use Rattle.std.specs.Prelude.{Ok, Err, IsErr}
+use Rattle.prediction.proofs.Macroblocks.{is_refused}
+use Rattle.prediction.specs.Planes.{Predicted}
 use Rattle.prediction.specs.Planes.{PlaneAfter, predicted_planes}
-use Rattle.prediction.specs.declared.position.Macroblock.{Macroblock}
+use Rattle.prediction.specs.declared.position.{HalfSampleOutside.HalfSampleOutside, Macroblock.Macroblock}
 use Rattle.prediction.specs.Predict.{macroblock_at, in_halves}
 use Rattle.picture_state.specs.declared.types.{Motion.Motion, Context.Context, Slice.Slice}
 use Rattle.picture_state.specs.Result.{Result, ok, error, and_then}
@@ -26,8 +27,8 @@ use Rattle.macroblock_head.specs.Predictions.{unless_refused, predict_from, pred
 use Rattle.macroblock_head.specs.Promises.{prediction_result, RefinesPrediction}
 
 -- a component in half samples, as the code reads it
-pub still-small : (z : ℤ) → nat_abs z ≤ 2048 → nat_abs (to_z w32 (of_z w32 z)) ≤ 2048
-still-small z h = rw (rd w32 (num {s = z} h) tt).is h
+pub half-read : (z : ℤ) → nat_abs z ≤ 2048 → to_z w32 (of_z w32 z) ≡ z
+half-read z h = (rd w32 (num {s = z} h) tt).is
 
 pub foretold : (address : ℕ) (o : PlaneAfter) {r : Predicted} {store : List ℕ} → r ≡ o.answer → store ≡ o.store
     → RefinesPrediction (unless_refused address o) r store
@@ -35,11 +36,11 @@ unfolding unless_refused
 foretold address o p q = rw (p, q) (record { is = go o.answer })
   where
     go : (a : Predicted) → numbered (elim a as (λ x. Result Stop (List ℕ)) [
-      | Done ↦ ok o.store
-      | Refused ↦ error (stop (prediction_outside address o.plane o.h o.v) o.store)
+      | Ok _ ↦ ok o.store
+      | Err _ ↦ error (stop (prediction_outside address o.plane o.h o.v) o.store)
     ]) ≡ prediction_result a o.store
-    go Done = refl
-    go Refused = refl
+    go (Ok _) = refl
+    go (Err _) = refl
 
 -- the planes of one direction, from the numbers that the code has
 pub from_planes : (g : Context) (address k : ℕ) (m : Motion) (interpolate : Bool) (l : List ℕ) {place : Macroblock} {h v : ℤ} {r : Predicted} {l₁ : List ℕ}
@@ -60,26 +61,26 @@ module _ (g : Context) (address : ℕ) (x : Slice) (l : List ℕ) where
   abbrev Any : Predicted → List ℕ → Type 0
   Any = RefinesPrediction (predict g address x l)
 
-  module _ {l₁ : List ℕ} {r : Predicted} (h : Forward r l₁) where
-    forward-done : r ≡ Done → predict_from g address g.stores.fwd x.motion_forward false l ≡ ok l₁
-    forward-done e = numbered-ok (predict_from g address g.stores.fwd x.motion_forward false l) (rw e at h.is)
+  pub both-refused : {l₁ : List ℕ} {e : HalfSampleOutside} {r : Predicted} → Forward (Err e) l₁ → IsErr r → Both r l₁
+  unfolding predict_both
+  both-refused {r = r} h e = rw (is_refused r e) (record { is = numbered_then _ _ h.is })
 
-    pub both-refused : r ≡ Refused → Both Refused l₁
-    unfolding predict_both
-    both-refused e = record { is = numbered_then _ _ (rw e at h.is) }
+  module _ {l₁ : List ℕ} (h : Forward (Ok tt) l₁) where
+    forward-done : predict_from g address g.stores.fwd x.motion_forward false l ≡ ok l₁
+    forward-done = numbered-ok (predict_from g address g.stores.fwd x.motion_forward false l) h.is
 
-    pub both-forward : r ≡ Done → x.motion_backward.is_set ≡ false → Both Done l₁
+    pub both-forward : x.motion_backward.is_set ≡ false → Both (Ok tt) l₁
     unfolding predict_both and_then
-    both-forward e b = record { is = rw (forward-done e, b) }
+    both-forward b = record { is = rw (forward-done, b) }
 
-    pub both-both : r ≡ Done → x.motion_backward.is_set ≡ true → {l₂ : List ℕ} {q : Predicted}
-        → RefinesPrediction (predict_from g address g.stores.bwd x.motion_backward true l₁) q l₂ → Both q l₂
+    pub both-both : x.motion_backward.is_set ≡ true → {l₂ : List ℕ} {r : Predicted}
+        → RefinesPrediction (predict_from g address g.stores.bwd x.motion_backward true l₁) r l₂ → Both r l₂
     unfolding predict_both and_then
-    both-both e b k =
-        let o : predict_both g address x l ≡ predict_from g address g.stores.bwd x.motion_backward true l₁
-        = rw (forward-done e) (if_yes _ b refl) in
+    both-both b k =
+        let o : predict_both g address x l ≡ predict_from g address g.stores.bwd x.motion_backward true l₁ = rw forward-done (if_yes _ b refl) in
         record { is = ap numbered o ∙ k.is }
 
+  module _ {l₁ : List ℕ} {r : Predicted} (h : Forward r l₁) where
     pub predict-forward : (g.picture_type ≡ 3 → ⊥) → Any r l₁
     unfolding predict
     predict-forward n =

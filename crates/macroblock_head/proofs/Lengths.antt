@@ -7,10 +7,10 @@ use lib.IntN.{ℤ}
 use lib.ListN.{length}
 use borrow.Rule.Slice.PartMut.{mid_of, same_len_mid}
 use Rattle.laws.proofs.Lists.{length-rows}
-use Rattle.prediction.specs.declared.position.{Macroblock.Macroblock, BlockPosition.BlockPosition, PredictionSource.PredictionSource}
-use Rattle.prediction.specs.declared.position.PredictionSource.TheVariants.{SourceOutside, HalfSampleOutside, SourceAt}
-use Rattle.prediction.specs.declared.predict.Predicted.{Predicted}
-use Rattle.prediction.specs.declared.predict.Predicted.TheVariants.{Done, Refused}
+use Rattle.prediction.specs.declared.position.{Macroblock.Macroblock, BlockPosition.BlockPosition}
+use Rattle.std.specs.Prelude.{Some, None, Ok, Err}
+use Rattle.prediction.specs.Planes.{Predicted}
+use Rattle.prediction.specs.Predict.{PredictionSource}
 use Rattle.prediction.specs.Predict.{bytes, prediction_source, predicted, address, width}
 use Rattle.prediction.specs.Planes.{PlaneAfter, predict_from_source, predict_plane, and_then_plane, predicted_planes}
 
@@ -21,9 +21,9 @@ predicted-length p x d h v interpolate from = length-rows d (address p) (width p
 follow-length : (w : PredictionSource) (p : BlockPosition) (from to : ℕ) (h v : ℤ) (interpolate : Bool) (l : List ℕ)
     → length (predict_from_source w p from to h v interpolate l).store ≡ length l
 unfolding predict_from_source
-follow-length SourceOutside p from to h v interpolate l = refl
-follow-length HalfSampleOutside p from to h v interpolate l = refl
-follow-length (SourceAt a) p from to h v interpolate l =
+follow-length (Ok None) p from to h v interpolate l = refl
+follow-length (Err _) p from to h v interpolate l = refl
+follow-length (Ok (Some a)) p from to h v interpolate l =
     let before = mid_of to (bytes p) l in
     let source = mid_of from (bytes p) l in
     same_len_mid to (bytes p) l (predicted p source before h v interpolate a) (predicted-length p source before h v interpolate a)
@@ -33,9 +33,9 @@ next-length : {n : ℕ} (o : PlaneAfter) (f : List ℕ → PlaneAfter) → lengt
 unfolding and_then_plane
 next-length {n} o f e k = go o.answer
   where
-    go : (a : Predicted) → length (elim a as (λ x. PlaneAfter) [ Done ↦ f o.store | Refused ↦ o ]).store ≡ n
-    go Done = k o.store e
-    go Refused = e
+    go : (a : Predicted) → length (elim a as (λ x. PlaneAfter) [ Ok _ ↦ f o.store | Err _ ↦ o ]).store ≡ n
+    go (Ok _) = k o.store e
+    go (Err _) = e
 
 pub planes-length : (m : Macroblock) (from to : ℕ) (h v : ℤ) (interpolate : Bool) (l : List ℕ)
     → length (predicted_planes m from to h v interpolate l).store ≡ length l

@@ -4,14 +4,15 @@ use mathlib.Core.List.{List}
 use Prim.Native.Nat.{ℕ, suc, ◌+◌, ◌-◌, ◌≤◌, ◌<◌}
 use native.Mathlib.Omega.{arith}
 use lib.ListN.{length}
-use Rattle.prediction.specs.declared.predict.Predicted.{Predicted}
-use Rattle.prediction.specs.declared.predict.Predicted.TheVariants.{Done, Refused}
-use Rattle.picture_state.specs.Result.{Result, ok, error, and_then}
-use Rattle.picture_state.specs.Stop.{Stop}
+use Rattle.std.specs.Prelude.{Ok, Err, IsErr}
+use Rattle.prediction.proofs.Macroblocks.{is_refused}
+use Rattle.prediction.specs.declared.position.HalfSampleOutside.{HalfSampleOutside}
+use Rattle.prediction.specs.Planes.{Predicted}
+use Rattle.picture_state.specs.Result.{and_then}
 use Rattle.picture_state.specs.Promises.{numbered}
 use Rattle.macroblock_head.specs.Predictions.{predict, predict_skipped}
 use Rattle.picture_state.specs.declared.types.{Context.Context, Slice.Slice}
-use Rattle.macroblock_head.specs.Promises.{prediction_result, RefinesPrediction}
+use Rattle.macroblock_head.specs.Promises.{RefinesPrediction}
 use Rattle.picture_state.proofs.Results.{numbered-ok, numbered_then}
 
 -- before the macroblock k of the n that are skipped from this address on
@@ -27,21 +28,23 @@ at-skip {g} {x} {address} {n} {l} =
     record { few = omega arith; long = refl; rest = rw (a, m) }
 
 module _ {g : Context} {x : Slice} {address n : ℕ} {l₀ l : List ℕ} {k : ℕ} (i : AtSkip g x address n l₀ l k) where
-  pub skip-end : n ≤ k → RefinesPrediction (predict_skipped g x address n l₀) Done l
+  pub skip-end : n ≤ k → RefinesPrediction (predict_skipped g x address n l₀) (Ok tt) l
   unfolding predict_skipped
   skip-end h = let e : n - k ≡ 0 = omega arith in record { is = ap numbered (rw e at i.rest) }
 
-  module _ (h : k < n) {r : Predicted} {l₁ : List ℕ} (t : RefinesPrediction (predict g (address + k) x l) r l₁) where
-    pub skip-refused : r ≡ Refused → RefinesPrediction (predict_skipped g x address n l₀) Refused l₁
+  module _ (h : k < n) {l₁ : List ℕ} where
+    pub skip-refused : {e : HalfSampleOutside} {r : Predicted} → RefinesPrediction (predict g (address + k) x l) (Err e) l₁ → IsErr r
+        → RefinesPrediction (predict_skipped g x address n l₀) r l₁
     unfolding predict_skipped
-    skip-refused e =
+    skip-refused {r = r} t e =
         let m : n - k ≡ suc (n - (k + 1)) = omega arith in
-        record { is = ap numbered (rw m at i.rest) ∙ numbered_then _ (predict_skipped g x (address + k + 1) (n - (k + 1))) (rw e at t.is) }
+        rw (is_refused r e)
+        (record { is = ap numbered (rw m at i.rest) ∙ numbered_then _ (predict_skipped g x (address + k + 1) (n - (k + 1))) t.is })
 
-    pub skip-on : r ≡ Done → length l₁ ≡ length l → AtSkip g x address n l₀ l₁ (k + 1)
+    pub skip-on : RefinesPrediction (predict g (address + k) x l) (Ok tt) l₁ → length l₁ ≡ length l → AtSkip g x address n l₀ l₁ (k + 1)
     unfolding predict_skipped and_then
-    skip-on e q =
+    skip-on t q =
         let m : n - k ≡ suc (n - (k + 1)) = omega arith in
         let a : address + (k + 1) ≡ address + k + 1 = omega arith in
-        let o = numbered-ok (predict g (address + k) x l) (rw e at t.is) in
+        let o = numbered-ok (predict g (address + k) x l) t.is in
         record { few = omega arith; long = q ∙ i.long; rest = rw a (rw (m, o) at i.rest) }

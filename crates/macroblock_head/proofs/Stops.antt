@@ -8,13 +8,13 @@ use native.Mathlib.Omega.{arith}
 use borrow.Author.Tests.{ltb-true, lt-ltb}
 use lib.Dec.{ltb, eqb}
 use lib.IntN.{ℤ, pos, nat_abs}
-use lib.Signed.{lt_z, le_z}
+use lib.Signed.{lt_z}
 use Rattle.laws.proofs.Ints.{v, lit, lt_no, le_yes, yes_le, no_lt}
 use Rattle.laws.proofs.Tests.{by-case}
-use Rattle.prediction.specs.declared.position.{PredictionSource.PredictionSource, Macroblock.Macroblock, BlockPosition.BlockPosition}
-use Rattle.prediction.specs.declared.position.PredictionSource.TheVariants.{SourceOutside, HalfSampleOutside, SourceAt}
-use Rattle.prediction.specs.declared.predict.Predicted.{Predicted}
-use Rattle.prediction.specs.declared.predict.Predicted.TheVariants.{Done, Refused}
+use Rattle.prediction.specs.declared.position.{Macroblock.Macroblock, BlockPosition.BlockPosition}
+use Rattle.std.specs.Prelude.{Some, None, Ok, Err}
+use Rattle.prediction.specs.Planes.{Predicted}
+use Rattle.prediction.specs.Predict.{PredictionSource, half_sample_outside}
 use Rattle.prediction.specs.declared.planes.Plane.{Plane}
 use Rattle.prediction.specs.declared.planes.Plane.TheVariants.{Y, Cr, Cb}
 use Rattle.prediction.specs.Predict.{block_position_of, start, max_address, reach, prediction_source, chroma}
@@ -31,7 +31,7 @@ use Rattle.macroblock_head.specs.Stops.{ReachesOut, PlaneStop, in-y, in-cr, Dire
 -- ---- a block
 
 abbrev is_past : PredictionSource → Bool
-is_past f = elim f [ SourceOutside ↦ false | HalfSampleOutside ↦ true | SourceAt a ↦ false ]
+is_past f = elim f [ Ok _ ↦ false | Err _ ↦ true ]
 
 module _ (p : BlockPosition) (h v' : ℤ) where
   abbrev from : ℤ
@@ -42,7 +42,7 @@ module _ (p : BlockPosition) (h v' : ℤ) where
   fetch-past = go (lt_z from (pos 0)) (lt_z (pos (max_address p)) from) (ltb (max_address p) (nat_abs from + reach p h v')) refl refl refl
     where
       go : (b c t : Bool) → lt_z from (pos 0) ≡ b → lt_z (pos (max_address p)) from ≡ c → ltb (max_address p) (nat_abs from + reach p h v') ≡ t
-          → is_past (cond (b || c) SourceOutside (cond t HalfSampleOutside (SourceAt (nat_abs from)))) ≡ true → ReachesOut p h v'
+          → is_past (cond (b || c) (Ok None) (cond t (Err half_sample_outside) (Ok (Some (nat_abs from))))) ≡ true → ReachesOut p h v'
       go true c t k l m e = absurd (false≢true e)
       go false true t k l m e = absurd (false≢true e)
       go false false false k l m e = absurd (false≢true e)
@@ -62,7 +62,7 @@ module _ (p : BlockPosition) (h v' : ℤ) where
 -- ---- the planes
 
 abbrev is_refused : Predicted → Bool
-is_refused a = elim a [ Done ↦ false | Refused ↦ true ]
+is_refused a = elim a [ Ok _ ↦ false | Err _ ↦ true ]
 
 module _ (m : Macroblock) (address k to : ℕ) (h v' : ℤ) (interpolate : Bool) (l : List ℕ) where
   abbrev plane : Plane → ℤ → ℤ → List ℕ → PlaneAfter
@@ -78,9 +78,9 @@ module _ (m : Macroblock) (address k to : ℕ) (h v' : ℤ) (interpolate : Bool)
   plane-answer q x y l = go (prediction_source (block_position_of m (block_size q)) x y)
     where
       go : (w : PredictionSource) → is_refused (followed q x y l w).answer ≡ is_past w
-      go SourceOutside = refl
-      go HalfSampleOutside = refl
-      go (SourceAt a) = refl
+      go (Ok None) = refl
+      go (Err _) = refl
+      go (Ok (Some a)) = refl
 
   -- a plane that is refused is as it was
   plane-store : (q : Plane) (x y : ℤ) (l : List ℕ) → is_past (prediction_source (block_position_of m (block_size q)) x y) ≡ true → (plane q x y l).store ≡ l
@@ -88,17 +88,17 @@ module _ (m : Macroblock) (address k to : ℕ) (h v' : ℤ) (interpolate : Bool)
   plane-store q x y l = go (prediction_source (block_position_of m (block_size q)) x y)
     where
       go : (w : PredictionSource) → is_past w ≡ true → (followed q x y l w).store ≡ l
-      go SourceOutside e = absurd (false≢true e)
-      go HalfSampleOutside e = refl
-      go (SourceAt a) e = absurd (false≢true e)
+      go (Ok None) e = absurd (false≢true e)
+      go (Err _) e = refl
+      go (Ok (Some a)) e = absurd (false≢true e)
 
-  refused-of : (a : Predicted) → is_refused a ≡ true → a ≡ Refused
-  refused-of Done e = absurd (false≢true e)
-  refused-of Refused e = refl
+  refused-of : (a : Predicted) → is_refused a ≡ true → a ≡ Err half_sample_outside
+  refused-of (Ok _) e = absurd (false≢true e)
+  refused-of (Err _) e = refl
 
-  done-of : (a : Predicted) → is_refused a ≡ false → a ≡ Done
-  done-of Done e = refl
-  done-of Refused e = absurd (false≢true (sym e))
+  done-of : (a : Predicted) → is_refused a ≡ false → a ≡ Ok tt
+  done-of (Ok _) e = refl
+  done-of (Err _) e = absurd (false≢true (sym e))
 
   -- the cause that a plane's prediction gives, if any
   abbrev at : PlaneAfter → Stop
@@ -108,12 +108,12 @@ module _ (m : Macroblock) (address k to : ℕ) (h v' : ℤ) (interpolate : Bool)
   unfolding unless_refused
   stopped-at o {e} = go o.answer
     where
-      go : (a : Predicted) → ◌≡◌ {A = Result Stop (List ℕ)} (elim a as (λ x. Result Stop (List ℕ)) [ Done ↦ ok o.store | Refused ↦ error (at o) ]) (error e)
+      go : (a : Predicted) → ◌≡◌ {A = Result Stop (List ℕ)} (elim a as (λ x. Result Stop (List ℕ)) [ Ok _ ↦ ok o.store | Err _ ↦ error (at o) ]) (error e)
           → (is_refused a ≡ true) × (e ≡ at o)
-      go Done h = absurd (error-is_not-ok (sym h))
-      go Refused h = (refl, sym (error_injective h))
+      go (Ok _) h = absurd (error-is_not-ok (sym h))
+      go (Err _) h = (refl, sym (error_injective h))
 
-  stops_at : (o : PlaneAfter) → o.answer ≡ Refused → unless_refused address o ≡ error (at o)
+  stops_at : (o : PlaneAfter) → o.answer ≡ Err half_sample_outside → unless_refused address o ≡ error (at o)
   unfolding unless_refused
   stops_at o h = rw h
 
@@ -123,10 +123,10 @@ module _ (m : Macroblock) (address k to : ℕ) (h v' : ℤ) (interpolate : Bool)
   unfolding and_then_plane
   then-stopped o f {e} = go o.answer
     where
-      go : (a : Predicted) → unless_refused address (elim a as (λ x. PlaneAfter) [ Done ↦ f o.store | Refused ↦ o ]) ≡ error e
+      go : (a : Predicted) → unless_refused address (elim a as (λ x. PlaneAfter) [ Ok _ ↦ f o.store | Err _ ↦ o ]) ≡ error e
           → ((is_refused a ≡ true) × (unless_refused address o ≡ error e)) ⊎ ((is_refused a ≡ false) × (unless_refused address (f o.store) ≡ error e))
-      go Done h = inr (refl, h)
-      go Refused h = inl (refl, h)
+      go (Ok _) h = inr (refl, h)
+      go (Err _) h = inl (refl, h)
 
   abbrev first : PlaneAfter
   first = plane Y h v' l

@@ -1,7 +1,7 @@
 -- RULES 7.17, 7.18, 6.10: the prediction of a macroblock, and of those that are skipped. Nothing is read.
 use Rattle.std.specs.Prelude.{Bool, true, false, ◌&&◌, List, ℕ, zero, suc, ◌+◌, eqb}
 use Rattle.bits.specs.Programs.{when◌then◌else◌}
-use Rattle.prediction.specs.declared.predict.Predicted.TheVariants.{Done, Refused}
+use Rattle.std.specs.Prelude.{Ok, Err}
 use Rattle.prediction.specs.Predict.{macroblock_at, in_halves}
 use Rattle.prediction.specs.Planes.{PlaneAfter, predicted_planes}
 use Rattle.picture_state.specs.declared.types.{Context.Context, Motion.Motion, Slice.Slice}
@@ -11,8 +11,8 @@ use Rattle.picture_state.specs.Stop.{Stop, stop, prediction_outside}
 -- RULES Q9: a prediction that is refused stops at its plane
 unfoldable pub unless_refused : ℕ → PlaneAfter → Result Stop (List ℕ)
 unless_refused address o = elim o.answer [
-  | Done ↦ ok o.store
-  | Refused ↦ error (stop (prediction_outside address o.plane o.h o.v) o.store)
+  | Ok _ ↦ ok o.store
+  | Err _ ↦ error (stop (prediction_outside address o.plane o.h o.v) o.store)
 ]
 
 -- RULES 6.2, 6.10: the planes of the current store, from the store number k by the vector m

@@ -1,8 +1,8 @@
 -- What the functions of a macroblock's head and prediction ask and say.
 use Rattle.std.specs.Prelude.{◌≡◌, Bool, true, false, List, ℕ}
 use Rattle.laws.specs.Loops.{Step, continue, finish}
-use Rattle.prediction.specs.declared.predict.Predicted.{Predicted}
-use Rattle.prediction.specs.declared.predict.Predicted.TheVariants.{Done, Refused}
+use Rattle.std.specs.Prelude.{Ok, Err}
+use Rattle.prediction.specs.Planes.{Predicted}
 use Rattle.picture_state.specs.declared.types.Slice.{Slice}
 use Rattle.picture_state.specs.Possible.{PossibleMotion}
 use Rattle.picture_state.specs.Result.{Result, ok, error}
@@ -11,8 +11,8 @@ use Rattle.picture_state.specs.Promises.{Exit, exit, numbered}
 
 -- a prediction's answer, RULES Q9
 abbrev pub prediction_result : Predicted → List ℕ → Result Exit (List ℕ)
-prediction_result Done l = ok l
-prediction_result Refused l = error (exit 9 l)
+prediction_result (Ok _) l = ok l
+prediction_result (Err _) l = error (exit 9 l)
 
 -- whether to go on, and with which number
 abbrev pub step_of : Bool → ℕ → Step ℕ ℕ

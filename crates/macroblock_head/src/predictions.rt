@@ -8,8 +8,8 @@ ghost use Rattle.picture_state.specs.Promises.{StoreFits};
 ghost use Rattle.macroblock_head.specs.Promises.{PossibleMotions, RefinesPrediction};
 
 use picture_state::types::{Context, Motion, Slice};
-use prediction::position::macroblock_at;
-use prediction::predict::{Predicted, predict_macroblock_planes};
+use prediction::position::{HalfSampleOutside, macroblock_at};
+use prediction::predict::predict_macroblock_planes;
 
 // RULES 6.2: in half samples.
 fn in_halves(full: bool, x: i32) -> i32
@@ -30,7 +30,7 @@ fn predict_from(
     k: usize,
     m: Motion,
     interpolate: bool,
-) -> Predicted
+) -> Result<(), HalfSampleOutside>
     requires store_fits { StoreFits g store.old }
     requires address_bound { (address < g.sizes.mb_width * g.sizes.mb_height) × (k < 3) × (g.stores.cur ≡ k → ⊥) }
     requires possible_motion { PossibleMotion m }
@@ -43,24 +43,31 @@ fn predict_from(
 }
 
 // Both directions of a B picture, where the forward flag is set.
-fn predict_both(store: &mut [u8], g: Context, address: usize, state: Slice) -> Predicted
+fn predict_both(
+    store: &mut [u8],
+    g: Context,
+    address: usize,
+    state: Slice,
+) -> Result<(), HalfSampleOutside>
     requires store_fits { StoreFits g store.old }
     requires address_bound { address < g.sizes.mb_width * g.sizes.mb_height }
     requires possible_motions { PossibleMotions state }
     ensures { RefinesPrediction (predict_both g address state store.old) result store.new }
 {
-    let Predicted::Done = predict_from(store, g, address, g.stores.fwd, state.motion_forward, false)
-    else {
-        return Predicted::Refused;
-    };
+    predict_from(store, g, address, g.stores.fwd, state.motion_forward, false)?;
     if state.motion_backward.is_set {
         return predict_from(store, g, address, g.stores.bwd, state.motion_backward, true);
     }
-    Predicted::Done
+    Ok(())
 }
 
 // By the picture's type and the two flags.
-pub fn predict(store: &mut [u8], g: Context, address: usize, state: Slice) -> Predicted
+pub fn predict(
+    store: &mut [u8],
+    g: Context,
+    address: usize,
+    state: Slice,
+) -> Result<(), HalfSampleOutside>
     requires store_fits { StoreFits g store.old }
     requires address_bound { address < g.sizes.mb_width * g.sizes.mb_height }
     requires possible_motions { PossibleMotions state }
@@ -89,18 +96,14 @@ pub fn predict_skipped(
     address: usize,
     n: usize,
     state: Slice,
-) -> Predicted
+) -> Result<(), HalfSampleOutside>
     requires store_fits { StoreFits g store.old }
     requires n_bound { address + n ≤ g.sizes.mb_width * g.sizes.mb_height }
     requires possible_motions { PossibleMotions state }
     ensures { RefinesPrediction (predict_skipped g state address n store.old) result store.new }
 {
-    let mut k: usize = 0;
-    while k < n {
-        let Predicted::Done = predict(store, g, address + k, state) else {
-            return Predicted::Refused;
-        };
-        k += 1;
+    for k in 0..n {
+        predict(store, g, address + k, state)?;
     }
-    Predicted::Done
+    Ok(())
 }

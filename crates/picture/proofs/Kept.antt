@@ -18,8 +18,8 @@ use Rattle.coefficients.specs.Dcs.{dc_in_range}
 use Rattle.coefficients.specs.Blocks.{BlockRead}
 use Rattle.coefficients.specs.Syntax.{CodedBlock}
 use Rattle.coefficients.proofs.Kept as Coefficients
-use Rattle.prediction.specs.declared.predict.Predicted.{Predicted}
-use Rattle.prediction.specs.declared.predict.Predicted.TheVariants.{Done, Refused}
+use Rattle.std.specs.Prelude.{Ok, Err}
+use Rattle.prediction.specs.Planes.{Predicted}
 use Rattle.prediction.specs.Planes.{PlaneAfter}
 use Rattle.picture_state.specs.declared.types.{Context.Context, Stores.Stores, Sizes.Sizes, Matrices.Matrices, Slice.Slice, Picture.Picture}
 use Rattle.picture_state.specs.State.{with_stores, with_address}
@@ -112,11 +112,11 @@ unfolding unless_refused
 refused-ends H n address o h = go o.answer
   where
     go : (a : Predicted) → EndsIn H n (λ (l : List ℕ). length l ≡ n) (elim a as (λ x. Result Stop (List ℕ)) [
-      | Done ↦ ok o.store
-      | Refused ↦ error (stop (prediction_outside address o.plane o.h o.v) o.store)
+      | Ok _ ↦ ok o.store
+      | Err _ ↦ error (stop (prediction_outside address o.plane o.h o.v) o.store)
     ])
-    go Done = h
-    go Refused = (h, λ η. tt)
+    go (Ok _) = h
+    go (Err _) = (h, λ η. tt)
 
 -- ---- the walk, in a picture of which H says that it is possible; the store has n numbers
 

@@ -1,5 +1,5 @@
 -- The planes of a macroblock: where they lie in the lent memory, and how their prediction goes on from one to the next.
-use mathlib.Core.Path.{◌≡◌, refl, ap, ◌∙◌}
+use mathlib.Core.Path.{◌≡◌, refl, ap, ap₂, ◌∙◌}
 use mathlib.Core.Bool.{Bool, true, false, cond}
 use mathlib.Core.List.{List}
 use mathlib.Core.Logic.{◌⊎◌, inl, inr}
@@ -7,6 +7,7 @@ use Prim.Native.Nat.{ℕ, zero, suc, ◌+◌, ◌*◌, ◌/◌, ◌%◌, ◌≤�
 use native.Mathlib.Decide.{dec_lt}
 use native.Mathlib.Nat.{div-lt_iff_lt-mul, mod-lt, mul-le-mul, mul-le-mul_right}
 use native.Mathlib.Omega.{arith}
+use borrow.Author.Rules.{sfits_of}
 use borrow.Author.Tests.{le-ltb}
 use lib.Dec.{eqb, ltb}
 use lib.IntN.{ℤ, pos, negsuc, nat_abs}
@@ -15,11 +16,15 @@ use Rattle.laws.proofs.Nums.{neg_abs}
 use Rattle.prediction.specs.declared.position.{Macroblock.Macroblock, BlockPosition.BlockPosition}
 use Rattle.prediction.specs.declared.planes.Plane.{Plane}
 use Rattle.prediction.specs.declared.planes.Plane.TheVariants.{Y, Cr, Cb}
-use Rattle.prediction.specs.declared.predict.Predicted.{Predicted}
-use Rattle.prediction.specs.declared.predict.Predicted.TheVariants.{Done, Refused}
-use Rattle.prediction.specs.Planes.{macroblocks, block_size, plane_of, plane_length, plane_start, PlaneAfter, predict_plane, and_then_plane}
-use Rattle.prediction.specs.Planes.{predict_plane_from_store, predicted_planes}
-use Rattle.prediction.specs.Predict.{MacroblockInPicture, BlockInPlane, macroblock_at, block_position_of, bytes, chroma}
+use mir.Facts.{to_z-of_z}
+use mir.Syntax.{w32}
+use mir.Val.{SFits}
+use Rattle.std.proofs.lemmas.Bool.{false≢true}
+use Rattle.std.specs.Prelude.{Ok, Err, IsErr}
+use Rattle.laws.proofs.Ints.{reread}
+use Rattle.prediction.specs.Planes.{Predicted, macroblocks, block_size, plane_of, plane_length, plane_start, PlaneAfter, predict_from_source, predict_plane}
+use Rattle.prediction.specs.Planes.{and_then_plane, predict_plane_from_store, predicted_planes}
+use Rattle.prediction.specs.Predict.{PredictionSource, half_sample_outside, prediction_source, MacroblockInPicture, BlockInPlane, macroblock_at, block_position_of, bytes, chroma}
 use Rattle.prediction.specs.Writers.{luma_address, chroma_address, block_width, block_address}
 use Rattle.prediction.proofs.Places.{at_place, block_in}
 use Rattle.prediction.specs.Planes.{stores_bytes}
@@ -134,24 +139,37 @@ planes-apart m q from to n = go (dec_lt from to)
     go (yes h) = inl (omega (arith, plane-small m q, mul-le-mul_right (384 * macroblocks m) h))
     go (no h) = let r : to < from = above (dec_lt to from) h in inr (omega (arith, plane-small m q, mul-le-mul_right (384 * macroblocks m) r))
 
--- the same place, planes and vector
-pub alike : {p r : BlockPosition} {from from' to to' : ℕ} {h h' v v' : ℤ} (interpolate : Bool) (store : List ℕ) → p ≡ r → from ≡ from' → to ≡ to' → h ≡ h' → v
-    ≡ v'
-    → predict_plane p from to h v interpolate store ≡ predict_plane r from' to' h' v' interpolate store
-alike interpolate store ep ef et eh ev = rw (ep, ef, et, eh, ev)
+-- where the planes of two stores lie
+pub ruleset stores = (count_most, placed, plane_in, planes-apart)
 
 pub half-most : (z : ℤ) (n : ℕ) → nat_abs z ≤ n → nat_abs (half_toward_zero z) ≤ n
 unfolding half_toward_zero
 half-most (pos a) n h = omega arith
 half-most (negsuc a) n h = omega (arith, neg_abs (pos (suc a / 2)))
 
-next-done : (o : PlaneAfter) (f : List ℕ → PlaneAfter) → o.answer ≡ Done → and_then_plane o f ≡ f o.store
-unfolding and_then_plane
-next-done o f e = ap (λ (a : Predicted). elim a [ Done ↦ f o.store | Refused ↦ o ]) e
+-- the error has one value
+pub is_refused : (r : Predicted) → IsErr r → r ≡ Err half_sample_outside
+is_refused (Ok done) h = absurd (false≢true h)
+is_refused (Err e) h = refl
 
-next-refused : (o : PlaneAfter) (f : List ℕ → PlaneAfter) → o.answer ≡ Refused → and_then_plane o f ≡ o
+-- the outcome by the source that was found, for a vector of 32 bits that is read back from them
+pub outcome-is : (p : BlockPosition) (from to : ℕ) {h v : ℤ} (interpolate : Bool) (store : List ℕ) → SFits w32 h → SFits w32 v → {w : PredictionSource}
+    → w ≡ prediction_source p (reread w32 h) (reread w32 v)
+    → predict_from_source w p from to h v interpolate store ≡ predict_plane p from to h v interpolate store
+outcome-is p from to {h} {v} interpolate store fits_h fits_v e =
+    ap (λ (w : PredictionSource). predict_from_source w p from to h v interpolate store)
+    (e ∙ ap₂ (prediction_source p) (to_z-of_z fits_h) (to_z-of_z fits_v))
+
+next-done : (o : PlaneAfter) (f : List ℕ → PlaneAfter) → o.answer ≡ Ok tt → and_then_plane o f ≡ f o.store
 unfolding and_then_plane
-next-refused o f e = ap (λ (a : Predicted). elim a [ Done ↦ f o.store | Refused ↦ o ]) e
+next-done o f e = ap (λ (a : Predicted). elim a [ Ok _ ↦ f o.store | Err _ ↦ o ]) e
+
+next-refused : (o : PlaneAfter) (f : List ℕ → PlaneAfter) → o.answer ≡ Err half_sample_outside → and_then_plane o f ≡ o
+unfolding and_then_plane
+next-refused o f e = ap (λ (a : Predicted). elim a [ Ok _ ↦ f o.store | Err _ ↦ o ]) e
+
+-- what `grind` needs where a vector is passed on, maybe halved: that it reads back from 32 bits, the bound of a half, and the one value of the error
+pub ruleset vectors = (to_z-of_z, sfits_of, half-most, is_refused)
 
 module _ (m : Macroblock) (from to : ℕ) (h v : ℤ) (interpolate : Bool) (store : List ℕ) where
   abbrev first : PlaneAfter
@@ -167,19 +185,13 @@ module _ (m : Macroblock) (from to : ℕ) (h v : ℤ) (interpolate : Bool) (stor
   abbrev after-y : List ℕ → PlaneAfter
   after-y s = and_then_plane (predict_plane_from_store m from to interpolate Cr (chroma h) (chroma v) s) after-cr
 
-  abbrev third : PlaneAfter
-  third = after-cr second.store
-
-  pub first-refused : first.answer ≡ Refused → predicted_planes m from to h v interpolate store ≡ first
+  pub first-refused : first.answer ≡ Err half_sample_outside → predicted_planes m from to h v interpolate store ≡ first
   unfolding predicted_planes
   first-refused e = next-refused first after-y e
 
-  after_first : first.answer ≡ Done → predicted_planes m from to h v interpolate store ≡ and_then_plane second after-cr
+  after_first : first.answer ≡ Ok tt → predicted_planes m from to h v interpolate store ≡ and_then_plane second after-cr
   unfolding predicted_planes
   after_first e = next-done first after-y e
 
-  pub second-refused : first.answer ≡ Done → second.answer ≡ Refused → predicted_planes m from to h v interpolate store ≡ second
+  pub second-refused : first.answer ≡ Ok tt → second.answer ≡ Err half_sample_outside → predicted_planes m from to h v interpolate store ≡ second
   second-refused e g = after_first e ∙ next-refused second after-cr g
-
-  pub both-done : first.answer ≡ Done → second.answer ≡ Done → predicted_planes m from to h v interpolate store ≡ third
-  both-done e g = after_first e ∙ next-done second after-cr g

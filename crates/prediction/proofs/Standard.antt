@@ -8,12 +8,12 @@ use native.Mathlib.Omega.{arith}
 use lib.Dec.{eqb}
 use lib.IntN.{ℤ, pos, negsuc, nat_abs, ◌+ℤ◌, ◌*ℤ◌}
 use lib.ListN.{get_or, length}
-use lib.Signed.{shr_z, lt_z, ◌≤ℤ◌}
+use lib.Signed.{shr_z, ◌≤ℤ◌}
 use Rattle.laws.specs.Signed.{odd}
 use Rattle.laws.proofs.Bytes.{half_is}
-use Rattle.laws.proofs.Ints.{v as vary, lit, ◌⊕◌, ◌⊖◌, ◌⊛◌, at-dif, eq-by, eq_of, le_of, no_lt}
+use Rattle.laws.proofs.Ints.{v as vary, lit, ◌⊕◌, ◌⊖◌, ◌⊛◌, at-dif, eq-by, eq_of, le_of}
 use Rattle.laws.proofs.Lists.{rows_in}
-use Rattle.prediction.specs.declared.position.PredictionSource.TheVariants.{SourceAt}
+use Rattle.std.specs.Prelude.{Some, Ok}
 use Rattle.prediction.specs.declared.position.BlockPosition.{BlockPosition}
 use Rattle.prediction.specs.Predict.{BlockInPlane, width, height, bytes, address, start, max_address, reach, prediction_source, predicted, chroma}
 use Rattle.prediction.specs.Samples.{average2, average4, sample, stored_sample}
@@ -123,11 +123,9 @@ module _ {p : BlockPosition} (k : BlockInPlane p) (h v : ℤ) (i : InPicture p h
       )
 
   -- the block is copied, from where the standard says
-  pub is-copied : prediction_source p h v ≡ SourceAt (row * width p + column)
+  pub is-copied : prediction_source p h v ≡ Ok (Some (row * width p + column))
   is-copied =
-      sym (inside p h v (ap (λ (z : ℤ). lt_z z (pos 0)) start_is ∙ no_lt (lit (row * width p + column)) (lit 0) (omega arith))
-      (omega (arith, ap nat_abs start_is, reaches)) (omega (arith, ap nat_abs start_is, reaches)))
-      ∙ ap (λ (z : ℤ). SourceAt (nat_abs z)) start_is
+      sym (inside p h v (sym start_is) refl refl (omega (arith, reaches)) (omega (arith, reaches)))
 
   module _ (s : List ℕ) (y x : ℕ) where
     -- a sample of the past picture

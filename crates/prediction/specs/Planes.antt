@@ -1,13 +1,10 @@
 -- RULES 6.10, 6.11: the three stores, the planes of each, and the prediction of a macroblock's planes.
-use Rattle.std.specs.Prelude.{Bool, cond, List, ℕ, ◌+◌, ◌*◌, eqb, ltb, ℤ}
+use Rattle.std.specs.Prelude.{Bool, cond, List, ℕ, ◌+◌, ◌*◌, eqb, ltb, ℤ, Some, None, Result, Ok, Err}
 use borrow.Rule.Slice.PartMut.{mid_of, put_mid}
-use Rattle.prediction.specs.declared.position.{PredictionSource.PredictionSource, Macroblock.Macroblock, BlockPosition.BlockPosition}
-use Rattle.prediction.specs.declared.position.PredictionSource.TheVariants.{SourceOutside, HalfSampleOutside, SourceAt}
+use Rattle.prediction.specs.declared.position.{HalfSampleOutside.HalfSampleOutside, Macroblock.Macroblock, BlockPosition.BlockPosition}
 use Rattle.prediction.specs.declared.planes.Plane.{Plane}
 use Rattle.prediction.specs.declared.planes.Plane.TheVariants.{Y, Cr, Cb}
-use Rattle.prediction.specs.declared.predict.Predicted.{Predicted}
-use Rattle.prediction.specs.declared.predict.Predicted.TheVariants.{Done, Refused}
-use Rattle.prediction.specs.Predict.{block_position_of, bytes, prediction_source, predicted, chroma}
+use Rattle.prediction.specs.Predict.{PredictionSource, block_position_of, bytes, prediction_source, predicted, chroma}
 
 -- macroblocks of the picture
 abbrev pub macroblocks : Macroblock → ℕ
@@ -44,6 +41,10 @@ stores_bytes n = 1152 * n
 abbrev pub plane_start : ℕ → Plane → ℕ → ℕ
 plane_start k p n = k * store_length n + offset p n
 
+-- RULES Q9: a prediction is done, or refused
+abbrev pub Predicted : Type 0
+Predicted = Result (Unit {0}) HalfSampleOutside
+
 -- the lent memory after the prediction of a block, and its answer
 pub record PredictionOutcome : Type 0 where
   pub store : List ℕ
@@ -62,12 +63,12 @@ of_plane q h v o = record { plane = q; h = h; v = v; store = o.store; answer = o
 
 -- what is done with the block at p of the plane that begins at `to`, from the plane at `from`
 unfoldable pub predict_from_source : PredictionSource → BlockPosition → ℕ → ℕ → ℤ → ℤ → Bool → List ℕ → PredictionOutcome
-predict_from_source SourceOutside p from to h v interpolate store = record { store = store; answer = Done }
-predict_from_source HalfSampleOutside p from to h v interpolate store = record { store = store; answer = Refused }
-predict_from_source (SourceAt a) p from to h v interpolate store =
+predict_from_source (Ok None) p from to h v interpolate store = record { store = store; answer = Ok tt }
+predict_from_source (Err e) p from to h v interpolate store = record { store = store; answer = Err e }
+predict_from_source (Ok (Some a)) p from to h v interpolate store =
     record {
       store = put_mid to (bytes p) store (predicted p (mid_of from (bytes p) store) (mid_of to (bytes p) store) h v interpolate a);
-      answer = Done;
+      answer = Ok tt;
     }
 
 -- RULES 6.4 to 6.9 for one plane
@@ -76,7 +77,7 @@ predict_plane p from to h v = predict_from_source (prediction_source p h v) p fr
 
 -- a refusal ends the prediction
 unfoldable pub and_then_plane : PlaneAfter → (List ℕ → PlaneAfter) → PlaneAfter
-and_then_plane o f = elim o.answer [ Done ↦ f o.store | Refused ↦ o ]
+and_then_plane o f = elim o.answer [ Ok _ ↦ f o.store | Err _ ↦ o ]
 
 -- the plane q of the store number `to` from that of the store number `from`
 abbrev pub predict_plane_from_store : Macroblock → ℕ → ℕ → Bool → Plane → ℤ → ℤ → List ℕ → PlaneAfter

@@ -1,10 +1,10 @@
 -- RULES 6.1 to 6.9: the prediction of one block of a plane.
 use Rattle.std.specs.Prelude.{◌≡◌, Bool, cond, ◌||◌, List, ◌⊎◌, ℕ, ◌+◌, ◌-◌, ◌*◌, ◌/◌, ◌%◌, ◌≤◌, ◌<◌, ltb, ℤ, pos, nat_abs, ◌+ℤ◌, ◌*ℤ◌, get_or}
+use Rattle.std.specs.Prelude.{Option, Some, None, Result, Ok, Err}
 use Rattle.std.specs.Int.Signed.{lt_z, shr_z}
 use Rattle.laws.specs.Signed.{odd, half_toward_zero}
 use Rattle.laws.specs.Stores.{store_rows}
-use Rattle.prediction.specs.declared.position.{PredictionSource.PredictionSource, Macroblock.Macroblock, BlockPosition.BlockPosition}
-use Rattle.prediction.specs.declared.position.PredictionSource.TheVariants.{SourceOutside, HalfSampleOutside, SourceAt}
+use Rattle.prediction.specs.declared.position.{HalfSampleOutside.HalfSampleOutside, Macroblock.Macroblock, BlockPosition.BlockPosition}
 use Rattle.prediction.specs.Samples.{sample, stored_sample}
 
 -- RULES S.7, 7.5: the macroblock with this address in a picture of so many across and down; addresses go by rows
@@ -58,11 +58,19 @@ max_address p = width p * (height p - p.size + 1) - p.size
 abbrev pub reach : BlockPosition → ℤ → ℤ → ℕ
 reach p h v = cond (odd v) (width p) 0 + cond (odd h) 1 0
 
+-- RULES 6.9, Q9: the one refusal of a prediction
+abbrev pub half_sample_outside : HalfSampleOutside
+half_sample_outside = record {}
+
+-- what a prediction does with its block: copies the samples from an address on, leaves it alone (None), or is refused
+abbrev pub PredictionSource : Type 0
+PredictionSource = Result (Option ℕ) HalfSampleOutside
+
 -- RULES 6.6, 6.9: a block outside is left alone, one that reaches past the last is refused
 unfoldable pub prediction_source : BlockPosition → ℤ → ℤ → PredictionSource
 prediction_source p h v =
-    cond (lt_z (start p h v) (pos 0) || lt_z (pos (max_address p)) (start p h v)) SourceOutside
-    (cond (ltb (max_address p) (nat_abs (start p h v) + reach p h v)) HalfSampleOutside (SourceAt (nat_abs (start p h v))))
+    cond (lt_z (start p h v) (pos 0) || lt_z (pos (max_address p)) (start p h v)) (Ok None)
+    (cond (ltb (max_address p) (nat_abs (start p h v) + reach p h v)) (Err half_sample_outside) (Ok (Some (nat_abs (start p h v)))))
 
 -- RULES 6.7, 6.8: the plane d with the block written from the plane s, whose block begins at `from`
 unfoldable pub predicted : BlockPosition → List ℕ → List ℕ → ℤ → ℤ → Bool → ℕ → List ℕ

@@ -23,14 +23,9 @@ pub struct Macroblock {
     pub column: usize,
 }
 
-// What a prediction does with its block: leaves it alone, is refused since its half samples reach past max_address, or
-// copies the samples from an address on.
-#[derive(Clone, Copy)]
-pub enum PredictionSource {
-    SourceOutside,
-    HalfSampleOutside,
-    SourceAt(usize),
-}
+// A prediction is refused, since its half samples reach past max_address (RULES 6.9, Q9: number 9).
+#[derive(Clone, Copy, Debug, PartialEq, Eq)]
+pub struct HalfSampleOutside;
 
 // An odd component asks for a half sample (RULES 6.3): 1 for one, else 0.
 pub fn half_sample(n: i32) -> usize
@@ -115,24 +110,22 @@ impl BlockPosition {
         half_sample(v) * self.width() + half_sample(h)
     }
 
-    // RULES 6.6, 6.9.
-    pub fn prediction_source(self, h: i32, v: i32) -> PredictionSource
+    // RULES 6.6, 6.9: the address from which samples are copied, or none where the source lies outside and the block is left alone.
+    pub fn prediction_source(self, h: i32, v: i32) -> Result<Option<usize>, HalfSampleOutside>
         requires block_in_plane { BlockInPlane self }
         requires h_bound { (nat_abs h ≤ 2048) × (nat_abs v ≤ 2048) }
         ensures { result ≡ prediction_source self h v }
     {
-        let start = self.start(h, v);
-        if start < 0 {
-            return PredictionSource::SourceOutside;
-        }
-        let at = start as usize;
+        let Ok(at) = usize::try_from(self.start(h, v)) else {
+            return Ok(None);
+        };
         let max = self.max_address();
         if max < at {
-            return PredictionSource::SourceOutside;
+            return Ok(None);
         }
         if max < at + self.reach(h, v) {
-            return PredictionSource::HalfSampleOutside;
+            return Err(HalfSampleOutside);
         }
-        PredictionSource::SourceAt(at)
+        Ok(Some(at))
     }
 }

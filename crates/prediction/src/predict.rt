@@ -6,15 +6,8 @@ ghost use Rattle.prediction.specs.Predict.{MacroblockInPicture, BlockInPlane, by
 
 use crate::apart::predict_disjoint;
 use crate::planes::{Plane, block_size, plane_start};
-use crate::position::{BlockPosition, Macroblock, PredictionSource, half_sample};
+use crate::position::{BlockPosition, HalfSampleOutside, Macroblock, half_sample};
 use laws::half;
-
-// RULES Q9: refused is number 9.
-#[derive(Clone, Copy)]
-pub enum Predicted {
-    Done,
-    Refused,
-}
 
 // The block that begins at `at` in its plane, row by row. The planes begin at `from` and `to`, and are apart.
 fn copy_block(
@@ -52,6 +45,7 @@ fn copy_block(
 }
 
 // One block of the plane that begins at `to`, from the plane that begins at `from` (the Rust's process_macroblock).
+#[tactic(auto, using(crate::proofs::Macroblocks::vectors, crate::proofs::Fetches::copied_in), unfolding(crate::specs::Planes::predict_from_source))]
 pub fn predict_plane(
     store: &mut [u8],
     from: usize,
@@ -60,24 +54,21 @@ pub fn predict_plane(
     h: i32,
     v: i32,
     interpolate: bool,
-) -> Predicted
+) -> Result<(), HalfSampleOutside>
     requires block_in_plane { BlockInPlane p }
     requires h_bound { (nat_abs h ≤ 2048) × (nat_abs v ≤ 2048) }
     requires p_in_bounds { (from + bytes p ≤ length store.old) × (to + bytes p ≤ length store.old) × ((from + bytes p ≤ to) ⊎ (to + bytes p ≤ from)) }
     ensures answer { result ≡ (predict_plane p from to h v interpolate store.old).answer }
     ensures store { store.new ≡ (predict_plane p from to h v interpolate store.old).store }
 {
-    match p.prediction_source(h, v) {
-        PredictionSource::SourceOutside => Predicted::Done,
-        PredictionSource::HalfSampleOutside => Predicted::Refused,
-        PredictionSource::SourceAt(at) => {
-            copy_block(store, from, to, p, h, v, interpolate, at);
-            Predicted::Done
-        }
+    if let Some(at) = p.prediction_source(h, v)? {
+        copy_block(store, from, to, p, h, v, interpolate, at);
     }
+    Ok(())
 }
 
 // One plane of the store number `to` from that of the store number `from`.
+#[tactic(auto, using(crate::proofs::Macroblocks::vectors, crate::proofs::Macroblocks::stores))]
 fn predict_one_plane(
     store: &mut [u8],
     m: Macroblock,
@@ -87,7 +78,7 @@ fn predict_one_plane(
     h: i32,
     v: i32,
     interpolate: bool,
-) -> Predicted
+) -> Result<(), HalfSampleOutside>
     requires macroblock_in_picture { MacroblockInPicture m }
     requires from_bound { (from < 3) × (to < 3) × (to ≡ from → ⊥) }
     requires h_bound { (nat_abs h ≤ 2048) × (nat_abs v ≤ 2048) }
@@ -104,6 +95,7 @@ fn predict_one_plane(
 
 // The Rust's copy_or_interpolate_macroblock. The vector is in half samples. The planes go Y, Cr, Cb; a refusal ends it, with that
 // plane not begun.
+#[tactic(auto, using(crate::proofs::Macroblocks::vectors), unfolding(crate::specs::Planes::predicted_planes, crate::specs::Planes::and_then_plane))]
 pub fn predict_macroblock_planes(
     store: &mut [u8],
     m: Macroblock,
@@ -112,7 +104,7 @@ pub fn predict_macroblock_planes(
     h: i32,
     v: i32,
     interpolate: bool,
-) -> Predicted
+) -> Result<(), HalfSampleOutside>
     requires macroblock_in_picture { MacroblockInPicture m }
     requires from_bound { (from < 3) × (to < 3) × (to ≡ from → ⊥) }
     requires h_bound { (nat_abs h ≤ 2048) × (nat_abs v ≤ 2048) }
@@ -120,14 +112,9 @@ pub fn predict_macroblock_planes(
     ensures answer { result ≡ (predicted_planes m from to h v interpolate store.old).answer }
     ensures store { store.new ≡ (predicted_planes m from to h v interpolate store.old).store }
 {
-    let Predicted::Done = predict_one_plane(store, m, from, to, Plane::Y, h, v, interpolate) else {
-        return Predicted::Refused;
-    };
+    predict_one_plane(store, m, from, to, Plane::Y, h, v, interpolate)?;
     let ch = half(h);
     let cv = half(v);
-    let Predicted::Done = predict_one_plane(store, m, from, to, Plane::Cr, ch, cv, interpolate)
-    else {
-        return Predicted::Refused;
-    };
+    predict_one_plane(store, m, from, to, Plane::Cr, ch, cv, interpolate)?;
     predict_one_plane(store, m, from, to, Plane::Cb, ch, cv, interpolate)
 }

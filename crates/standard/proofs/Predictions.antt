@@ -16,8 +16,8 @@ use Rattle.laws.proofs.Lists.{rows_alike}
 use Rattle.prediction.specs.declared.position.{Macroblock.Macroblock, BlockPosition.BlockPosition}
 use Rattle.prediction.specs.declared.planes.Plane.{Plane}
 use Rattle.prediction.specs.declared.planes.Plane.TheVariants.{Y, Cr, Cb}
-use Rattle.prediction.specs.declared.predict.Predicted.{Predicted}
-use Rattle.prediction.specs.declared.predict.Predicted.TheVariants.{Done, Refused}
+use Rattle.std.specs.Prelude.{Ok, Err}
+use Rattle.prediction.specs.Planes.{Predicted}
 use Rattle.prediction.specs.Predict.{BlockInPlane, block_position_of, macroblock_at, width, height, bytes}
 use Rattle.prediction.specs.Predict.{address, prediction_source, predicted, chroma, in_halves}
 use Rattle.prediction.specs.Planes.{PlaneAfter, of_plane, block_size, macroblocks, plane_start, predict_from_source, and_then_plane, predict_plane_from_store}
@@ -52,8 +52,8 @@ refused-next n o f = go o.answer
     answered a = record { plane = o.plane; h = o.h; v = o.v; store = o.store; answer = a }
 
     go : (a : Predicted) → P.unless_refused n (and_then_plane (answered a) f) ≡ and_then (P.unless_refused n (answered a)) (λ l. P.unless_refused n (f l))
-    go Done = refl
-    go Refused = refl
+    go (Ok _) = refl
+    go (Err _) = refl
 
 size_of : (q : Plane) → (block_size q ≡ 8) ⊎ (block_size q ≡ 16)
 size_of Y = inr refl

@@ -13,7 +13,7 @@ abbrev headed : tie.After-predict_unless_intra → tie.After-read_head-h
 headed u = u.before.before.before.before
 
 -- where the prediction went on
-abbrev predicted : tie.In-Done → tie.After-predict_unless_intra
+abbrev predicted : tie.In-Ok → tie.After-predict_unless_intra
 predicted n = n.before.before.before
 
 read-head-requires : tie.Need-read_head-h-requires
@@ -56,7 +56,7 @@ returns-2 c =
     let h = headed u in
     let t = h.before.before in
     body-on (start t).requires.0 t.read_macroblock_type-t.ensures h.read_head-h.ensures u.predict_unless_intra.ensures
-    u.predict_unless_intra.auto.store p.read_pattern-p.ensures (matrices_in (start t).args.tables.now) p.before.in-Done.is
+    u.predict_unless_intra.auto.store p.read_pattern-p.ensures (matrices_in (start t).args.tables.now) p.before.in-Ok.is
     (rw f.flag-intra.ensures at b.read_blocks.ensures)
 
 pub body_spec : {M : Type 1} → statement M

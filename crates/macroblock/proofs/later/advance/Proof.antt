@@ -30,7 +30,7 @@ abbrev reset : tie.After-predict_skipped → tie.After-skip_reset-skipped
 reset q = q.before.before.before.before
 
 -- the prediction, where it went on
-abbrev done : tie.In-Done → tie.After-predict_skipped
+abbrev done : tie.In-Ok → tie.After-predict_skipped
 done n = n.before.before.before
 
 -- the next address, as the code reads it
@@ -87,7 +87,7 @@ returns-3 c =
     let f = stepped k in
     let s = start f in
     advance-on s.args.g s.args.n s.args.state s.requires.0 s.requires.1.0 s.requires.1.1 k.before.if-n-lt2.false k.skip_reset-skipped.ensures
-    (ap nat_abs (next-is f)) q.predict_skipped.ensures c.before.in-Done.is c.address_plus-here.ensures
+    (ap nat_abs (next-is f)) q.predict_skipped.ensures c.before.in-Ok.is c.address_plus-here.ensures
 
 pub advance_spec : {M : Type 1} → statement M
 advance_spec =
