@@ -1,5 +1,5 @@
 -- Rows that are read from one part of the store and written into another that is apart from it: what is read was not written before.
-use mathlib.Core.Path.{◌≡◌, refl, ap, ap₂, ◌∙◌, subst}
+use mathlib.Core.Path.{◌≡◌, refl, ap, ap₂, ◌∙◌}
 use mathlib.Core.Bool.{Bool, true, false}
 use mathlib.Core.List.{List}
 use mathlib.Core.Logic.{◌⊎◌, inl, inr, ⊎_elim}
@@ -8,12 +8,12 @@ use native.Mathlib.Nat.{mul-le-mul_right}
 use native.Mathlib.Omega.{arith}
 use borrow.Author.Tests.{eqb-true}
 use lib.Dec.{eqb}
-use lib.ListN.{length, get_or, set, replicate, length-replicate}
+use lib.ListN.{length, get_or, set, replicate}
 use Rattle.laws.specs.Stores.{store_row}
-use Rattle.laws.proofs.Lists.{last_row, row-alike, row_in, rows_alike, rows_out, Stored, none-stored, stored-first, all-stored}
+use Rattle.laws.proofs.Lists.{last_row, row-alike, rows_alike, rows_out, Stored, none-stored, stored-first}
 use Rattle.prediction.specs.DisjointBlocks.{Disjoint, averaged_four_or_two, sampled, stored_sample_at, stored_rows}
 use Rattle.prediction.specs.Samples.{average2, sample, stored_sample}
-use Rattle.prediction.proofs.RowsWritten.{RowsWritten, no_line, line_on, lines-all}
+use Rattle.prediction.proofs.RowsWritten.{made_row, RowsWritten, no_line, line_on, lines-all}
 
 -- what f makes of a store at i is made of the numbers from i up to e further
 abbrev pub Reads : (List ℕ → ℕ → ℕ) → ℕ → Type 0
@@ -25,7 +25,7 @@ Reads f e = (s t : List ℕ) (i : ℕ) → ((k : ℕ) → i ≤ k → k ≤ i + 
 pub record Making (interpolate : Bool) (f : List ℕ → ℕ → ℕ) (s : List ℕ) (i o b e : ℕ) (row : List ℕ) (x : ℕ) : Type 0 where
   pub read : i + b + e ≤ length s
   pub written : o + b ≤ length s
-  pub made : Stored (replicate 16 0) 0 (λ x. stored_sample_at interpolate f s (i + x) (o + x)) b row x
+  pub made : Stored (replicate b 0) 0 (λ x. stored_sample_at interpolate f s (i + x) (o + x)) b row x
 
 -- the loop's turn
 pub make-on : {interpolate : Bool} {f : List ℕ → ℕ → ℕ} {s row : List ℕ} {i o b e x v : ℕ} → Making interpolate f s i o b e row x → x < b
@@ -49,7 +49,7 @@ all-rows l h = lines-all l.lines h
 module _ {interpolate : Bool} {f : List ℕ → ℕ → ℕ} {s : List ℕ} {from to dw b e : ℕ} (k : Disjoint (length s) from to dw b e) {before : List ℕ} {y : ℕ}
     (l : Rows interpolate f s from to dw b before y) (q : y < b) where
   -- the next row lies in the store
-  pub none_made : Making interpolate f before (from + y * dw) (to + y * dw) b e (replicate 16 0) 0
+  pub none_made : Making interpolate f before (from + y * dw) (to + y * dw) b e (replicate b 0) 0
   none_made = record {
     read = omega (arith, last_row from dw (b + e) b (length s) (omega (arith, k.source)) y q, l.lines.long);
     written = omega (arith, last_row to dw b b (length s) k.target y q, l.lines.long);
@@ -69,35 +69,18 @@ module _ {interpolate : Bool} {f : List ℕ → ℕ → ℕ} {s : List ℕ} {fro
       (λ z r. ⊎_elim (λ h. inl (omega arith)) (λ h. inr (omega (arith, k.wide, mul-le-mul_right dw r))) (beside j low high))
 
   -- the loop's turn: the row that was made is written
-  pub rows_on : Reads f e → b ≤ 16 → {row now : List ℕ} {x : ℕ} → Making interpolate f before (from + y * dw) (to + y * dw) b e row x → b ≤ x
+  pub rows_on : Reads f e → {row now : List ℕ} {x : ℕ} → Making interpolate f before (from + y * dw) (to + y * dw) b e row x → b ≤ x
       → now ≡ store_row before (to + y * dw) (λ x. get_or row x 0) b → Rows interpolate f s from to dw b now (y + 1)
-  rows_on reads small m all put =
+  rows_on reads m all put =
       record {
         lines =
             line_on l.lines q
-            (put
+            (made_row before (to + y * dw) m.made all put
             ∙ row-alike before (to + y * dw) _ _ b
             (λ x r.
-            ap (λ (z : List ℕ). get_or z x 0) (all-stored m.made all)
-            ∙ row_in (replicate 16 0) 0 (λ x. stored_sample_at interpolate f before (from + y * dw + x) (to + y * dw + x)) b x x 0
-            (omega (arith, length-replicate {A = ℕ} 16 0)) r (omega arith)
-            ∙ ap (stored_sample interpolate (get_or before (to + y * dw + x) 0))
+            ap (stored_sample interpolate (get_or before (to + y * dw + x) 0))
             (reads before s (from + y * dw + x) (λ j low high. kept j (omega arith) (omega arith)))));
       }
-
--- the same where the size of a row, n, is known to be b
-pub rows_step : {interpolate : Bool} {f : List ℕ → ℕ → ℕ} {s before now row : List ℕ} {from to dw b n e y x : ℕ} → n ≡ b → Disjoint (length s) from to dw n e
-    → Rows interpolate f s from to dw n before y → y < n → Reads f e → b ≤ 16 → Making interpolate f before (from + y * dw) (to + y * dw) b e row x
-    → b ≤ x → now ≡ store_row before (to + y * dw) (λ x. get_or row x 0) b → Rows interpolate f s from to dw n now (y + 1)
-rows_step {interpolate} {f} {s} {before} {now} {row} {from} {to} {dw} {b} {n} {e} {y} {x} is k l q reads =
-    subst
-    (λ (b : ℕ).
-    b ≤ 16
-    → Making interpolate f before (from + y * dw) (to + y * dw) b e row x
-    → b ≤ x
-    → now ≡ store_row before (to + y * dw) (λ x. get_or row x 0) b
-    → Rows interpolate f s from to dw n now (y + 1))
-    is (λ small m all put. rows_on k l q reads small m all put)
 
 -- ---- averages of two and of four
 

@@ -1,11 +1,11 @@
 -- The planes of a macroblock: where they lie in the lent memory, and how their prediction goes on from one to the next.
-use mathlib.Core.Path.{◌≡◌, refl, ap, ap₂, ◌∙◌}
+use mathlib.Core.Path.{◌≡◌, refl, ap, ◌∙◌}
 use mathlib.Core.Bool.{Bool, true, false, cond}
 use mathlib.Core.List.{List}
 use mathlib.Core.Logic.{◌⊎◌, inl, inr}
-use Prim.Native.Nat.{ℕ, zero, suc, ◌+◌, ◌*◌, ◌/◌, ◌%◌, ◌≤◌, ◌<◌}
+use Prim.Native.Nat.{ℕ, suc, ◌+◌, ◌*◌, ◌/◌, ◌%◌, ◌≤◌, ◌<◌}
 use native.Mathlib.Decide.{dec_lt}
-use native.Mathlib.Nat.{div-lt_iff_lt-mul, mod-lt, mul-le-mul, mul-le-mul_right}
+use native.Mathlib.Nat.{mul-le-mul, mul-le-mul_right}
 use native.Mathlib.Omega.{arith}
 use borrow.Author.Rules.{sfits_of}
 use borrow.Author.Tests.{le-ltb}
@@ -13,37 +13,18 @@ use lib.Dec.{eqb, ltb}
 use lib.IntN.{ℤ, pos, negsuc, nat_abs}
 use Rattle.laws.specs.Signed.{half_toward_zero}
 use Rattle.laws.proofs.Nums.{neg_abs}
-use Rattle.prediction.specs.declared.position.{Macroblock.Macroblock, BlockPosition.BlockPosition}
+use Rattle.prediction.specs.declared.position.{Macroblock.Macroblock}
 use Rattle.prediction.specs.declared.planes.Plane.{Plane}
 use Rattle.prediction.specs.declared.planes.Plane.TheVariants.{Y, Cr, Cb}
 use mir.Facts.{to_z-of_z}
-use mir.Syntax.{w32}
-use mir.Val.{SFits}
 use Rattle.std.proofs.lemmas.Bool.{false≢true}
 use Rattle.std.specs.Prelude.{Ok, Err, IsErr}
-use Rattle.laws.proofs.Ints.{reread}
-use Rattle.prediction.specs.Planes.{Predicted, macroblocks, block_size, plane_of, plane_length, plane_start, PlaneAfter, predict_from_source, predict_plane}
+use Rattle.prediction.specs.Planes.{Predicted, macroblocks, block_size, plane_of, plane_length, plane_start, PlaneAfter}
 use Rattle.prediction.specs.Planes.{and_then_plane, predict_plane_from_store, predicted_planes}
-use Rattle.prediction.specs.Predict.{PredictionSource, half_sample_outside, prediction_source, MacroblockInPicture, BlockInPlane, macroblock_at, block_position_of, bytes, chroma}
+use Rattle.prediction.specs.Predict.{half_sample_outside, MacroblockInPicture, BlockInPlane, block_position_of, bytes, chroma}
 use Rattle.prediction.specs.Writers.{luma_address, chroma_address, block_width, block_address}
 use Rattle.prediction.proofs.Places.{at_place, block_in}
 use Rattle.prediction.specs.Planes.{stores_bytes}
-
--- a picture with an address has a macroblock across
-pub across-some : (across down address : ℕ) → address < across * down → 1 ≤ across
-across-some zero down address h = omega arith
-across-some (suc n) down address h = omega arith
-
--- the macroblock with an address lies in the picture
-pub inside-at : (across down address : ℕ) → across ≤ 256 → down ≤ 256 → address < across * down → MacroblockInPicture (macroblock_at across down address)
-inside-at across down address wide high h =
-    let some = across-some across down address h in
-    record {
-      across = wide;
-      down = high;
-      row = (div-lt_iff_lt-mul {k = across} {x = address} {y = down} some).1 (omega arith);
-      column = mod-lt address some;
-    }
 
 -- the start of a store
 pub store-most : (k n : ℕ) → k < 3 → k * (384 * n) ≤ 768 * n
@@ -72,25 +53,8 @@ module _ {m : Macroblock} (i : MacroblockInPicture m) where
   pub chroma_in : chroma_address (m.across * 8) m.row m.column + 7 * (m.across * 8) + 8 ≤ 64 * macroblocks m
   chroma_in = omega (arith, block_in (placed Cr))
 
--- the side of a macroblock's block in a plane
-size-least : (q : Plane) → 8 ≤ block_size q
-size-least Y = omega arith
-size-least Cr = omega arith
-size-least Cb = omega arith
-
-pub size-most : (q : Plane) → block_size q ≤ 16
-size-most Y = omega arith
-size-most Cr = omega arith
-size-most Cb = omega arith
-
 -- block 0 to 5 lies in its plane
 module _ {m : Macroblock} (i : MacroblockInPicture m) (number : ℕ) where
-  pub width-least : 8 ≤ block_width m number
-  width-least = let h : 1 ≤ m.across = omega (arith, i.column) in mul-le-mul h (size-least (plane_of number))
-
-  pub width-most : block_width m number ≤ 4096
-  width-most = mul-le-mul i.across (size-most (plane_of number))
-
   pub position_in : block_address m number + 7 * block_width m number + 8 ≤ plane_length (plane_of number) (macroblocks m)
   unfolding block_address
   position_in = go (ltb number 4) (eqb number 4)
@@ -151,14 +115,6 @@ half-most (negsuc a) n h = omega (arith, neg_abs (pos (suc a / 2)))
 pub is_refused : (r : Predicted) → IsErr r → r ≡ Err half_sample_outside
 is_refused (Ok done) h = absurd (false≢true h)
 is_refused (Err e) h = refl
-
--- the outcome by the source that was found, for a vector of 32 bits that is read back from them
-pub outcome-is : (p : BlockPosition) (from to : ℕ) {h v : ℤ} (interpolate : Bool) (store : List ℕ) → SFits w32 h → SFits w32 v → {w : PredictionSource}
-    → w ≡ prediction_source p (reread w32 h) (reread w32 v)
-    → predict_from_source w p from to h v interpolate store ≡ predict_plane p from to h v interpolate store
-outcome-is p from to {h} {v} interpolate store fits_h fits_v e =
-    ap (λ (w : PredictionSource). predict_from_source w p from to h v interpolate store)
-    (e ∙ ap₂ (prediction_source p) (to_z-of_z fits_h) (to_z-of_z fits_v))
 
 next-done : (o : PlaneAfter) (f : List ℕ → PlaneAfter) → o.answer ≡ Ok tt → and_then_plane o f ≡ f o.store
 unfolding and_then_plane

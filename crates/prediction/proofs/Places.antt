@@ -70,9 +70,6 @@ module _ {p : BlockPosition} (k : BlockInPlane p) where
   pub max-to : width p * (height p - p.size + 1) ≤ bytes p
   max-to = mul-le-mul_left (width p) (omega (arith, size-from, row_in))
 
-  pub max-from : p.size ≤ width p * (height p - p.size + 1)
-  max-from = let h : 1 ≤ height p - p.size + 1 = omega arith in omega (arith, column_in, mul-le-mul_left (width p) h)
-
   pub reach-most : (h v : ℤ) → reach p h v ≤ 4097
   reach-most h v = go (odd v) (odd h)
     where

@@ -1,20 +1,21 @@
--- Stores as the code makes them: eight numbers at once, a block by rows. What is stored at a place is made of what stood there before.
+-- Stores as the code makes them: a row at once, a block by rows. What is stored at a place is made of what stood there before.
 use mathlib.Core.Path.{◌≡◌, refl, ap, ◌∙◌}
-use mathlib.Core.List.{List, [], ◌∷◌}
+use mathlib.Core.List.{List}
 use Prim.Native.Nat.{ℕ, ◌+◌, ◌*◌, ◌-◌, ◌≤◌, ◌<◌}
 use native.Mathlib.Omega.{arith}
-use lib.ListN.{length, get_or}
+use lib.ListN.{length, get_or, replicate, length-replicate}
 use Rattle.laws.specs.Stores.{store_row, store_rows}
-use Rattle.laws.proofs.Lists.{row-alike, length-rows, rows_on, rows-fresh, last_row}
+use Rattle.laws.proofs.Lists.{Stored, all-stored, row-alike, row_in, length-rows, rows_on, rows-fresh}
 
--- ---- eight numbers, of which f makes each
-
-pub eight-row : (l : List ℕ) (at : ℕ) (f : ℕ → ℕ) {now : List ℕ} {v0 v1 v2 v3 v4 v5 v6 v7 : ℕ}
-    → now ≡ store_row l at (λ x. get_or (v0 ∷ v1 ∷ v2 ∷ v3 ∷ v4 ∷ v5 ∷ v6 ∷ v7 ∷ []) x 0) 8
-    → v0 ≡ f 0 → v1 ≡ f 1 → v2 ≡ f 2 → v3 ≡ f 3 → v4 ≡ f 4 → v5 ≡ f 5 → v6 ≡ f 6 → v7 ≡ f 7
-    → now ≡ store_row l at f 8
-unfolding store_row
-eight-row l at f e e0 e1 e2 e3 e4 e5 e6 e7 = e ∙ rw (e0, e1, e2, e3, e4, e5, e6, e7)
+-- a row that was made in an array, and is put in its place
+pub made_row : (l : List ℕ) (at : ℕ) {f : ℕ → ℕ} {b x : ℕ} {row now : List ℕ} → Stored (replicate b 0) 0 f b row x → b ≤ x
+    → now ≡ store_row l at (λ x. get_or row x 0) b → now ≡ store_row l at f b
+made_row l at {f} {b} made all put =
+    put
+    ∙ row-alike l at _ _ b
+    (λ x r.
+    ap (λ (z : List ℕ). get_or z x 0) (all-stored made all)
+    ∙ row_in (replicate b 0) 0 f b x x 0 (omega (arith, length-replicate {A = ℕ} b 0)) r (omega arith))
 
 -- ---- a block by rows
 
@@ -30,10 +31,6 @@ module _ {d : List ℕ} {di dw b n : ℕ} {g : ℕ → ℕ → ℕ → ℕ} wher
   pub no_line : b ≤ dw → di + (n - 1) * dw + b ≤ length d → RowsWritten d di dw b n g d 0
   unfolding store_rows
   no_line h f = record { wide = h; fit = f; most = omega arith; long = refl; is = refl }
-
-  -- the next row lies in the list
-  pub in-line : {now : List ℕ} {y : ℕ} → RowsWritten d di dw b n g now y → y < n → di + y * dw + b ≤ length d
-  in-line {now} {y} l q = last_row di dw b n (length d) l.fit y q
 
   -- the loop's turn
   pub line_on : {before now : List ℕ} {y : ℕ} → RowsWritten d di dw b n g before y → y < n

@@ -1,9 +1,17 @@
 -- RULES 6.12, 6.13: the results of a block written at its place.
-use Rattle.std.specs.Prelude.{cond, List, ℕ, ◌+◌, ◌*◌, ◌/◌, ◌%◌, ltb, ℤ, pos, ◌+ℤ◌, get_or}
+use Rattle.std.specs.Prelude.{◌≡◌, ◌<◌, cond, List, ℕ, ◌+◌, ◌*◌, ◌/◌, ◌%◌, ltb, ℤ, pos, ◌+ℤ◌, get_or}
 use Rattle.laws.specs.Signed.{clamp255}
 use Rattle.laws.specs.Stores.{store_rows}
 use Rattle.prediction.specs.declared.position.Macroblock.{Macroblock}
 use Rattle.prediction.specs.Planes.{block_size, plane_of}
+
+-- what a function may give of an old byte and of a number below 64 is what g gives
+abbrev pub Gives : (ℕ → ℕ → ℕ → Type 0) → (ℕ → ℕ → ℕ) → Type 0
+Gives post g = (old k r : ℕ) → old < 256 → k < 64 → post old k r → r ≡ g old k
+
+-- eight rows of eight, made by g of what stood at each place, and of its number in the block
+abbrev pub made_block : (ℕ → ℕ → ℕ) → List ℕ → ℕ → ℕ → List ℕ
+made_block g d di dw = store_rows d di dw 8 (λ y x. g (get_or d (di + y * dw + x) 0) (y * 8 + x)) 8
 
 -- one byte everywhere
 unfoldable pub set_const : List ℕ → ℕ → ℕ → ℕ → List ℕ
