@@ -32,12 +32,12 @@ use Rattle.blocks.specs.Promises.{block_program, store_after}
 use Rattle.picture_state.proofs.Results.{t-done, r-lift}
 use Rattle.blocks.proofs.Ready.{ready-block, ready-outside}
 
--- a block with an end other than the first of the three is not written, and leaves its coefficients over
+-- a block that is not whole is not written, and leaves its coefficients over
 pub not-whole : (g : Context) (q : Quantiser) (number address : ℕ) (f : BlockCoefficients) (p : ℤ) (e : BlockEnd) (l : List ℕ)
-    → OneOf (1 ∷ 2 ∷ []) (tag_of the_type e) → let r : BlockRead = record { block_coefficients = f; predictor = p; end = e } in
+    → (e ≡ Complete → ⊥) → let r : BlockRead = record { block_coefficients = f; predictor = p; end = e } in
     (l ≡ store_after g q number address r l) × (f.coefficients ≡ block_data_after q r)
 unfolding store_after block_data_after
-not-whole g q number address f p Complete l k = let z : ⊥ = ⊎_elim (λ h. omega arith) (λ h. omega arith) k in absurd z
+not-whole g q number address f p Complete l k = absurd (k refl)
 not-whole g q number address f p Dropped l k = (refl, refl)
 not-whole g q number address f p DcOutOfRange l k = (refl, refl)
 

@@ -36,10 +36,7 @@ fn with_dc_predictor(mut state: Slice, number: usize, predictor: i32) -> Slice
     requires { number < 6 }
     ensures { result ≡ with_dc_predictor number predictor state }
 {
-    let k = predictor_of(number);
-    let mut dc = state.dc_predictor;
-    dc[k] = predictor;
-    state.dc_predictor = dc;
+    state.dc_predictor[predictor_of(number)] = predictor;
     state
 }
 

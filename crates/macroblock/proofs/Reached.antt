@@ -9,14 +9,6 @@ use mir.Facts.{to_z-of_z}
 use Rattle.laws.proofs.Ints.{Dif, up, dn, v, lit, neg, ◌⊕◌, low, back, eq-by, le_yes, yes_le, fits_by}
 use Rattle.macroblock.specs.Promises.{AddressAfterBound, AddressSumBound}
 
--- a natural number as a signed one
-pub low-is : (n : ℕ) → n < 2147483648 → to_z w32 n ≡ pos n
-low-is n h = eq-by (low w32 n n refl h) (lit n) refl
-
-pub adds-of : {a : ℤ} {n : ℕ} → AddressAfterBound a n → AddressSumBound a n
-adds-of {a} {n} k =
-    record { from = k.from; to = yes_le (v a ⊕ lit n) (lit 402800000) (omega (arith, le_yes (v a ⊕ lit n) (lit 402700000) k.to)) }
-
 module _ {a : ℤ} {n : ℕ} (k : AddressSumBound a n) where
   bounds : (dn a ≤ up a + 1) × (up a + n ≤ dn a + 402800000)
   bounds = (omega (arith, le_yes (neg (lit 1)) (v a) k.from), omega (arith, le_yes (v a ⊕ lit n) (lit 402800000) k.to))

@@ -11,8 +11,7 @@ pub fn address_plus(mut state: Slice, n: usize) -> Slice
     requires { AddressAfterBound state.macroblock_address n }
     ensures { result ≡ with_address (state.macroblock_address +ℤ pos n) state }
 {
-    let address = state.macroblock_address + n as i32;
-    state.macroblock_address = address;
+    state.macroblock_address += n as i32;
     state
 }
 
@@ -21,10 +20,7 @@ pub fn is_outside(g: Context, address: i32) -> bool
     requires { g.sizes.mb_size ≤ 65536 }
     ensures { result ≡ (lt_z address (pos 0) || le_z (pos g.sizes.mb_size) address) }
 {
-    if address < 0 {
-        return true;
-    }
-    g.sizes.mb_size as i32 <= address
+    address < 0 || g.sizes.mb_size as i32 <= address
 }
 
 // RULES 7.9, 7.6: n more leads past the last macroblock.

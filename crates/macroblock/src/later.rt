@@ -23,10 +23,10 @@ fn skip_reset(g: Context, before: Slice) -> Slice
 {
     let fresh = reset(before);
     if g.picture_type == 2 {
-        let forward = zeroed(before.motion_forward);
-        let mut state = fresh;
-        state.motion_forward = forward;
-        return state;
+        return Slice {
+            motion_forward: zeroed(before.motion_forward),
+            ..fresh
+        };
     }
     fresh
 }

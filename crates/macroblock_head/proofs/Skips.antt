@@ -21,12 +21,6 @@ pub record AtSkip (g : Context) (x : Slice) (address n : ℕ) (l₀ l : List ℕ
   pub long : length l ≡ length l₀
   pub rest : predict_skipped g x address n l₀ ≡ predict_skipped g x (address + k) (n - k) l
 
-pub at-skip : {g : Context} {x : Slice} {address n : ℕ} {l : List ℕ} → AtSkip g x address n l l 0
-at-skip {g} {x} {address} {n} {l} =
-    let a : address + 0 ≡ address = omega arith in
-    let m : n - 0 ≡ n = omega arith in
-    record { few = omega arith; long = refl; rest = rw (a, m) }
-
 module _ {g : Context} {x : Slice} {address n : ℕ} {l₀ l : List ℕ} {k : ℕ} (i : AtSkip g x address n l₀ l k) where
   pub skip-end : n ≤ k → RefinesPrediction (predict_skipped g x address n l₀) (Ok tt) l
   unfolding predict_skipped

@@ -49,21 +49,13 @@ pub fn read_macroblock_type(s: &[u8], reader: Reader, tables: &Tables, picture_t
 pub fn zeroed(m: Motion) -> Motion
     ensures { result ≡ zeroed m }
 {
-    Motion {
-        full_px: m.full_px,
-        is_set: m.is_set,
-        r_size: m.r_size,
-        h: 0,
-        v: 0,
-    }
+    Motion { h: 0, v: 0, ..m }
 }
 
 pub fn is_set_as(m: Motion, is: bool) -> Motion
     ensures { result ≡ with_is_set is m }
 {
-    let mut n = m;
-    n.is_set = is;
-    n
+    Motion { is_set: is, ..m }
 }
 
 // RULES 5.7: a vector, the horizontal component first.
@@ -181,33 +173,32 @@ fn read_scale(s: &[u8], reader: Reader, t: u32, before: Slice) -> HeadRead
 fn flagged(t: u32, before: Slice) -> Slice
     ensures { result ≡ flagged t before }
 {
-    let forward = is_set_as(before.motion_forward, flag(t, 8));
-    let backward = is_set_as(before.motion_backward, flag(t, 4));
-    let mut state = before;
-    state.motion_forward = forward;
-    state.motion_backward = backward;
-    state
+    Slice {
+        motion_forward: is_set_as(before.motion_forward, flag(t, 8)),
+        motion_backward: is_set_as(before.motion_backward, flag(t, 4)),
+        ..before
+    }
 }
 
 // RULES 7.14: an intra macroblock sets both vectors to 0.
 fn vectors_reset(before: Slice) -> Slice
     ensures { result ≡ vectors_reset before }
 {
-    let forward = zeroed(before.motion_forward);
-    let backward = zeroed(before.motion_backward);
-    let mut state = before;
-    state.motion_forward = forward;
-    state.motion_backward = backward;
-    state
+    Slice {
+        motion_forward: zeroed(before.motion_forward),
+        motion_backward: zeroed(before.motion_backward),
+        ..before
+    }
 }
 
 // RULES 7.20: the DC predictors go back to 128.
 pub fn reset(before: Slice) -> Slice
     ensures { result ≡ dc_reset before }
 {
-    let mut state = before;
-    state.dc_predictor = [128; 3];
-    state
+    Slice {
+        dc_predictor: [128; 3],
+        ..before
+    }
 }
 
 // RULES 7.13, 7.14: behind the macroblock type t: scale, resets, vectors.

@@ -18,8 +18,7 @@ pub fn block_size(q: Plane) -> usize
 {
     match q {
         Plane::Y => 16,
-        Plane::Cr => 8,
-        Plane::Cb => 8,
+        Plane::Cr | Plane::Cb => 8,
     }
 }
 
@@ -27,13 +26,11 @@ pub fn block_size(q: Plane) -> usize
 pub fn plane_of(number: usize) -> Plane
     ensures { result ≡ plane_of number }
 {
-    if number < 4 {
-        return Plane::Y;
+    match number {
+        0..=3 => Plane::Y,
+        4 => Plane::Cb,
+        _ => Plane::Cr,
     }
-    if number == 4 {
-        return Plane::Cb;
-    }
-    Plane::Cr
 }
 
 // Bytes of the plane, for n macroblocks.
@@ -43,8 +40,7 @@ pub fn plane_length(q: Plane, n: usize) -> usize
 {
     match q {
         Plane::Y => 256 * n,
-        Plane::Cr => 64 * n,
-        Plane::Cb => 64 * n,
+        Plane::Cr | Plane::Cb => 64 * n,
     }
 }
 
