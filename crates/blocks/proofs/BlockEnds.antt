@@ -8,8 +8,8 @@ use native.Mathlib.Omega.{arith}
 use denote.Enum.Declared.{tag_of}
 use types.Run.{OneOf}
 use lib.Dec.{ltb}
-use lib.IntN.{ℤ, pos, nat_abs}
-use lib.ListN.{length, get_or}
+use lib.IntN.{ℤ, nat_abs}
+use lib.ListN.{length}
 use Rattle.bits.specs.declared.reader.Reader.{Reader}
 use Rattle.bits.specs.Runs.{Runs, RunsInBounds}
 use Rattle.bits.proofs.Rules.{r_inner}
@@ -19,15 +19,15 @@ use Rattle.coefficients.specs.declared.block.BlockEnd.{BlockEnd}
 use Rattle.coefficients.specs.declared.block.BlockEnd.TheVariants.{Complete, Dropped, DcOutOfRange}
 use Rattle.coefficients.specs.declared.quantiser.Quantiser.{Quantiser}
 use Rattle.coefficients.specs.Blocks.{BlockCoefficients, BlockRead, reconstructed, block, block_data_after}
-use Rattle.coefficients.specs.Syntax.{CodedBlock, coded_block}
+use Rattle.coefficients.specs.Syntax.{coded_block}
 use Rattle.coefficients.specs.contracts.block.BlockEnd.{the_type}
 use Rattle.coefficients.proofs.Kept.{Kept, block-gives}
 use Rattle.picture_state.specs.declared.types.{Context.Context, Slice.Slice}
 use Rattle.picture_state.specs.State.{SliceState, slice_state}
 use Rattle.picture_state.specs.Result.{Result, ok, error}
-use Rattle.picture_state.specs.Stop.{Stop, stop, dc_outside}
+use Rattle.picture_state.specs.Stop.{stop, dc_outside}
 use Rattle.blocks.specs.Blocks.{predictor_of, with_dc_predictor, dc_predictor, quantiser_of, written, block_result, matrix_for, one_block}
-use Rattle.picture_state.specs.Promises.{Exit, exit, numbered, RunsNumbered, matrices_in, MacroblockInvariant, RefinesAtMacroblock}
+use Rattle.picture_state.specs.Promises.{Exit, numbered, RunsNumbered, matrices_in, MacroblockInvariant, RefinesAtMacroblock}
 use Rattle.blocks.specs.Promises.{block_program, store_after}
 use Rattle.picture_state.proofs.Results.{t-done, r-lift}
 use Rattle.blocks.proofs.Ready.{ready-block, ready-outside}

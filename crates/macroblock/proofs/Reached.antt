@@ -6,8 +6,8 @@ use lib.IntN.{ℤ, pos, ◌+ℤ◌}
 use mir.Syntax.{w32}
 use mir.Val.{SFits, to_z, of_z}
 use mir.Facts.{to_z-of_z}
-use Rattle.laws.proofs.Ints.{Dif, up, dn, v, lit, neg, ◌⊕◌, low, back, eq-by, le_yes, yes_le, fits_by}
-use Rattle.macroblock.specs.Promises.{AddressAfterBound, AddressSumBound}
+use Rattle.laws.proofs.Ints.{Dif, up, dn, v, lit, neg, ◌⊕◌, low, back, eq-by, le_yes, fits_by}
+use Rattle.macroblock.specs.Promises.{AddressSumBound}
 
 module _ {a : ℤ} {n : ℕ} (k : AddressSumBound a n) where
   bounds : (dn a ≤ up a + 1) × (up a + n ≤ dn a + 402800000)
