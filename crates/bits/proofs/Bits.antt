@@ -4,10 +4,10 @@ use mathlib.Core.Path.{◌≡◌, refl, ap, sym, ◌∙◌}
 use mathlib.Core.List.{List}
 use Prim.Native.Nat.{ℕ, zero, suc, ◌+◌, ◌-◌, ◌*◌, ◌/◌, ◌%◌, ◌^◌, ◌<◌, ◌≤◌}
 use native.Mathlib.Omega.{arith}
-use native.Mathlib.Nat.{add-zero, add-suc, add_assoc, mod-eq_of_lt, mod-eq-sub-div-mul, div-mul-le_self, div-one, div-div-eq-div-mul, pow-suc, mod-le}
-use native.Mathlib.Nat.{div-le_self, lt_of_lt_of_le}
+use native.Mathlib.Nat.{add-zero, add-suc, add_assoc, mod-eq_of_lt, mod-eq-sub-div-mul, div-mul-le_self, div-one, div-div-eq-div-mul, pow-suc}
+use native.Mathlib.Nat.{div-le_self}
 use lib.Arith.{digits_div, digits_mod}
-use lib.Pow.{high, low, pow_mono}
+use lib.Pow.{high, low}
 use lib.ListN.{get_or}
 use Rattle.bits.specs.Bits.{bit_at, bits_at}
 
@@ -78,9 +78,6 @@ cut w n h =
     let lt : w / 2 ^ n * 2 ^ n < 2 ^ 64 = omega arith in
     rw (mod-eq_of_lt lt) (sym (mod-eq-sub-div-mul w (2 ^ n)))
 
-pub cut_le : (w n : ℕ) → (w / 2 ^ n * 2 ^ n) % 2 ^ 64 ≤ w
-cut_le w n = omega (arith, mod-le (w / 2 ^ n * 2 ^ n) (2 ^ 64), div-mul-le_self w (2 ^ n))
-
 -- the code's number, from the window at the byte of `at`
 module _ (w at n : ℕ) (s : List ℕ) (e : w ≡ bits_at s (at / 8 * 8) 40) (le : n ≤ 32) where
   pub window-bits : w / 2 ^ (40 - at % 8 - n) - (w / 2 ^ (40 - at % 8 - n) / 2 ^ n * 2 ^ n) % 2 ^ 64 ≡ bits_at s at n
@@ -94,9 +91,6 @@ module _ (w at n : ℕ) (s : List ℕ) (e : w ≡ bits_at s (at / 8 * 8) 40) (le
       ∙ ap (λ (k : ℕ). k / 2 ^ r % 2 ^ n) (e ∙ ap (bits_at s (at / 8 * 8)) e40)
       ∙ bits_mid s (at / 8 * 8) (at % 8) n r
       ∙ ap (λ (k : ℕ). bits_at s k n) e-at
-
-  pub window-below : w / 2 ^ (40 - at % 8 - n) - (w / 2 ^ (40 - at % 8 - n) / 2 ^ n * 2 ^ n) % 2 ^ 64 < 2 ^ 32
-  window-below = rw window-bits (lt_of_lt_of_le (bits_lt s at n) (pow_mono le))
 
 -- two bytes, as the code reads and joins them
 pub two_bytes : (s : List ℕ) (b : ℕ) {v w : ℕ} → (v ≡ get_or s b 0) × (v < 256) → (w ≡ get_or s (b + 1) 0) × (w < 256) → v * 256 + w ≡ bits_at s (b * 8) 16

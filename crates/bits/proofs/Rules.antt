@@ -19,7 +19,7 @@ use Rattle.bits.specs.Programs.{eq_z, find_step, find_start_code}
 use Rattle.bits.specs.Runs.{RunsAt, Runs, ReaderInBounds, RunsInBounds, position_of, reader_at, advanced_by, bits_left}
 use Rattle.bits.specs.declared.reader.Reader.{Reader}
 use Rattle.bits.proofs.Start.{Searched, first, none, found-is-first}
-use Rattle.bits.proofs.Programs.{run_bind, run-most}
+use Rattle.bits.proofs.Programs.{run_bind, run-most, served-got, served-next, refused-got, refused-next}
 
 -- ---- over readers, and over places
 
@@ -176,6 +176,18 @@ r-most {p = p} {s} {from} r i =
 -- so what began inside ends inside
 pub reading : {A : Type 0} {p : Prog A} {s : List ℕ} {from to : Reader} {v : A} → ReaderInBounds s from → Runs p s from v to → RunsInBounds p s from v to
 reading i r = record { runs = r; inside = r-most r i }
+
+-- what the reader's own proofs show of bits that are there, and of bits that are not
+pub bits-there : {s : List ℕ} {from to : Reader} {n v : ℕ} → ReaderInBounds s from → position_of from + n ≤ length s * 8
+    → v ≡ bits_at s (position_of from) n → position_of to ≡ position_of from + n → RunsInBounds (bits n) s from v to
+bits-there i h p q = reading i (is-bits (p ∙ sym (served-got _ _ _ h)) (q ∙ sym (served-next _ _ _ h)))
+
+pub bits-refused : {s : List ℕ} {from : Reader} {n : ℕ} → ReaderInBounds s from → length s * 8 < position_of from + n
+    → RunsInBounds (bits n) s from 0 from
+bits-refused i h = reading i (is-bits (sym (refused-got _ _ _ h)) (sym (refused-next _ _ _ h)))
+
+pub reads-bits : {s : List ℕ} {from to : Reader} {n v : ℕ} → n ≤ 32 → RunsInBounds (bits n) s from v to → RunsInBounds (read_at_most32 n) s from v to
+reads-bits h r = record { runs = r-yes _ (le-leb _ _ h) r.runs; inside = r.inside }
 
 -- a run from a reader that is at the place a
 pub from_reader : {A : Type 0} {p : Prog A} {s : List ℕ} {from to : Reader} {a : ℕ} {v : A} → from ≡ reader_at a → Runs p s from v to

@@ -1,8 +1,7 @@
 -- A stream is a list of bytes, and a place in it a count of bits from its beginning. What stands at a place: the value of a string of bits,
 -- the next byte boundary, a run of equal bytes, the first start code.
-use Rattle.std.specs.Prelude.{ℕ, zero, suc, ◌+◌, ◌-◌, ◌*◌, ◌/◌, ◌%◌, ◌^◌, ◌≤◌, List, [], Bool, cond, ◌&&◌, length, get_or, take, drop, leb, eqb, ℤ, pos, negsuc}
-use Rattle.bits.specs.declared.bytes.Part.{Part}
-use Rattle.bits.specs.declared.bytes.Part.TheVariants.{Bytes, Absent}
+use Rattle.std.specs.Prelude.{ℕ, zero, suc, ◌+◌, ◌-◌, ◌*◌, ◌/◌, ◌%◌, ◌^◌, List, [], Bool, cond, ◌&&◌, length, get_or, take, drop, leb, eqb}
+use Rattle.std.specs.Prelude.{ℤ, pos, negsuc, Option, Some, None, unwrap_or}
 
 -- RULES 1.1: the bit k of s, counted from the highest bit of the first byte; 0 past the end
 unfoldable pub bit_at : List ℕ → ℕ → ℕ
@@ -56,16 +55,10 @@ found s a = code_from s (boundary a) (length s - 4 - boundary a)
 abbrev pub has_bytes : List ℕ → ℕ → ℕ → Bool
 has_bytes s a n = leb (a / 8 + n) (length s)
 
--- RULES 1.15: the places of those bytes, or none
-abbrev pub part_at : List ℕ → ℕ → ℕ → Part
-part_at s a n = cond (has_bytes s a n) (Bytes (record { 0 = a / 8 }) (record { 0 = a / 8 + n })) Absent
-
--- a part lies inside the first n bytes
-abbrev pub Within : Part → ℕ → Type 0
-Within (Bytes from to) n = (from.0 ≤ to.0) × (to.0 ≤ n)
-Within Absent n = Unit {0}
+-- RULES 1.15: those bytes, or none
+abbrev pub part_at : List ℕ → ℕ → ℕ → Option (List ℕ)
+part_at s a n = cond (has_bytes s a n) (Some (take n (drop (a / 8) s))) None
 
 -- the bytes of a part
-abbrev pub bytes_of : List ℕ → Part → List ℕ
-bytes_of s (Bytes from to) = take (to.0 - from.0) (drop from.0 s)
-bytes_of s Absent = []
+abbrev pub bytes_of : Option (List ℕ) → List ℕ
+bytes_of part = unwrap_or part []

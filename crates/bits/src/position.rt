@@ -8,10 +8,10 @@ pub const LONGEST_STREAM: usize = 16777216;
 // RULES Q2: the last place, in bits: the end of the longest stream.
 pub const LAST_POSITION: usize = 134217728;
 
-#[derive(Clone, Copy)]
+#[derive(Clone, Copy, PartialEq, Eq, PartialOrd, Ord, Debug)]
 pub struct BitPosition(pub usize);
 
-#[derive(Clone, Copy)]
+#[derive(Clone, Copy, PartialEq, Eq, PartialOrd, Ord, Debug)]
 pub struct BytePosition(pub usize);
 
 // The byte in which a bit lies.

@@ -7,28 +7,17 @@ ghost use Rattle.bits.specs.Runs.{ReaderInBounds, RunsInBounds, position_of, rea
 
 use crate::position::{BitPosition, BytePosition, bit_of, byte_of};
 
-// `at` is the Rust's `bit_index`.
+// `at` is the Rust's `bit_index`. A reader goes in by value and comes back beside what is read (DECISIONS bits.3), so no method takes `&mut self`.
 #[derive(Clone, Copy)]
 pub struct Reader {
     pub at: BitPosition,
 }
 
+// What a read gives, and the reader behind it.
 #[derive(Clone, Copy)]
-pub struct ReadBits {
+pub struct Read<T> {
     pub reader: Reader,
-    pub value: u32,
-}
-
-#[derive(Clone, Copy)]
-pub struct Peeked {
-    pub reader: Reader,
-    pub value: bool,
-}
-
-#[derive(Clone, Copy)]
-pub struct Told {
-    pub reader: Reader,
-    pub at: BytePosition,
+    pub value: T,
 }
 
 // A byte of the stream.
@@ -36,7 +25,7 @@ fn byte(s: &[u8], i: usize) -> u64
     requires { i < length s.now }
     ensures { (result ≡ get_or s.now i 0) × (result < 256) }
 {
-    s[i] as u64
+    u64::from(s[i])
 }
 
 // A byte of the stream, and 0 past its end.
@@ -99,45 +88,39 @@ impl Reader {
     }
 
     // Whether count more bits are there.
-    pub fn has(self, s: &[u8], count: usize) -> Peeked
+    pub fn has(self, s: &[u8], count: usize) -> Read<bool>
         requires { length s.now ≤ longest_stream }
         ensures { (result.value ≡ has s.now (position_of self) count) × (result.reader ≡ self) }
     {
         let at = self.at.0;
         let end = bit_of(BytePosition(s.len())).0;
-        if end < at {
-            return Peeked {
-                reader: self,
-                value: count == 0,
-            };
-        }
-        let left = end - at;
-        Peeked {
+        let left = end.saturating_sub(at);
+        Read {
             reader: self,
             value: count <= left,
         }
     }
 
     // Whether no bit is left.
-    pub fn has_ended(self, s: &[u8]) -> Peeked
+    pub fn has_ended(self, s: &[u8]) -> Read<bool>
         requires { length s.now ≤ longest_stream }
         ensures { (result.value ≡ leb (length s.now * 8) (position_of self)) × (result.reader ≡ self) }
     {
         let at = self.at.0;
         let end = bit_of(BytePosition(s.len())).0;
-        Peeked {
+        Read {
             reader: self,
             value: end <= at,
         }
     }
 
     // Up to 32 bits, the highest first; 0 and no advance where fewer are left.
-    pub fn read(self, s: &[u8], count: usize) -> ReadBits
+    pub fn read(self, s: &[u8], count: usize) -> Read<u32>
         requires { ReaderInBounds s.now self }
         ensures { RunsInBounds (read_at_most32 count) s.now self result.value result.reader }
     {
         if 32 < count {
-            return ReadBits {
+            return Read {
                 reader: self,
                 value: 0,
             };
@@ -145,7 +128,7 @@ impl Reader {
         let at = self.at.0;
         let to = at + count;
         if bit_of(BytePosition(s.len())).0 < to {
-            return ReadBits {
+            return Read {
                 reader: self,
                 value: 0,
             };
@@ -153,7 +136,7 @@ impl Reader {
         let b = byte_of(self.at).0;
         let w = window(s, b) >> (40 - at % 8 - count);
         let value = w - ((w >> count) << count);
-        ReadBits {
+        Read {
             reader: Reader {
                 at: BitPosition(to),
             },
@@ -162,7 +145,7 @@ impl Reader {
     }
 
     // One bit, as `read` gives it for a count of 1.
-    pub fn read_bit(self, s: &[u8]) -> ReadBits
+    pub fn read_bit(self, s: &[u8]) -> Read<u32>
         requires { ReaderInBounds s.now self }
         ensures { RunsInBounds (bits 1) s.now self result.value result.reader }
     {
@@ -170,14 +153,14 @@ impl Reader {
         let b = byte_of(self.at).0;
         if b < s.len() {
             let bit = (s[b] >> (7 - at % 8)) % 2;
-            return ReadBits {
+            return Read {
                 reader: Reader {
                     at: BitPosition(at + 1),
                 },
-                value: bit as u32,
+                value: u32::from(bit),
             };
         }
-        ReadBits {
+        Read {
             reader: self,
             value: 0,
         }
@@ -228,13 +211,13 @@ impl Reader {
     }
 
     // Whether count bits are there and not all 0, with no advance.
-    pub fn peek_non_zero(self, s: &[u8], count: usize) -> Peeked
+    pub fn peek_non_zero(self, s: &[u8], count: usize) -> Read<bool>
         requires { ReaderInBounds s.now self }
         ensures runs_in_bounds { RunsInBounds (non_zero count) s.now self result.value result.reader }
         ensures reader_value { result.reader ≡ self }
     {
         let peeked = self.read(s, count);
-        Peeked {
+        Read {
             reader: self,
             value: peeked.value != 0,
         }
@@ -252,13 +235,12 @@ impl Reader {
     }
 
     // The byte of the place.
-    pub fn tell(self) -> Told
-        ensures { (result.at.0 ≡ position_of self / 8) × (result.reader ≡ self) }
+    pub fn tell(self) -> Read<BytePosition>
+        ensures { (result.value.0 ≡ position_of self / 8) × (result.reader ≡ self) }
     {
-        let at = byte_of(self.at);
-        Told {
+        Read {
             reader: self,
-            at: at,
+            value: byte_of(self.at),
         }
     }
 

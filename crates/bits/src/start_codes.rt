@@ -5,14 +5,7 @@ ghost use Rattle.bits.specs.Programs.{next_start_code, find_start_code, run};
 ghost use Rattle.bits.specs.Runs.{ReaderInBounds, RunsInBounds, position_of};
 
 use crate::position::{BytePosition, bit_of};
-use crate::reader::Reader;
-
-// code: the byte behind 00 00 01, or -1.
-#[derive(Clone, Copy)]
-pub struct StartCode {
-    pub reader: Reader,
-    pub code: i32,
-}
+use crate::reader::{Read, Reader};
 
 // RULES 1.9: whether 00 00 01, with which a start code begins, stands at the byte b.
 fn has_prefix(s: &[u8], b: usize) -> bool
@@ -24,41 +17,41 @@ fn has_prefix(s: &[u8], b: usize) -> bool
 
 impl Reader {
     // To behind the next start code.
-    pub fn next_start_code(self, s: &[u8]) -> StartCode
+    pub fn next_start_code(self, s: &[u8]) -> Read<i32>
         requires { ReaderInBounds s.now self }
-        ensures runs_in_bounds { RunsInBounds next_start_code s.now self result.code result.reader }
-        ensures code_bound { nat_abs result.code ≤ 255 }
+        ensures runs_in_bounds { RunsInBounds next_start_code s.now self result.value result.reader }
+        ensures code_bound { nat_abs result.value ≤ 255 }
     {
-        let mut b = self.align().tell().at.0;
-        while b + 5 <= s.len() {
+        let from = self.align().tell().value.0;
+        let end = s.len().saturating_sub(4);
+        for b in from..end {
             if has_prefix(s, b) {
-                return StartCode {
+                return Read {
                     reader: Reader {
                         at: bit_of(BytePosition(b + 4)),
                     },
-                    code: s[b + 3] as i32,
+                    value: i32::from(s[b + 3]),
                 };
             }
-            b += 1;
         }
-        StartCode {
+        Read {
             reader: Reader {
-                at: bit_of(BytePosition(b)),
+                at: bit_of(BytePosition(from.max(end))),
             },
-            code: -1,
+            value: -1,
         }
     }
 
     // To behind the next start code that is `code`; where there is none, to the end.
-    pub fn find_start_code(self, s: &[u8], code: i32) -> StartCode
+    pub fn find_start_code(self, s: &[u8], code: i32) -> Read<i32>
         requires { ReaderInBounds s.now self }
-        ensures runs_in_bounds { RunsInBounds (find_start_code code) s.now self result.code result.reader }
-        ensures code_bound { nat_abs result.code ≤ 255 }
+        ensures runs_in_bounds { RunsInBounds (find_start_code code) s.now self result.value result.reader }
+        ensures code_bound { nat_abs result.value ≤ 255 }
     {
         let mut reader = self;
         loop {
             let found = reader.next_start_code(s);
-            let current = found.code;
+            let current = found.value;
             if current == code {
                 return found;
             }
@@ -70,15 +63,15 @@ impl Reader {
     }
 
     // Whether the start code `code` lies ahead: the code, or -1, with no advance.
-    pub fn has_start_code(self, s: &[u8], code: i32) -> StartCode
+    pub fn has_start_code(self, s: &[u8], code: i32) -> Read<i32>
         requires { ReaderInBounds s.now self }
-        ensures code_value { (result.code ≡ (run (find_start_code code) s.now (position_of self)).value) × (result.reader ≡ self) }
-        ensures code_bound { nat_abs result.code ≤ 255 }
+        ensures code_value { (result.value ≡ (run (find_start_code code) s.now (position_of self)).value) × (result.reader ≡ self) }
+        ensures code_bound { nat_abs result.value ≤ 255 }
     {
         let found = self.find_start_code(s, code);
-        StartCode {
+        Read {
             reader: self,
-            code: found.code,
+            value: found.value,
         }
     }
 }
