@@ -20,6 +20,19 @@ pub struct Read<T> {
     pub value: T,
 }
 
+impl<T> Read<T> {
+    // What f makes of the value, beside the same reader.
+    pub fn map<U, F: FnOnce(T) -> U>(self, f: F) -> Read<U>
+        requires { F.pre f self.value }
+        ensures { F.post f self.value result.value × (result.reader ≡ self.reader) }
+    {
+        Read {
+            reader: self.reader,
+            value: f(self.value),
+        }
+    }
+}
+
 // A byte of the stream.
 fn byte(s: &[u8], i: usize) -> u64
     requires { i < length s.now }

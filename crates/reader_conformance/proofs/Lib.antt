@@ -1,5 +1,4 @@
 pub mod AllAgree
-pub mod Defaults
 pub mod CursorInList
 pub mod Replays
 pub mod Scores

@@ -1,22 +1,17 @@
 -- What a contract says of a run that is computed.
 use mathlib.Core.Path.{◌≡◌, ap, sym, ◌∙◌}
 use mathlib.Core.List.{List}
-use Prim.Native.Nat.{ℕ, ◌≤◌}
+use Prim.Native.Nat.{ℕ}
 use lib.IntN.{ℤ}
-use lib.ListN.{length}
 use mir.Syntax.{w32}
 use mir.Val.{of_z, to_z}
-use Rattle.bits.specs.Bounds.{longest_stream}
 use Rattle.bits.specs.Programs.{Prog, RunResult, run}
-use Rattle.bits.specs.Runs.{ReaderInBounds, RunsInBounds, reader_at}
-use Rattle.bits.proofs.Rules.{r-value, first-inside}
+use Rattle.bits.specs.Runs.{RunsInBounds, reader_at}
+use Rattle.bits.proofs.Rules.{r-value}
 use Rattle.bits.specs.declared.reader.Reader.{Reader}
 
--- a reader at the beginning of a stream, and what is read there
+-- what a reader at the beginning of a stream reads there
 module _ {s : List ℕ} {from : Reader} (begins : from ≡ reader_at 0) where
-  pub inside-at : length s ≤ longest_stream → ReaderInBounds s from
-  inside-at h = first-inside begins h
-
   pub value-at : {A : Type 0} {p : Prog A} {v : A} {to : Reader} → RunsInBounds p s from v to → v ≡ (run p s 0).value
   value-at h = sym (r-value (rw begins at h.runs))
 

@@ -1,13 +1,13 @@
 -- What the operations of the list reader.bin give, as the numbers that the list holds.
-use Rattle.std.specs.Prelude.{ℕ, ◌+◌, ◌-◌, ◌*◌, ◌/◌, Bool, true, false, cond, List, [], ◌∷◌, leb, ltb, length, get_or}
+use Rattle.std.specs.Prelude.{ℕ, ◌+◌, ◌-◌, ◌*◌, ◌/◌, Bool, cond, List, [], ◌∷◌, leb, ltb, length, get_or, Option, Some, None}
 use Rattle.std.specs.Int.{w32}
 use Rattle.std.proofs.Common.{of_z, to_z}
 use Rattle.bits.specs.Bounds.{longest_stream}
 use Rattle.bits.specs.Bits.{has, boundary, equal_bytes, part_at}
 use Rattle.bits.specs.Programs.{run, bits, read_at_most32, skips, non_zero, next_start_code, find_start_code}
-use Rattle.bits.specs.declared.bytes.Part.{Part}
-use Rattle.bits.specs.declared.bytes.Part.TheVariants.{Bytes, Absent}
-use Rattle.reader_conformance.specs.declared.reader_operations.{Operation.Operation, OperationResult.OperationResult}
+use Rattle.bits.specs.Runs.{reader_at}
+use Rattle.bits.specs.declared.reader.Read.{Read as ReadAnswer}
+use Rattle.reader_conformance.specs.declared.reader_operations.Operation.{Operation}
 use Rattle.reader_conformance.specs.declared.reader_operations.Operation.TheVariants.{New, Read, ReadBit, Has, HasEnded, Skip, Align, Tell, Seek}
 use Rattle.reader_conformance.specs.declared.reader_operations.Operation.TheVariants.{SkipBytes, NextStartCode, FindStartCode, HasStartCode}
 use Rattle.reader_conformance.specs.declared.reader_operations.Operation.TheVariants.{PeekNonZero, PeekBytes, Unknown}
@@ -26,24 +26,24 @@ abbrev pub flag : Bool → ℕ
 flag b = cond b 1 0
 
 -- an operation answers v, and ends at the place a
-abbrev pub gives : ℕ → ℕ → OperationResult
-gives v a = record { reader = record { at = record { 0 = a } }; answer = v; known = true }
+abbrev pub gives : ℕ → ℕ → ReadAnswer (Option ℕ)
+gives v a = record { reader = reader_at a; value = Some v }
 
 -- it is no operation, or has an argument that it does not take
-abbrev pub unknown : ℕ → OperationResult
-unknown a = record { reader = record { at = record { 0 = a } }; answer = 0; known = false }
+abbrev pub unknown : ℕ → ReadAnswer (Option ℕ)
+unknown a = record { reader = reader_at a; value = None }
 
--- a peek answers one more than the bytes of its part, or 0 where they are absent
-abbrev pub peek : Part → ℕ
-peek (Bytes from to) = to.0 - from.0 + 1
-peek Absent = 0
+-- a peek answers one more than the bytes that it gives, or 0 where they are absent
+abbrev pub peek : Option (List ℕ) → ℕ
+peek (Some bytes) = length bytes + 1
+peek None = 0
 
 -- the bytes from the place a on that equal x are passed
-abbrev pub passed : List ℕ → ℕ → ℕ → OperationResult
+abbrev pub passed : List ℕ → ℕ → ℕ → ReadAnswer (Option ℕ)
 passed s x b = gives (equal_bytes s x b (length s - b)) ((b + equal_bytes s x b (length s - b)) * 8)
 
 -- RULES 1.2 to 1.7: what an operation with the argument x gives on the stream s at the place a
-unfoldable pub outcome : Operation → ℕ → List ℕ → ℕ → OperationResult
+unfoldable pub outcome : Operation → ℕ → List ℕ → ℕ → ReadAnswer (Option ℕ)
 outcome New x s a = gives 0 0
 outcome Read x s a = gives (run (read_at_most32 x) s a).value (run (read_at_most32 x) s a).at
 outcome ReadBit x s a = gives (run (bits 1) s a).value (run (bits 1) s a).at

@@ -9,14 +9,13 @@ ghost use Rattle.reader_conformance.specs.ScoreOfSomeList.{ScoreOfSomeList};
 ghost use Rattle.bits.specs.Bounds.{longest_stream};
 ghost use Rattle.bits.specs.Runs.{position_of};
 
-use crate::reader_operations::{OperationResult, operate, operation_of};
+use crate::reader_operations::{Operation, operate, operation_of};
 use answer_lists::bytes::same;
 use answer_lists::load::{load, space};
 use answer_lists::numbers::number_at;
 use answer_lists::tally::Tally;
-use bits::bytes::Part;
 use bits::position::LONGEST_STREAM;
-use bits::reader::Reader;
+use bits::reader::{Read, Reader};
 use std::io::Result;
 use std::rt::Files;
 
@@ -35,88 +34,67 @@ pub struct CaseResult {
     pub agrees: bool,
 }
 
-// The operations behind whose cases bytes stand.
-const NEW: u8 = 0;
-
-const PEEK_BYTES: u8 = 14;
-
-// The operation beside which the next eight bits are asked for.
-const READ: u8 = 1;
-
-// How many bytes stand behind a case.
-fn bytes_after(number: u8, argument: u32, answer: u32) -> usize
-    ensures { result ≡ bytes_after number argument answer }
+// How many bytes stand behind a case: a new stream, or what a peek gave.
+fn bytes_after(op: Operation, argument: u32, answer: u32) -> usize
+    ensures { result ≡ bytes_after op argument answer }
 {
-    if number == NEW {
-        return argument as usize;
+    match op {
+        Operation::New => argument as usize,
+        Operation::PeekBytes => answer.saturating_sub(1) as usize,
+        _ => 0,
     }
-    if number == PEEK_BYTES {
-        if answer == 0 {
-            return 0;
-        }
-        return (answer - 1) as usize;
-    }
-    0
 }
 
 // Whether ours gave the Rust's answer, and ended at its place.
-fn agrees(ours: OperationResult, answer: u32, position: u32) -> bool
+fn agrees(ours: Read<Option<u32>>, answer: u32, position: u32) -> bool
     ensures { result ≡ agree ours answer position }
 {
     let at = ours.reader.position().0;
-    ours.known & (ours.answer == answer) & (at == position as usize)
+    (ours.value == Some(answer)) & (at == position as usize)
 }
 
 // Whether a peek gave the bytes that stand behind its case.
-fn bytes_agree(number: u8, bytes: &[u8], s: &[u8], reader: Reader, argument: u32) -> bool
-    ensures { result ≡ bytes_agree number bytes.now s.now (position_of reader) argument }
+fn bytes_agree(op: Operation, bytes: &[u8], s: &[u8], reader: Reader, argument: u32) -> bool
+    ensures { result ≡ bytes_agree op bytes.now s.now (position_of reader) argument }
 {
-    if number == PEEK_BYTES {
-        let part = reader.peek_bytes(s, argument as usize).part;
-        let Part::Bytes(first, end) = part else {
-            return same(bytes, &s[0..0]);
-        };
-        let from = first.0;
-        let to = end.0;
-        return same(bytes, &s[from..to]);
+    match op {
+        Operation::PeekBytes => {
+            let peeked = reader.peek_bytes(s, argument as usize).value;
+            same(bytes, peeked.unwrap_or(&[]))
+        }
+        _ => true,
     }
-    true
 }
 
 // Whether has_eight and next_eight give what the Rust gave at the same place: that the two bytes are there beside its peek of 2, and the bits beside its
 // read of 8.
-fn eight_agrees(number: u8, argument: u32, answer: u32, s: &[u8], reader: Reader) -> bool
-    ensures { result ≡ next_byte_agrees number argument answer s.now (position_of reader) }
+fn eight_agrees(op: Operation, argument: u32, answer: u32, s: &[u8], reader: Reader) -> bool
+    ensures { result ≡ next_byte_agrees op argument answer s.now (position_of reader) }
 {
     let there = reader.has_eight(s);
-    if (number == PEEK_BYTES) & (argument == 2) {
-        return if there { answer == 3 } else { answer == 0 };
+    match op {
+        Operation::PeekBytes if argument == 2 => answer == if there { 3 } else { 0 },
+        Operation::Read if there && argument == 8 => reader.next_eight(s) == answer,
+        _ => true,
     }
-    if there & (number == READ) & (argument == 8) {
-        return reader.next_eight(s) == answer;
-    }
-    true
 }
 
 // On to the next case: a new stream stands from start up to end, behind its own.
-fn next(along: CaseCursor, number: u8, start: usize, end: usize, reader: Reader) -> CaseCursor
-    ensures { result ≡ next_case along number start end reader }
+fn next(along: CaseCursor, op: Operation, start: usize, end: usize, reader: Reader) -> CaseCursor
+    ensures { result ≡ next_case along op start end reader }
 {
-    if number == NEW {
-        return CaseCursor {
+    match op {
+        Operation::New => CaseCursor {
             at: end,
             from: start,
             to: end,
-            reader: reader,
-        };
-    }
-    let from = along.from;
-    let to = along.to;
-    CaseCursor {
-        at: end,
-        from: from,
-        to: to,
-        reader: reader,
+            reader,
+        },
+        _ => CaseCursor {
+            at: end,
+            reader,
+            ..along
+        },
     }
 }
 
@@ -124,17 +102,11 @@ fn next(along: CaseCursor, number: u8, start: usize, end: usize, reader: Reader)
 fn cut(list: &[u8], along: CaseCursor) -> CaseResult
     ensures { result ≡ cut_off list.now along }
 {
-    let from = along.from;
-    let to = along.to;
-    let reader = along.reader;
-    let end = CaseCursor {
-        at: list.len(),
-        from: from,
-        to: to,
-        reader: reader,
-    };
     CaseResult {
-        along: end,
+        along: CaseCursor {
+            at: list.len(),
+            ..along
+        },
         agrees: false,
     }
 }
@@ -149,28 +121,24 @@ fn take_case(list: &[u8], along: CaseCursor) -> CaseResult
     if list.len() - at < 13 {
         return cut(list, along);
     }
-    let number = list[at];
+    let op = operation_of(list[at]);
     let argument = number_at(list, at + 1);
     let answer = number_at(list, at + 5);
     let position = number_at(list, at + 9);
     let start = at + 13;
-    let more = bytes_after(number, argument, answer);
+    let more = bytes_after(op, argument, answer);
     if list.len() - start < more {
         return cut(list, along);
     }
     let end = start + more;
-    let from = along.from;
-    let to = along.to;
     let reader = along.reader;
-    let stream = &list[from..to];
-    let ours = operate(stream, reader, operation_of(number), argument);
-    let same = bytes_agree(number, &list[start..end], stream, reader, argument);
-    let eight = eight_agrees(number, argument, answer, stream, reader);
-    let agree = agrees(ours, answer, position) & same & eight;
-    let after = next(along, number, start, end, ours.reader);
+    let stream = &list[along.from..along.to];
+    let ours = operate(stream, reader, op, argument);
+    let same = bytes_agree(op, &list[start..end], stream, reader, argument);
+    let eight = eight_agrees(op, argument, answer, stream, reader);
     CaseResult {
-        along: after,
-        agrees: agree,
+        along: next(along, op, start, end, ours.reader),
+        agrees: agrees(ours, answer, position) & same & eight,
     }
 }
 
@@ -188,25 +156,22 @@ pub fn score(list: &[u8]) -> Tally
     let cases = number_at(list, 0);
     if list.len() < cases as usize {
         return Tally {
-            cases: cases,
+            cases,
             agreed: 0,
             first: Some(1),
         };
     }
-    let reader = Reader::new();
     let mut along = CaseCursor {
         at: 4,
         from: 4,
         to: 4,
-        reader: reader,
+        reader: Reader::new(),
     };
     let mut tally = none;
-    let mut left = cases;
-    while 0 < left {
-        let s = take_case(list, along);
-        along = s.along;
-        tally = tally.counted(s.agrees);
-        left -= 1;
+    for _ in 0..cases {
+        let case = take_case(list, along);
+        along = case.along;
+        tally = tally.counted(case.agrees);
     }
     if along.at < list.len() {
         return tally.counted(false);

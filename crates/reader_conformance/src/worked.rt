@@ -106,6 +106,7 @@ pub fn average_cases() -> Averages
 }
 
 // RULES W.7.
+#[tactic(auto, unfolding(laws::specs::Signed::half_toward_zero))]
 pub fn chroma_case() -> i32
     ensures { result ≡ neg_ℤ (pos 1) }
 {
