@@ -10,13 +10,13 @@ use lib.Dec.{T, eqb, ltb, eqb→eq}
 use lib.ListN.{length, get_or, take, drop}
 use lib.IntN.{ℤ, pos}
 use Rattle.bits.proofs.Bits.{bits_lt}
-use Rattle.bits.proofs.Rules.{r-done, f-on, f-end, reading, on-inside}
+use Rattle.bits.proofs.Rules.{r-done, f-on, f-end, reading}
 use Rattle.bits.specs.Runs.{ReaderInBounds, RunsInBounds, position_of, advanced_by}
 use Rattle.bits.specs.declared.reader.Reader.{Reader}
 use Rattle.codes.specs.Codes.{macroblock_address_increment, dct_coeff}
-use Rattle.codes.specs.DecodingTables.{DecodingTables, IsMergedTable, ValidMergedTable, tables_length}
+use Rattle.codes.specs.DecodingTables.{DecodingTables, IsMergedTable}
 use Rattle.codes.proofs.Led.{Same, led-ends, look-agrees, look-further}
-use Rattle.codes.proofs.Parts.{Natural, places, natural-here, natural-table}
+use Rattle.codes.proofs.Parts.{Natural, places, natural-here}
 use Rattle.code_lookup.specs.ByteTables.{dct_coeff_lookup, macroblock_address_increment_lookup}
 use Rattle.laws.proofs.Tables.{every, at}
 use Rattle.bits.specs.Bits.{bit_at, bits_at, read_at, after_read}
@@ -147,12 +147,3 @@ module _ {index : List ℤ} {value : List ℕ} {code : Prog ℕ} {s : List ℕ} 
         ≡ unfinished k
         → RunsInBounds code s from v to
     further-code {k} m r q = reading i (f-end (f-on 8 m (g.longer k q).runs) (r index value (natural-here l p)).runs)
-
-module _ {a n : ℕ} {index : List ℤ} {value : List ℕ} {code : Prog ℕ} (p : Natural a n index value code) where
-  -- what the walk from there asks
-  pub further-asks : {s t : List ℕ} {from mid : Reader} → DecodingTables t → ReaderInBounds s from → position_of from / 8 + 2 ≤ length s
-      → mid ≡ advanced_by 8 from
-      → (k : ℕ) → k + 1 < n → ReaderInBounds s mid × (((a ≤ a + n) × (a + n ≤ tables_length)) × (ValidMergedTable (take n (drop a t)) × (k + 1 < n)))
-  further-asks l i two e k h =
-      let w = natural-table l p in
-      (on-inside 8 i (omega arith) e, (w.0, (w.1, h)))

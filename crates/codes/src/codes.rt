@@ -11,8 +11,8 @@ use crate::lent::{
     CHROMINANCE, COEFFICIENT, INCREMENT, LUMINANCE, PATTERN, SCAN, TYPE_B, TYPE_I, TYPE_P, Tables,
     VECTOR,
 };
-use crate::walk::{Vlc, VlcUint, read_vlc, read_vlc_uint};
-use bits::reader::Reader;
+use crate::walk::{read_vlc, read_vlc_uint};
+use bits::reader::{Read, Reader};
 use code_lookup::{lookup_dct_coeff, lookup_macroblock_address_increment};
 
 // A code of a table whose values are natural numbers, from a pair of entries on: the table begins at `at`, and `end` is behind it.
@@ -23,7 +23,7 @@ fn read_natural_from(
     at: usize,
     end: usize,
     pair: usize,
-) -> VlcUint
+) -> Read<u32>
     requires reader_in_bounds { ReaderInBounds s.now reader }
     requires at_le_end { (at ≤ end) × (end ≤ tables_length) }
     requires valid_merged_table { ValidMergedTable (take (end - at) (drop at tables.now)) }
@@ -36,7 +36,7 @@ fn read_natural_from(
 }
 
 // The whole code.
-fn read_natural(s: &[u8], reader: Reader, tables: &Tables, at: usize, end: usize) -> VlcUint
+fn read_natural(s: &[u8], reader: Reader, tables: &Tables, at: usize, end: usize) -> Read<u32>
     requires reader_in_bounds { ReaderInBounds s.now reader }
     requires at_le_end { (at ≤ end) × (end ≤ tables_length) }
     requires valid_merged_table { ValidMergedTable (take (end - at) (drop at tables.now)) }
@@ -47,18 +47,18 @@ fn read_natural(s: &[u8], reader: Reader, tables: &Tables, at: usize, end: usize
 }
 
 // A code as it was looked up: 16 × value + length.
-fn found(reader: Reader, entry: u32) -> VlcUint
+fn found(reader: Reader, entry: u32) -> Read<u32>
     requires { position_of reader ≤ last_position }
     ensures { (result.value ≡ entry / 16) × (result.reader ≡ advanced_by (entry % 16) reader) }
 {
-    VlcUint {
+    Read {
         reader: reader.advanced_by((entry % 16) as usize),
         value: entry / 16,
     }
 }
 
 // An increment of the macroblock address: 1 to 33, 34 for stuffing, 35 for the escape.
-pub fn read_macroblock_address_increment(s: &[u8], reader: Reader, tables: &Tables) -> VlcUint
+pub fn read_macroblock_address_increment(s: &[u8], reader: Reader, tables: &Tables) -> Read<u32>
     requires reader_in_bounds { ReaderInBounds s.now reader }
     requires decoding_tables { DecodingTables tables.now }
     ensures { RunsInBounds macroblock_address_increment s.now reader result.value result.reader }
@@ -79,8 +79,9 @@ pub fn read_macroblock_address_increment(s: &[u8], reader: Reader, tables: &Tabl
     read_natural(s, reader, tables, INCREMENT, TYPE_I)
 }
 
+// The readers from here on differ in their table alone, and each is one call: a function for each, since its clause is its table's program.
 // The type of a macroblock of an I picture, as flags.
-pub fn read_macroblock_type_intra(s: &[u8], reader: Reader, tables: &Tables) -> VlcUint
+pub fn read_macroblock_type_intra(s: &[u8], reader: Reader, tables: &Tables) -> Read<u32>
     requires reader_in_bounds { ReaderInBounds s.now reader }
     requires decoding_tables { DecodingTables tables.now }
     ensures { RunsInBounds macroblock_type_intra s.now reader result.value result.reader }
@@ -89,7 +90,7 @@ pub fn read_macroblock_type_intra(s: &[u8], reader: Reader, tables: &Tables) -> 
 }
 
 // Of a P picture.
-pub fn read_macroblock_type_predictive(s: &[u8], reader: Reader, tables: &Tables) -> VlcUint
+pub fn read_macroblock_type_predictive(s: &[u8], reader: Reader, tables: &Tables) -> Read<u32>
     requires reader_in_bounds { ReaderInBounds s.now reader }
     requires decoding_tables { DecodingTables tables.now }
     ensures { RunsInBounds macroblock_type_predictive s.now reader result.value result.reader }
@@ -98,7 +99,7 @@ pub fn read_macroblock_type_predictive(s: &[u8], reader: Reader, tables: &Tables
 }
 
 // Of a B picture.
-pub fn read_macroblock_type_b(s: &[u8], reader: Reader, tables: &Tables) -> VlcUint
+pub fn read_macroblock_type_b(s: &[u8], reader: Reader, tables: &Tables) -> Read<u32>
     requires reader_in_bounds { ReaderInBounds s.now reader }
     requires decoding_tables { DecodingTables tables.now }
     ensures { RunsInBounds macroblock_type_b s.now reader result.value result.reader }
@@ -107,7 +108,7 @@ pub fn read_macroblock_type_b(s: &[u8], reader: Reader, tables: &Tables) -> VlcU
 }
 
 // The pattern of coded blocks.
-pub fn read_code_block_pattern(s: &[u8], reader: Reader, tables: &Tables) -> VlcUint
+pub fn read_code_block_pattern(s: &[u8], reader: Reader, tables: &Tables) -> Read<u32>
     requires reader_in_bounds { ReaderInBounds s.now reader }
     requires decoding_tables { DecodingTables tables.now }
     ensures { RunsInBounds code_block_pattern s.now reader result.value result.reader }
@@ -116,7 +117,7 @@ pub fn read_code_block_pattern(s: &[u8], reader: Reader, tables: &Tables) -> Vlc
 }
 
 // A code of a motion vector: -16 to 16.
-pub fn read_motion(s: &[u8], reader: Reader, tables: &Tables) -> Vlc
+pub fn read_motion(s: &[u8], reader: Reader, tables: &Tables) -> Read<i32>
     requires reader_in_bounds { ReaderInBounds s.now reader }
     requires decoding_tables { DecodingTables tables.now }
     ensures { RunsInBounds motion s.now reader result.value result.reader }
@@ -126,7 +127,7 @@ pub fn read_motion(s: &[u8], reader: Reader, tables: &Tables) -> Vlc
 }
 
 // The size of a DC differential.
-pub fn read_dct_size_luminance(s: &[u8], reader: Reader, tables: &Tables) -> VlcUint
+pub fn read_dct_size_luminance(s: &[u8], reader: Reader, tables: &Tables) -> Read<u32>
     requires reader_in_bounds { ReaderInBounds s.now reader }
     requires decoding_tables { DecodingTables tables.now }
     ensures { RunsInBounds dct_size_luminance s.now reader result.value result.reader }
@@ -135,7 +136,7 @@ pub fn read_dct_size_luminance(s: &[u8], reader: Reader, tables: &Tables) -> Vlc
 }
 
 // The same for Cb and Cr.
-pub fn read_dct_size_chrominance(s: &[u8], reader: Reader, tables: &Tables) -> VlcUint
+pub fn read_dct_size_chrominance(s: &[u8], reader: Reader, tables: &Tables) -> Read<u32>
     requires reader_in_bounds { ReaderInBounds s.now reader }
     requires decoding_tables { DecodingTables tables.now }
     ensures { RunsInBounds dct_size_chrominance s.now reader result.value result.reader }
@@ -144,7 +145,7 @@ pub fn read_dct_size_chrominance(s: &[u8], reader: Reader, tables: &Tables) -> V
 }
 
 // A coefficient's code without its sign: 256 × run + level, or the escape.
-pub fn read_dct_coeff(s: &[u8], reader: Reader, tables: &Tables) -> VlcUint
+pub fn read_dct_coeff(s: &[u8], reader: Reader, tables: &Tables) -> Read<u32>
     requires reader_in_bounds { ReaderInBounds s.now reader }
     requires decoding_tables { DecodingTables tables.now }
     ensures { RunsInBounds dct_coeff s.now reader result.value result.reader }

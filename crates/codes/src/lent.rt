@@ -41,7 +41,7 @@ pub fn zig_zag_position(tables: &Tables, n: usize) -> usize
     requires n_bound { n < 64 }
     ensures { result ≡ get_or zig_zag n 0 }
 {
-    tables[SCAN + n] as usize
+    usize::from(tables[SCAN + n])
 }
 
 pub fn premultiplier(tables: &Tables, position: usize) -> i32
@@ -49,7 +49,7 @@ pub fn premultiplier(tables: &Tables, position: usize) -> i32
     requires position_bound { position < 64 }
     ensures { result ≡ get_or premultiplier_matrix position (pos 0) }
 {
-    tables[PREMULTIPLIERS + position] as i32
+    i32::from(tables[PREMULTIPLIERS + position])
 }
 
 // The entry at this place of the matrix for intra blocks, or of the other.

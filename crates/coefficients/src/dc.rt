@@ -4,10 +4,9 @@ ghost use Rattle.bits.specs.Runs.{ReaderInBounds, RunsInBounds};
 ghost use Rattle.codes.specs.DecodingTables.{DecodingTables};
 ghost use Rattle.coefficients.specs.Dcs.{added, dc_difference, dc_in_range, dc_size};
 
-use bits::reader::Reader;
+use bits::reader::{Read, Reader};
 use codes::codes::{read_dct_size_chrominance, read_dct_size_luminance};
 use codes::lent::Tables;
-use codes::walk::VlcUint;
 
 #[derive(Clone, Copy)]
 pub struct DcDifference {
@@ -16,7 +15,7 @@ pub struct DcDifference {
 }
 
 // How many bits the differential has.
-fn read_dc_size(s: &[u8], reader: Reader, tables: &Tables, luminance: bool) -> VlcUint
+fn read_dc_size(s: &[u8], reader: Reader, tables: &Tables, luminance: bool) -> Read<u32>
     requires reader_in_bounds { ReaderInBounds s.now reader }
     requires decoding_tables { DecodingTables tables.now }
     ensures { RunsInBounds (dc_size luminance) s.now reader result.value result.reader }

@@ -7,13 +7,12 @@ ghost use Rattle.picture_state.specs.State.{zeroed, with_is_set, dc_reset};
 ghost use Rattle.macroblock_head.specs.Heads.{macroblock_type, scale, vector, forward, backward, vectors, flagged, vectors_reset, head, pattern};
 ghost use Rattle.macroblock_head.specs.Promises.{PossibleMotions};
 
-use bits::reader::Reader;
+use bits::reader::{Read, Reader};
 use codes::codes::{
     read_code_block_pattern, read_macroblock_type_b, read_macroblock_type_intra,
     read_macroblock_type_predictive,
 };
 use codes::lent::Tables;
-use codes::walk::VlcUint;
 use motion::vector::decode_motion_vector;
 use picture_state::flags::flag;
 use picture_state::types::{Motion, Slice};
@@ -31,7 +30,7 @@ struct MotionRead {
 }
 
 // RULES 7.13: the macroblock type, by the table of the picture's type.
-pub fn read_macroblock_type(s: &[u8], reader: Reader, tables: &Tables, picture_type: u32) -> VlcUint
+pub fn read_macroblock_type(s: &[u8], reader: Reader, tables: &Tables, picture_type: u32) -> Read<u32>
     requires reader_in_bounds { ReaderInBounds s.now reader }
     requires decoding_tables { DecodingTables tables.now }
     ensures { RunsInBounds (macroblock_type picture_type) s.now reader result.value result.reader }
@@ -230,7 +229,7 @@ pub fn read_head(
 }
 
 // RULES 7.16: read with flag 2; else 63 for an intra macroblock, and 0 for any other.
-pub fn read_pattern(s: &[u8], reader: Reader, tables: &Tables, t: u32) -> VlcUint
+pub fn read_pattern(s: &[u8], reader: Reader, tables: &Tables, t: u32) -> Read<u32>
     requires reader_in_bounds { ReaderInBounds s.now reader }
     requires decoding_tables { DecodingTables tables.now }
     ensures { RunsInBounds (pattern t) s.now reader result.value result.reader }
@@ -239,7 +238,7 @@ pub fn read_pattern(s: &[u8], reader: Reader, tables: &Tables, t: u32) -> VlcUin
         return read_code_block_pattern(s, reader, tables);
     }
     if flag(t, 1) {
-        return VlcUint { reader, value: 63 };
+        return Read { reader, value: 63 };
     }
-    VlcUint { reader, value: 0 }
+    Read { reader, value: 0 }
 }

@@ -1,9 +1,0 @@
-use Rattle.codes.proofs.Parts.{places, natural-table, natural-code}
-use Rattle.codes.proofs.codes.read_dct_size_chrominance.Statement.{statement}
-use Rattle.codes.proofs.codes.read_dct_size_chrominance.Tie as tie
-
-pub read_dct_size_chrominance_spec : {M : Type 1} → statement M
-read_dct_size_chrominance_spec =
-    tie.close
-    (tie.spec (λ c κs. (c.before.requires.0, natural-table c.before.requires.1 places.chrominance))
-    (λ c. natural-code c.before.before.requires.1 places.chrominance c.read_natural.ensures))
