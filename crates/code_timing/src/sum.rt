@@ -1,11 +1,10 @@
-// The sum of the values of codes that are read one behind the other from the beginning of a stream on, modulo 2^32. A loop for each table, so that the
-// compiler joins its reader into it.
+// The sum of the values of codes that are read one behind the other from the beginning of a stream on, modulo 2^32. The table is a parameter of the
+// loop's type, so that the compiler makes a loop for each and joins its reader into it.
 ghost use Rattle.std.specs.Prelude.{◌≡◌, ◌≤◌, length};
 ghost use Rattle.bits.specs.Bounds.{longest_stream};
 ghost use Rattle.bits.specs.Programs.{run};
-ghost use Rattle.codes.specs.Codes.{dct_coeff, macroblock_address_increment};
 ghost use Rattle.codes.specs.DecodingTables.{DecodingTables};
-ghost use Rattle.code_timing.specs.Sum.{summed, code_sum};
+ghost use Rattle.code_timing.specs.Sum.{summed, code_of, code_sum};
 
 use bits::position::LONGEST_STREAM;
 use bits::reader::Reader;
@@ -14,36 +13,22 @@ use codes::lent::Tables;
 use codes::matrices::{INTRA_QUANT_MATRIX, NON_INTRA_QUANT_MATRIX};
 use tables::tables::tables_with;
 
-fn coefficient_sum(s: &[u8], tables: &Tables, count: usize) -> u64
+// The values of `count` codes of a table: of coefficients for 0, of increments for any other number.
+fn table_sum<const TABLE: u32>(s: &[u8], tables: &Tables, count: usize) -> u64
     requires s_len_bound { length s.now ≤ longest_stream }
     requires decoding_tables { DecodingTables tables.now }
-    ensures { result ≡ (run (summed dct_coeff count 0) s.now 0).value }
+    ensures { result ≡ (run (summed (code_of TABLE) count 0) s.now 0).value }
 {
     let mut reader = Reader::new();
     let mut sum: u64 = 0;
-    let mut k: usize = 0;
-    while k < count {
-        let code = read_dct_coeff(s, reader, tables);
+    for _ in 0..count {
+        let code = if TABLE == 0 {
+            read_dct_coeff(s, reader, tables)
+        } else {
+            read_macroblock_address_increment(s, reader, tables)
+        };
         reader = code.reader;
-        sum = (sum + code.value as u64) % 4294967296;
-        k += 1;
-    }
-    sum
-}
-
-fn increment_sum(s: &[u8], tables: &Tables, count: usize) -> u64
-    requires s_len_bound { length s.now ≤ longest_stream }
-    requires decoding_tables { DecodingTables tables.now }
-    ensures { result ≡ (run (summed macroblock_address_increment count 0) s.now 0).value }
-{
-    let mut reader = Reader::new();
-    let mut sum: u64 = 0;
-    let mut k: usize = 0;
-    while k < count {
-        let code = read_macroblock_address_increment(s, reader, tables);
-        reader = code.reader;
-        sum = (sum + code.value as u64) % 4294967296;
-        k += 1;
+        sum = (sum + u64::from(code.value)) % 4294967296;
     }
     sum
 }
@@ -59,7 +44,7 @@ pub extern "C" fn mpeg1_code_sum(s: &[u8], table: u32, count: usize) -> u64
     }
     let tables = tables_with(&INTRA_QUANT_MATRIX, &NON_INTRA_QUANT_MATRIX);
     if table == 0 {
-        return coefficient_sum(s, &tables, count);
+        return table_sum::<0>(s, &tables, count);
     }
-    increment_sum(s, &tables, count)
+    table_sum::<1>(s, &tables, count)
 }

@@ -15,7 +15,8 @@ use bits::reader::Reader;
 use codes::lent::{Tables, entry, premultiplier, zig_zag_position};
 
 // How a block ended: read to its end; dropped, its run having led past the last place; or its DC value outside -256..255 (number 8).
-#[derive(Clone, Copy)]
+// An enum in the terms of the field, and no Result: a dropped block is no refusal.
+#[derive(Clone, Copy, PartialEq, Eq, Debug)]
 pub enum BlockEnd {
     Complete,
     Dropped,
@@ -70,8 +71,7 @@ fn read_coefficients(
     loop {
         let read = read_coefficient(s, from, tables, n);
         from = read.reader;
-        let coefficient = read.coefficient;
-        let Coefficient::RunLevel { run, level } = coefficient else {
+        let Coefficient::RunLevel { run, level } = read.value else {
             return CoefficientsEnd {
                 reader: from,
                 n,
@@ -87,8 +87,7 @@ fn read_coefficients(
             };
         }
         let position = zig_zag_position(tables, at);
-        let v = premultiplied(tables, q, level, position);
-        values[position] = v;
+        values[position] = premultiplied(tables, q, level, position);
         n = at + 1;
     }
 }
@@ -122,13 +121,11 @@ fn read_intra_block(
     }
     values[0] = dc * 256;
     let last = read_coefficients(s, after, tables, values, q, 1);
-    let from = last.reader;
-    let end = last.end;
     Block {
-        reader: from,
+        reader: last.reader,
         n: last.n,
         predictor: dc,
-        end,
+        end: last.end,
     }
 }
 
@@ -148,18 +145,15 @@ pub fn read_block(
     ensures { RunsInBounds (block q (matrix_of tables.now q.intra) luminance predictor values.old)
         s.now reader (block_read_of values.new result) result.reader }
 {
-    let intra = q.intra;
-    if intra {
+    if q.intra {
         return read_intra_block(s, reader, tables, values, q, luminance, predictor);
     }
     let last = read_coefficients(s, reader, tables, values, q, 0);
-    let from = last.reader;
-    let end = last.end;
     Block {
-        reader: from,
+        reader: last.reader,
         n: last.n,
         predictor,
-        end,
+        end: last.end,
     }
 }
 

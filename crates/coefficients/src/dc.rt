@@ -8,12 +8,6 @@ use bits::reader::{Read, Reader};
 use codes::codes::{read_dct_size_chrominance, read_dct_size_luminance};
 use codes::lent::Tables;
 
-#[derive(Clone, Copy)]
-pub struct DcDifference {
-    pub reader: Reader,
-    pub value: i32,
-}
-
 // How many bits the differential has.
 fn read_dc_size(s: &[u8], reader: Reader, tables: &Tables, luminance: bool) -> Read<u32>
     requires reader_in_bounds { ReaderInBounds s.now reader }
@@ -38,29 +32,24 @@ fn added(size: usize, differential: u32) -> i32
 }
 
 // What the DC value adds to the predictor.
-pub fn read_dc_difference(
-    s: &[u8],
-    reader: Reader,
-    tables: &Tables,
-    luminance: bool,
-) -> DcDifference
+pub fn read_dc_difference(s: &[u8], reader: Reader, tables: &Tables, luminance: bool) -> Read<i32>
     requires reader_in_bounds { ReaderInBounds s.now reader }
     requires decoding_tables { DecodingTables tables.now }
     ensures { RunsInBounds (dc_difference luminance) s.now reader result.value result.reader }
 {
     let code = read_dc_size(s, reader, tables, luminance);
-    let after = code.reader;
     let size = code.value as usize;
     if size == 0 {
-        return DcDifference {
-            reader: after,
+        return Read {
+            reader: code.reader,
             value: 0,
         };
     }
-    let read = after.read(s, size);
-    let end = read.reader;
-    let value = added(size, read.value);
-    DcDifference { reader: end, value }
+    let differential = code.reader.read(s, size);
+    Read {
+        reader: differential.reader,
+        value: added(size, differential.value),
+    }
 }
 
 // Question 8.

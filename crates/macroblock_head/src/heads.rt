@@ -67,8 +67,8 @@ fn read_vector(s: &[u8], reader: Reader, tables: &Tables, m: Motion) -> MotionRe
     let h = decode_motion_vector(s, reader, tables, m.r_size, m.h);
     let v = decode_motion_vector(s, h.reader, tables, m.r_size, m.v);
     let after = v.reader;
-    let across = h.motion;
-    let down = v.motion;
+    let across = h.value;
+    let down = v.value;
     let motion = Motion {
         full_px: m.full_px,
         is_set: m.is_set,

@@ -5,21 +5,9 @@ ghost use Rattle.codes.specs.DecodingTables.{DecodingTables};
 ghost use Rattle.motion.specs.Displacement.{InRange, displacement_from, corrected};
 ghost use Rattle.motion.specs.Vector.{displacement, motion_vector};
 
-use bits::reader::Reader;
+use bits::reader::{Read, Reader};
 use codes::codes::read_motion;
 use codes::lent::Tables;
-
-#[derive(Clone, Copy)]
-pub struct ReadDisplacement {
-    pub reader: Reader,
-    pub value: i32,
-}
-
-#[derive(Clone, Copy)]
-pub struct MotionVector {
-    pub reader: Reader,
-    pub motion: i32,
-}
 
 // The displacement that a code other than 0 and its residual say (RULES 5.4).
 fn displacement(r: u32, m_code: i32, residual: u32) -> i32
@@ -53,27 +41,20 @@ fn corrected(r: u32, motion: i32) -> i32
 }
 
 // The displacement at the reader's place: a code alone where it is 0 or r is 0, else with a residual of r bits (RULES 5.3, 5.4).
-fn read_displacement(s: &[u8], reader: Reader, tables: &Tables, r: u32) -> ReadDisplacement
+fn read_displacement(s: &[u8], reader: Reader, tables: &Tables, r: u32) -> Read<i32>
     requires reader_in_bounds { ReaderInBounds s.now reader }
     requires decoding_tables { DecodingTables tables.now }
     requires r_bound { r ≤ 6 }
     ensures { RunsInBounds (displacement r) s.now reader result.value result.reader }
 {
     let code = read_motion(s, reader, tables);
-    let after = code.reader;
-    let m_code = code.value;
-    if m_code == 0 || r == 0 {
-        return ReadDisplacement {
-            reader: after,
-            value: m_code,
-        };
+    if code.value == 0 || r == 0 {
+        return code;
     }
-    let residual = after.read(s, r as usize);
-    let end = residual.reader;
-    let d = displacement(r, m_code, residual.value);
-    ReadDisplacement {
-        reader: end,
-        value: d,
+    let residual = code.reader.read(s, r as usize);
+    Read {
+        reader: residual.reader,
+        value: displacement(r, code.value, residual.value),
     }
 }
 
@@ -85,18 +66,17 @@ pub fn decode_motion_vector(
     tables: &Tables,
     r: u32,
     motion: i32,
-) -> MotionVector
+) -> Read<i32>
     requires reader_in_bounds { ReaderInBounds s.now reader }
     requires decoding_tables { DecodingTables tables.now }
     requires r_bound { r ≤ 6 }
     requires in_range { InRange 64 motion }
-    ensures { RunsInBounds (motion_vector r motion) s.now reader result.motion result.reader }
+    ensures { RunsInBounds (motion_vector r motion) s.now reader result.value result.reader }
 {
     let d = read_displacement(s, reader, tables, r);
-    let after = d.reader;
     let moved = corrected(r, motion + d.value);
-    MotionVector {
-        reader: after,
-        motion: moved,
+    Read {
+        reader: d.reader,
+        value: moved,
     }
 }

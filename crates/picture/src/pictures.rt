@@ -92,7 +92,7 @@ fn slices_step(
 {
     let found = reader.next_start_code(s);
     let after = found.reader;
-    let code = found.code;
+    let code = found.value;
     if is_slice(code) {
         let w = read_slice(s, after, store, values, tables, g, code as usize, state);
         return after_slice(g, code, w);

@@ -40,7 +40,7 @@ pub fn next_code(s: &[u8], d: State, code: i32) -> State
         return d;
     }
     let found = Reader::from_position(d.position).find_start_code(s, code);
-    searched(d, found.reader, found.code)
+    searched(d, found.reader, found.value)
 }
 
 // RULES 8.3: a second picture start code is found ahead, or the bits end here.
@@ -49,7 +49,7 @@ pub fn is_followed(s: &[u8], reader: Reader) -> bool
     ensures { result ≡ Search.is_followed s.now (position_of reader) }
 {
     let ahead = reader.has_start_code(s, 0);
-    let code = ahead.code;
+    let code = ahead.value;
     if code != -1 {
         return true;
     }

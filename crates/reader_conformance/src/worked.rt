@@ -72,7 +72,7 @@ fn vector_case(s: &[u8], r: u32, motion: i32) -> i32
     ensures { result ≡ (run (motion_vector r motion) s.now 0).value }
 {
     let tables = default_tables();
-    decode_motion_vector(s, Reader::new(), &tables, r, motion).motion
+    decode_motion_vector(s, Reader::new(), &tables, r, motion).value
 }
 
 // RULES W.1 to W.4, each read from a stream.

@@ -20,7 +20,7 @@ abbrev found : tie.After-is_slice → tie.After-next_start_code-found
 found o = o.before.before.before
 
 abbrev code : tie.After-next_start_code-found → ℤ
-code n = n.next_start_code-found.result.code
+code n = n.next_start_code-found.result.value
 
 abbrev test : tie.After-read_slice-w → tie.After-is_slice
 test w = w.before.before.before.before

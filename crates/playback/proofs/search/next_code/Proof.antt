@@ -27,7 +27,7 @@ returns-2 c =
     let h = p.before.before in
     let s = h.before.before in
     let a = s.args in
-    let k = f.find_start_code-found.result.code in
+    let k = f.find_start_code-found.result.value in
     let found = to_z-of_z {w = w32} {z = k} (sfits_of c.before.struct_told-1.given.1.0.1) in
     let same = to_z-of_z {w = w32} {z = a.code} s.ranges.code in
     rw found at c.searched.ensures

@@ -8,6 +8,6 @@ decode_motion_vector-requires-clause-decoding_tables c = rw c.default_tables-tab
 
 pub returns : goal.returns
 returns c =
-    let z = c.decode_motion_vector.result.motion in
+    let z = c.decode_motion_vector.result.value in
     let kept : to_z w32 (of_z w32 z) ≡ z = search rules in
     kept ∙ (rw (to_z-of_z c.ranges.motion) at (value-at c.new.ensures c.decode_motion_vector.ensures))
