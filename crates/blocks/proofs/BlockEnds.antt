@@ -6,10 +6,14 @@ use mathlib.Core.Logic.{⊎_elim}
 use Prim.Native.Nat.{ℕ, ◌<◌}
 use native.Mathlib.Omega.{arith}
 use denote.Enum.Declared.{tag_of}
+use mir.Syntax.{w32}
+use mir.Val.{to_z, of_z}
 use types.Run.{OneOf}
 use lib.Dec.{ltb}
-use lib.IntN.{ℤ, nat_abs}
-use lib.ListN.{length}
+use Rattle.std.specs.Prelude.{Some, None}
+use Rattle.picture_state.specs.declared.types.StopMark.TheVariants.{DcOutside}
+use lib.IntN.{ℤ, pos, nat_abs}
+use lib.ListN.{length, get_or}
 use Rattle.bits.specs.declared.reader.Reader.{Reader}
 use Rattle.bits.specs.Runs.{Runs, RunsInBounds}
 use Rattle.bits.proofs.Rules.{r_inner}
@@ -29,7 +33,9 @@ use Rattle.picture_state.specs.Stop.{stop, dc_outside}
 use Rattle.blocks.specs.Blocks.{predictor_of, with_dc_predictor, dc_predictor, quantiser_of, written, block_result, matrix_for, one_block}
 use Rattle.picture_state.specs.Promises.{Exit, numbered, RunsNumbered, matrices_in, MacroblockInvariant, RefinesAtMacroblock}
 use Rattle.blocks.specs.Promises.{block_program, store_after}
+use Rattle.picture_state.specs.Possible.{PossibleSlice}
 use Rattle.picture_state.proofs.Results.{t-done, r-lift}
+use Rattle.picture_state.proofs.Signed.{inside-read}
 use Rattle.blocks.proofs.Ready.{ready-block, ready-outside}
 
 -- a block that is not whole is not written, and leaves its coefficients over
@@ -46,24 +52,29 @@ matrix-for : (t : List ℕ) (intra : Bool) → matrix_for (matrices_in t) intra 
 matrix-for t true = refl
 matrix-for t false = refl
 
+-- a block's predictor, as the code reads it at the place k
+pub predictor_read : {x : Slice} {number k : ℕ} → PossibleSlice x → number < 6 → k ≡ predictor_of number
+    → to_z w32 (of_z w32 (get_or x.dc_predictor k (pos 0))) ≡ dc_predictor number x
+predictor_read {x} {number} {k} p few is = inside-read _ (p.predictors k (omega arith)) ∙ ap (λ (j : ℕ). get_or x.dc_predictor j (pos 0)) is
+
 module _ (g : Context) (t : List ℕ) (intra : Bool) (number : ℕ) (x : Slice) (left : List ℤ) (store : List ℕ) where
   abbrev q : Quantiser
   q = quantiser_of g intra x
 
   -- the end of a block other than one outside
-  on-end : (d : ℤ) (r : BlockRead) → OneOf (0 ∷ 1 ∷ []) (tag_of the_type r.end)
+  on-end : (d : ℤ) (r : BlockRead) → (r.end ≡ DcOutOfRange → ⊥)
       → block_result g q number (slice_state x left store) d r
       ≡ ok (slice_state (with_dc_predictor number r.predictor x) (block_data_after q r) (store_after g q number (nat_abs x.macroblock_address) r store))
   unfolding block_result store_after written
   on-end d r k = go r.end k
     where
-      go : (e : BlockEnd) → OneOf (0 ∷ 1 ∷ []) (tag_of the_type e)
+      go : (e : BlockEnd) → (e ≡ DcOutOfRange → ⊥)
           → let r₁ : BlockRead = record { block_coefficients = r.block_coefficients; predictor = r.predictor; end = e } in
           block_result g q number (slice_state x left store) d r₁
           ≡ ok (slice_state (with_dc_predictor number r.predictor x) (block_data_after q r₁) (store_after g q number (nat_abs x.macroblock_address) r₁ store))
       go Complete k = refl
       go Dropped k = refl
-      go DcOutOfRange k = let z : ⊥ = ⊎_elim (λ h. omega arith) (λ h. omega arith) k in absurd z
+      go DcOutOfRange k = absurd (k refl)
 
   out-end : (d : ℤ) (r : BlockRead) → r.end ≡ DcOutOfRange → block_result g q number (slice_state x left store) d r
       ≡ error (stop (dc_outside (nat_abs x.macroblock_address) number (dc_predictor number x) d) store)
@@ -95,15 +106,15 @@ module _ (g : Context) (t : List ℕ) (intra : Bool) (number : ℕ) (x : Slice) 
         r-lift _ o.1 (t-done (ap (λ (r : BlockRead). numbered (block_result g q number (slice_state x left store) d r)) o.2 ∙ h d))
 
     pub block_out : r.end ≡ DcOutOfRange
-        → RefinesAtMacroblock (one_block g (matrices_in t) intra number (slice_state x left store)) g s from (record { reader = to; state = x; stop = 8 })
+        → RefinesAtMacroblock (one_block g (matrices_in t) intra number (slice_state x left store)) g s from (record { reader = to; state = x; stop = Some DcOutside })
         r.block_coefficients.coefficients
         store
     block_out k = record { runs = end-runs (λ d. ap numbered (out-end d r k)); ready = ready-outside ready reads.inside kept.bounded }
 
-    pub block_on : {store₁ : List ℕ} {left₁ : List ℤ} {y : Slice} → OneOf (0 ∷ 1 ∷ []) (tag_of the_type r.end)
+    pub block_on : {store₁ : List ℕ} {left₁ : List ℤ} {y : Slice} → (r.end ≡ DcOutOfRange → ⊥)
         → store₁ ≡ store_after g q₁ number (nat_abs x.macroblock_address) r store → left₁ ≡ block_data_after q₁ r
         → y ≡ with_dc_predictor number r.predictor x → length store₁ ≡ length store
-        → RefinesAtMacroblock (one_block g (matrices_in t) intra number (slice_state x left store)) g s from (record { reader = to; state = y; stop = 0 }) left₁
+        → RefinesAtMacroblock (one_block g (matrices_in t) intra number (slice_state x left store)) g s from (record { reader = to; state = y; stop = None }) left₁
         store₁
     block_on k u l y e =
         record {

@@ -4,6 +4,7 @@ use mathlib.Core.Bool.{true, false}
 use mathlib.Core.List.{List}
 use Prim.Native.Nat.{ℕ, ◌+◌, ◌-◌, ◌^◌, ◌≤◌, ◌<◌}
 use native.Mathlib.Omega.{arith}
+use Rattle.std.specs.Prelude.{None}
 use lib.IntN.{ℤ}
 use lib.ListN.{length}
 use Rattle.bits.specs.declared.reader.Reader.{Reader}
@@ -11,7 +12,7 @@ use Rattle.bits.specs.Programs.{Prog}
 use Rattle.bits.proofs.Rules.{r-for}
 use Rattle.picture_state.specs.State.{SliceState, slice_state}
 use Rattle.picture_state.specs.Result.{Result, ok, if_ok, for_below}
-use Rattle.picture_state.specs.Stop.{Stop}
+use Rattle.picture_state.specs.Stop.{Stop, stop_number}
 use Rattle.picture_state.specs.Flags.{flag}
 use Rattle.blocks.specs.Blocks.{one_block, pattern_block, blocks}
 use Rattle.picture_state.specs.declared.types.{Slice.Slice, Progress.Progress}
@@ -29,7 +30,7 @@ numbered c t number w = pattern_block c.context (matrices_in t) c.intra c.patter
 -- a block whose bit is not in the pattern, and one whose bit is
 module _ (c : CodedBlocks) (t : List ℕ) (number : ℕ) (x : Slice) (left : List ℤ) (store : List ℕ) {s : List ℕ} {from : Reader} where
   pub bit-no : flag c.pattern (2 ^ (5 - number)) ≡ false → MacroblockInvariant c.context s from x left store
-      → RefinesAtMacroblock (numbered c t number (slice_state x left store)) c.context s from (record { reader = from; state = x; stop = 0 }) left store
+      → RefinesAtMacroblock (numbered c t number (slice_state x left store)) c.context s from (record { reader = from; state = x; stop = None }) left store
   bit-no h k = record { runs = t-no _ h (t-done refl); ready = k }
 
   pub bit-yes : {r : Progress} {left₁ : List ℤ} {store₁ : List ℕ} → flag c.pattern (2 ^ (5 - number)) ≡ true
@@ -59,12 +60,12 @@ module _ {c : CodedBlocks} {t : List ℕ} {s : List ℕ} {from₀ : Reader} {w�
   module _ (h : number < 6) {r : Progress} {left₁ : List ℤ} {store₁ : List ℕ}
       (w : RefinesAtMacroblock (numbered c t number (slice_state x left store)) c.context s from r left₁ store₁) where
     -- a turn that goes on
-    pub at_next : r.stop ≡ 0 → length store₁ ≡ length store → AtBlock c t s from₀ w₀ r.reader r.state left₁ store₁ (number + 1)
+    pub at_next : stop_number r.stop ≡ 0 → length store₁ ≡ length store → AtBlock c t s from₀ w₀ r.reader r.state left₁ store₁ (number + 1)
     at_next z e =
         record { few = omega arith; ready = w.ready; long = e ∙ i.long; runs = r-for-bind number (numbered c t) w₀ i.runs (rw z at w.runs) }
 
     -- one that leaves
-    pub at-stop : (r.stop ≡ 0 → ⊥) → RefinesAtMacroblock (all c t w₀) c.context s from₀ r left₁ store₁
+    pub at-stop : (stop_number r.stop ≡ 0 → ⊥) → RefinesAtMacroblock (all c t w₀) c.context s from₀ r left₁ store₁
     unfolding blocks
     at-stop z =
         let e = nonzero-is-error (slice_state r.state left₁ store₁) store₁ z in

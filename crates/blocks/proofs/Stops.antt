@@ -1,5 +1,5 @@
 -- RULES Q8: a block ends a call exactly where it is intra and its DC value is outside. Assumes nothing.
-use mathlib.Core.Path.{◌≡◌, refl, sym, ap, subst, ◌∙◌}
+use mathlib.Core.Path.{◌≡◌, refl, sym, ap, ◌∙◌}
 use mathlib.Core.Bool.{Bool, true, false, cond, not, ◌&&◌, true≢false, false≢true}
 use mathlib.Core.List.{List, []}
 use Prim.Native.Nat.{ℕ, zero, suc, ◌+◌, ◌-◌, ◌^◌, ◌≤◌, ◌<◌}
@@ -31,7 +31,7 @@ use Rattle.picture_state.specs.Stop.{Stop, stop, dc_outside}
 use Rattle.picture_state.specs.Flags.{flag}
 use Rattle.picture_state.proofs.Results.{error-is_not-ok, error_injective}
 use Rattle.blocks.specs.Blocks.{predictor_of, with_dc_predictor, dc_predictor, quantiser_of, matrix_for, written, block_result, one_block, pattern_block, blocks}
-use Rattle.blocks.specs.Stops.{difference_at, DcStop, BlocksStop}
+use Rattle.blocks.specs.Stops.{DcStop, BlocksStop}
 
 -- ---- how a block that is coded ends
 

@@ -14,7 +14,7 @@ use Rattle.prediction.specs.Planes.{plane_of, plane_length, plane_start}
 use Rattle.prediction.specs.Writers.{set_const, overwrite, add_const, add_block, block_width, block_address}
 use Rattle.picture_state.specs.declared.types.{Context.Context, Matrices.Matrices, Slice.Slice}
 use Rattle.picture_state.specs.State.{SliceState, slice_state, with_predictors}
-use Rattle.picture_state.specs.Result.{Result, ok, error, lift, from_result, pure, for_below, ◌>>=◌, ◌>>◌}
+use Rattle.picture_state.specs.Result.{Result, ok, error, lift, from_result, pure, for_below, ◌>>=◌}
 use Rattle.picture_state.specs.Stop.{Stop, stop, dc_outside}
 use Rattle.picture_state.specs.Flags.{flag}
 

@@ -5,7 +5,7 @@ use Rattle.coefficients.specs.Dcs.{dc_difference, dc_in_range}
 use Rattle.picture_state.specs.declared.types.{Context.Context, Matrices.Matrices}
 use Rattle.picture_state.specs.State.{SliceState}
 use Rattle.picture_state.specs.Result.{ok, for_below}
-use Rattle.picture_state.specs.Stop.{Cause, dc_outside, Stop, stop}
+use Rattle.picture_state.specs.Stop.{dc_outside, Stop, stop}
 use Rattle.picture_state.specs.Flags.{flag}
 use Rattle.blocks.specs.Blocks.{dc_predictor, pattern_block}
 

@@ -11,7 +11,7 @@ use codes::lent::Tables;
 use coefficients::block::{BlockEnd, read_block};
 use coefficients::quantiser::Quantiser;
 use picture_state::flags::flag;
-use picture_state::types::{Context, Progress, Slice};
+use picture_state::types::{Context, Progress, Slice, StopMark};
 
 // What the blocks of a macroblock have in common: the picture's context, whether they are intra, and the pattern that names those there are.
 #[derive(Clone, Copy)]
@@ -69,25 +69,21 @@ fn one_block(
         coded.context s.now reader result values.new store.new }
 {
     let q = quantiser_of(coded, state);
-    let dc = state.dc_predictor;
-    let predictor = dc[predictor_of(number)];
+    let predictor = state.dc_predictor[predictor_of(number)];
     let r = read_block(s, reader, tables, values, q, number < 4, predictor);
-    let after = r.reader;
-    let end = r.end;
-    if let BlockEnd::DcOutOfRange = end {
+    if let BlockEnd::DcOutOfRange = r.end {
         return Progress {
-            reader: after,
+            reader: r.reader,
             state,
-            stop: 8,
+            stop: Some(StopMark::DcOutside),
         };
     }
     let g = coded.context;
     write_block(store, values, g, state.macroblock_address, number, q, r);
-    let next = with_dc_predictor(state, number, r.predictor);
     Progress {
-        reader: after,
-        state: next,
-        stop: 0,
+        reader: r.reader,
+        state: with_dc_predictor(state, number, r.predictor),
+        stop: None,
     }
 }
 
@@ -122,7 +118,7 @@ fn block_of_pattern(
         return Progress {
             reader,
             state,
-            stop: 0,
+            stop: None,
         };
     }
     one_block(s, reader, store, values, tables, coded, state, number)
@@ -146,20 +142,17 @@ pub fn read_blocks(
 {
     let mut from = reader;
     let mut state = before;
-    let mut number: usize = 0;
-    while number < 6 {
+    for number in 0..6 {
         let b = block_of_pattern(s, from, store, values, tables, coded, state, number);
-        let stop = b.stop;
-        if stop != 0 {
+        if b.stop.is_some() {
             return b;
         }
         from = b.reader;
         state = b.state;
-        number += 1;
     }
     Progress {
         reader: from,
         state,
-        stop: 0,
+        stop: None,
     }
 }

@@ -1,8 +1,9 @@
 -- The questions 3 to 6: each answer, from what the functions give. Assumes nothing.
-use mathlib.Core.Path.{◌≡◌, refl}
-use mathlib.Core.Bool.{true, false, ◌||◌}
+use mathlib.Core.Path.{◌≡◌, refl, sym}
+use mathlib.Core.Bool.{true, false, ◌||◌, false≢true}
 use mathlib.Core.List.{List}
-use Prim.Native.Nat.{ℕ, zero, suc, ◌≤◌, ◌<◌}
+use Prim.Native.Nat.{ℕ, ◌≤◌, ◌<◌}
+use Rattle.std.specs.Prelude.{Option, Some, None, is_some}
 use lib.IntN.{negsuc}
 use lib.Dec.{eqb}
 use lib.ListN.{length}
@@ -15,7 +16,11 @@ use Rattle.header.specs.Sequences.{Size, Rest, size, rest}
 use Rattle.decoder.specs.declared.record.Decoder.{Decoder}
 use Rattle.decoder.specs.Record.{position, start_code, store_bytes}
 use Rattle.decoder.specs.Headers.{refused, passed, with_size_read, accepted, find_sequence, check_size, check_header, check_store}
-use Rattle.decoder.specs.Checking.{check_result}
+use Rattle.decoder.specs.declared.headers.CheckResult as Code
+use Rattle.decoder.specs.declared.headers.HeaderRefusal.{HeaderRefusal}
+use Rattle.decoder.specs.declared.headers.HeaderRefusal.TheVariants.{SmallStore}
+use Rattle.decoder.specs.Fit.{Fit}
+use Rattle.decoder.specs.Checking.{refusal_number, RefinesCheckStore}
 
 abbrev pub ending : {A : Type 0} → A → ℕ → RunResult A
 ending v e = record { value = v; at = e }
@@ -48,15 +53,38 @@ module _ (s : List ℕ) (d : Decoder) {x : Decoder} (e : x ≡ find_sequence s d
 
 -- RULES Q6
 module _ (d : Decoder) (l : List ℕ) (x : Decoder) where
-  pub room-told : (n : ℕ) → (n ≡ 0 → ⊥) → check_result n x ≡ check_store d l (check_result n x)
+  pub room-told : (n : ℕ) → refused n x ≡ check_store d l (refused n x)
   unfolding check_store
-  room-told zero g = absurd (g refl)
-  room-told (suc n) g = refl
+  room-told n = refl
 
-  pub room-yes : (n : ℕ) → n ≡ 0 → store_bytes x ≤ length l → check_result n x ≡ check_store d l (check_result n x)
+  pub room-yes : store_bytes x ≤ length l → passed x ≡ check_store d l (passed x)
   unfolding check_store
-  room-yes n e h = rw (e, le-leb _ _ h)
+  room-yes h = rw (le-leb _ _ h)
 
-  pub room-no : (n : ℕ) → n ≡ 0 → length l < store_bytes x → refused 6 d ≡ check_store d l (check_result n x)
+  pub room-no : length l < store_bytes x → refused 6 d ≡ check_store d l (passed x)
   unfolding check_store
-  room-no n e h = rw (e, lt-leb _ _ h)
+  room-no h = rw (lt-leb _ _ h)
+
+-- the question, as the code asks it
+module _ (d : Decoder) {room : ℕ} where
+  pub store-told : (b : Code.CheckResult) → is_some b.refusal ≡ true → RefinesCheckStore d room b b
+  store-told b h = go b.refusal h
+    where
+      go : (r : Option HeaderRefusal) → is_some r ≡ true → RefinesCheckStore d room (record b { refusal = r }) (record b { refusal = r })
+      go None h = absurd (false≢true h)
+      go (Some r) h = record { is = λ l e. room-told d l b.decoder (refusal_number r); fit = λ e. absurd (cc); enough = λ e. absurd (cc) }
+
+  pub store-asked : (b : Code.CheckResult) → Fit b.decoder → is_some b.refusal ≡ false → store_bytes b.decoder ≤ room → RefinesCheckStore d room b b
+  store-asked b k h m = go b.refusal h
+    where
+      go : (r : Option HeaderRefusal) → is_some r ≡ false → RefinesCheckStore d room (record b { refusal = r }) (record b { refusal = r })
+      go None h = record { is = λ l e. room-yes d l b.decoder (rw e m); fit = λ e. k; enough = λ e. m }
+      go (Some r) h = absurd (false≢true (sym h))
+
+  pub store-refused : (b : Code.CheckResult) → is_some b.refusal ≡ false → room < store_bytes b.decoder
+      → RefinesCheckStore d room b (record { decoder = d; refusal = Some SmallStore })
+  store-refused b h m = go b.refusal h
+    where
+      go : (r : Option HeaderRefusal) → is_some r ≡ false → RefinesCheckStore d room (record b { refusal = r }) (record { decoder = d; refusal = Some SmallStore })
+      go None h = record { is = λ l e. room-no d l b.decoder (rw e m); fit = λ e. absurd (cc); enough = λ e. absurd (cc) }
+      go (Some r) h = absurd (false≢true (sym h))

@@ -2,24 +2,26 @@
 use mathlib.Core.Path.{◌≡◌, refl, ap, sym, ◌∙◌}
 use mathlib.Core.Bool.{Bool, true, false}
 use mathlib.Core.List.{List}
-use Prim.Native.Nat.{ℕ, zero, suc, ◌≤◌, ◌<◌}
-use native.Mathlib.Omega.{arith}
+use Prim.Native.Nat.{ℕ, ◌≤◌, ◌<◌}
 use lib.IntN.{ℤ}
 use lib.ListN.{length}
 use borrow.Author.Tests.{le-leb, lt-leb, eq-eqb, ne_eqb}
 use Rattle.bits.specs.Bounds.{longest_stream}
 use Rattle.bits.specs.Programs.{when◌then◌else◌}
 use Rattle.header.specs.Store.{cleared}
-use Rattle.playback.specs.declared.outcome.{Outcome.Outcome, StepResult.StepResult}
+use Rattle.picture_state.specs.declared.types.StopMark.{StopMark}
+use Rattle.picture_state.specs.Stop.{mark_number}
+use Rattle.playback.specs.declared.outcome.Outcome.{Outcome}
+use Rattle.playback.specs.declared.outcome.StepEnd.TheVariants.{Finished, Aborted}
+use Rattle.playback.specs.declared.state.State.{State}
 use Rattle.playback.specs.declared.outcome.Outcome.TheVariants.{Refused}
 use Rattle.playback.specs.Steps.{decoding_state, LoopEnd, pictures}
 use Rattle.playback.specs.StepResults.{end_of}
 use Rattle.decoder.specs.declared.record.Decoder.{Decoder}
 use Rattle.decoder.specs.Record.{with_stop, decoding_state_of, with_decoding_state, CallResult, call_result, store_bytes}
 use Rattle.decoder.specs.Possible.{possible_with}
-use Rattle.decoder.specs.Headers.{CheckResult, passed, check_header, check_store}
+use Rattle.decoder.specs.Headers.{CheckResult, refused, passed, check_header, check_store}
 use Rattle.decoder.specs.Decode.{call_result_of, check_header_and_store, start_state, after_checks, decode}
-use Rattle.decoder.specs.Checking.{check_result}
 
 -- ---- before and behind the turns
 
@@ -41,16 +43,16 @@ pub played : (s : List ℕ) (b d : Decoder) (l : List ℕ) {l₁ : List ℕ} {e 
 played s b d l p q = ap (call_result_of b d) (p ∙ ap (pictures s d.sequence.sizes d.sequence.matrices) q)
 
 -- RULES 8.14
-module _ (b d : Decoder) (t : StepResult) (c : List ℤ) (m : List ℕ) where
-  pub ended-stop : (n : ℕ) → (n ≡ 0 → ⊥) → call_result (Refused n) (with_stop n b) m ≡ call_result_of b d (end_of n t c m)
+module _ (b d : Decoder) where
+  pub ended-stop : (x : State) (c : List ℤ) (m : List ℕ) (k : StopMark)
+      → call_result (Refused (mark_number k)) (with_stop (mark_number k) b) m ≡ call_result_of b d (end_of (Aborted k) x c m)
   unfolding call_result_of
-  ended-stop zero g = absurd (g refl)
-  ended-stop (suc n) g = refl
+  ended-stop x c m k = refl
 
-  pub ended-gave : (n : ℕ) → n ≡ 0 → call_result t.outcome (with_decoding_state d (decoding_state t.state c m)) m ≡ call_result_of b d (end_of n t c m)
+  pub ended-gave : (x : State) (c : List ℤ) (m : List ℕ) (o : Outcome)
+      → call_result o (with_decoding_state d (decoding_state x c m)) m ≡ call_result_of b d (end_of (Finished o) x c m)
   unfolding call_result_of
-  ended-gave zero g = refl
-  ended-gave (suc n) g = absurd (omega arith)
+  ended-gave x c m o = refl
 
 -- ---- the questions
 
@@ -67,17 +69,15 @@ module _ (s : List ℕ) (d : Decoder) (l : List ℕ) where
   first_had h = first_as (sym (ap (λ (b : Bool). when b then passed d else check_header s d) h))
 
   module _ (x : Decoder) where
-    pub go-no : (n : ℕ) → (n ≡ 0 → ⊥) → check_result n x ≡ check_header_and_store s d l → call_result (Refused n) x l ≡ after_checks s d l (check_header_and_store s d l)
+    pub go-no : (n : ℕ) → refused n x ≡ check_header_and_store s d l → call_result (Refused n) x l ≡ after_checks s d l (check_header_and_store s d l)
     unfolding after_checks
-    go-no zero g e = absurd (g refl)
-    go-no (suc n) g e = rw (← e)
+    go-no n e = rw (← e)
 
-    pub go_on : (n : ℕ) → n ≡ 0 → check_result n x ≡ check_header_and_store s d l
+    pub go_on : passed x ≡ check_header_and_store s d l
         → {r : CallResult Outcome} → r ≡ call_result_of d x (pictures s x.sequence.sizes x.sequence.matrices (start_state d x l)) → r
         ≡ after_checks s d l (check_header_and_store s d l)
     unfolding after_checks
-    go_on zero g e f = rw (← e) f
-    go_on (suc n) g e f = absurd (omega arith)
+    go_on e f = rw (← e) f
 
   pub after-decode-1 : longest_stream < length s → call_result (Refused 1) d l ≡ decode d s l
   unfolding decode

@@ -1,17 +1,15 @@
 -- RULES O.2: the answers of opening, from those of the questions. Assumes nothing.
-use mathlib.Core.Path.{◌≡◌, refl}
+use mathlib.Core.Path.{◌≡◌}
 use mathlib.Core.List.{List}
-use Prim.Native.Nat.{ℕ, zero, suc, ◌≤◌, ◌<◌}
-use native.Mathlib.Omega.{arith}
+use Prim.Native.Nat.{ℕ, ◌≤◌, ◌<◌}
 use lib.ListN.{length}
 use borrow.Author.Tests.{le-leb, lt-leb}
 use Rattle.header.specs.Store.{cleared}
 use Rattle.decoder.specs.declared.record.Decoder.{Decoder}
 use Rattle.decoder.specs.declared.answers.Opening.TheVariants.{Ready, Refused}
 use Rattle.decoder.specs.Record.{fresh, call_result, store_bytes}
-use Rattle.decoder.specs.Headers.{check_header, check_store}
+use Rattle.decoder.specs.Headers.{refused, passed, check_header, check_store}
 use Rattle.decoder.specs.Opening.{opened, opening_from, opening}
-use Rattle.decoder.specs.Checking.{check_result}
 use Rattle.bits.specs.Bounds.{longest_stream}
 
 module _ (s l : List ℕ) where
@@ -20,12 +18,10 @@ module _ (s l : List ℕ) where
   open-1 h = rw (lt-leb _ _ h)
 
   module _ (h : length s ≤ longest_stream) (x : Decoder) where
-    pub open_no : (n : ℕ) → (n ≡ 0 → ⊥) → check_result n x ≡ check_store fresh l (check_header s fresh) → call_result (Refused n) x l ≡ opening s l
+    pub open_no : (n : ℕ) → refused n x ≡ check_store fresh l (check_header s fresh) → call_result (Refused n) x l ≡ opening s l
     unfolding opening opening_from opened
-    open_no zero g e = absurd (g refl)
-    open_no (suc n) g e = rw (le-leb _ _ h, ← e)
+    open_no n e = rw (le-leb _ _ h, ← e)
 
-    pub open-yes : (n : ℕ) → n ≡ 0 → check_result n x ≡ check_store fresh l (check_header s fresh) → call_result Ready x (cleared (store_bytes x) l) ≡ opening s l
+    pub open-yes : passed x ≡ check_store fresh l (check_header s fresh) → call_result Ready x (cleared (store_bytes x) l) ≡ opening s l
     unfolding opening opening_from opened
-    open-yes zero g e = rw (le-leb _ _ h, ← e)
-    open-yes (suc n) g e = absurd (omega arith)
+    open-yes e = rw (le-leb _ _ h, ← e)

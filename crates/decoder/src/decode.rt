@@ -1,7 +1,7 @@
 // RULES part 8, Q: the hand-out.
 ghost use Rattle.std.specs.Prelude.{◌≡◌, false, List, ℕ, ◌≤◌, length};
 ghost use Rattle.playback.specs.declared.outcome.Outcome.TheVariants as Outcomes;
-ghost use Rattle.playback.specs.Steps.{decoding_state};
+ghost use Rattle.playback.specs.Steps as Steps;
 ghost use Rattle.playback.specs.StepResults.{end_of};
 ghost use Rattle.decoder.specs.Record as Record;
 ghost use Rattle.decoder.specs.Fit.{Fit};
@@ -10,13 +10,12 @@ ghost use Rattle.decoder.specs.Calls.{Decodes};
 ghost use Rattle.bits.specs.Bounds.{longest_stream};
 
 use crate::answers::DecodeResult;
-use crate::headers::check_header;
+use crate::headers::{check_header, check_store};
 use crate::possible::possible_with;
 use crate::record::{Decoder, store_bytes};
 use bits::position::LONGEST_STREAM;
 use header::store::clear;
-use playback::outcome::{Outcome, StepResult};
-use playback::state::State;
+use playback::outcome::{Outcome, StepEnd, StepResult};
 use playback::steps::pictures;
 
 fn refused(decoder: Decoder, number: u32) -> DecodeResult
@@ -28,31 +27,51 @@ fn refused(decoder: Decoder, number: u32) -> DecodeResult
     }
 }
 
-// The record with what the turns left.
-fn with_decoding_state(d: Decoder, state: State, block_data: [i32; 64]) -> Decoder
-    ensures { (l : List ℕ) → result ≡ Record.with_decoding_state d (decoding_state state block_data l) }
+// RULES 8.14: the record d behind the turns; 8 and 9 leave `before`, the one passed in, with the stop mark. A turn behind the two does not come up (8.7).
+fn call_result_of(mut before: Decoder, d: Decoder, t: StepResult, left: [i32; 64]) -> DecodeResult
+    ensures { (l : List ℕ) → Record.call_result result.outcome result.decoder l
+        ≡ Out.call_result_of before d (end_of t.end t.state left l) }
 {
-    let sequence = d.sequence;
-    Decoder {
-        sequence,
-        state,
-        block_data,
-        stop: d.stop,
+    let outcome = match t.end {
+        StepEnd::Continues => Outcome::Refused(7),
+        StepEnd::Finished(outcome) => outcome,
+        StepEnd::Aborted(mark) => {
+            let stop = mark.number();
+            before.stop = stop;
+            return refused(before, stop);
+        }
+    };
+    DecodeResult {
+        decoder: Decoder {
+            state: t.state,
+            block_data: left,
+            ..d
+        },
+        outcome,
     }
 }
 
-// RULES 8.14: the record d behind the turns; 8 and 9 leave `before`, the one passed in, with the stop mark.
-fn call_result_of(mut before: Decoder, d: Decoder, t: StepResult, left: [i32; 64]) -> DecodeResult
-    ensures { (l : List ℕ) → Record.call_result result.outcome result.decoder l ≡ Out.call_result_of before d (end_of t.stop t left l) }
+// RULES 8.2 to 8.14: the pictures of a call that was given `before`, from the record d on.
+fn decode_pictures(s: &[u8], store: &mut [u8], before: Decoder, d: Decoder) -> DecodeResult
+    requires fit { Fit d }
+    requires s_len_bound { length s.now ≤ longest_stream }
+    requires store_bound { Record.store_bytes d ≤ length store.old }
+    ensures { Record.call_result result.outcome result.decoder store.new
+        ≡ Out.call_result_of before d (Steps.pictures s.now d.sequence.sizes d.sequence.matrices (Record.decoding_state_of d store.old)) }
 {
-    let stop = t.stop;
-    if stop != 0 {
-        before.stop = stop;
-        return refused(before, stop);
-    }
-    let outcome = t.outcome;
-    let decoder = with_decoding_state(d, t.state, left);
-    DecodeResult { decoder, outcome }
+    let mut values = d.block_data;
+    let intra = d.sequence.matrices.intra_quant_matrix;
+    let other = d.sequence.matrices.non_intra_quant_matrix;
+    let t = pictures(
+        s,
+        store,
+        &mut values,
+        d.sequence.sizes,
+        &intra,
+        &other,
+        d.state,
+    );
+    call_result_of(before, d, t, values)
 }
 
 // RULES 8.1, O.4: the first hand-out of a record without a header. The questions 3 to 6, the store becomes 0, and the pictures.
@@ -63,23 +82,12 @@ fn with_header(s: &[u8], store: &mut [u8], before: Decoder) -> DecodeResult
     ensures { Record.call_result result.outcome result.decoder store.new
         ≡ Out.after_checks s.now before store.old (Out.check_header_and_store s.now before store.old) }
 {
-    let first = check_header(s, before);
-    let d = first.decoder;
-    let answer = first.answer;
-    if answer != 0 {
-        return refused(d, answer);
+    let checked = check_store(before, store.len(), check_header(s, before));
+    if let Some(refusal) = checked.refusal {
+        return refused(checked.decoder, refusal.number());
     }
-    let bytes = store_bytes(d);
-    if store.len() < bytes {
-        return refused(before, 6);
-    }
-    clear(store, bytes);
-    let mut values = d.block_data;
-    let intra = d.sequence.matrices.intra_quant_matrix;
-    let other = d.sequence.matrices.non_intra_quant_matrix;
-    let sizes = d.sequence.sizes;
-    let t = pictures(s, store, &mut values, sizes, &intra, &other, d.state);
-    call_result_of(before, d, t, values)
+    clear(store, store_bytes(checked.decoder));
+    decode_pictures(s, store, before, checked.decoder)
 }
 
 impl Decoder {
@@ -103,19 +111,6 @@ impl Decoder {
         if store.len() < store_bytes(self) {
             return refused(self, 6);
         }
-        let mut values = self.block_data;
-        let intra = self.sequence.matrices.intra_quant_matrix;
-        let other = self.sequence.matrices.non_intra_quant_matrix;
-        let sizes = self.sequence.sizes;
-        let t = pictures(
-            stream,
-            store,
-            &mut values,
-            sizes,
-            &intra,
-            &other,
-            self.state,
-        );
-        call_result_of(self, self, t, values)
+        decode_pictures(stream, store, self, self)
     }
 }

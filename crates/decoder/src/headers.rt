@@ -2,7 +2,7 @@
 ghost use Rattle.std.specs.Prelude.{◌≡◌, ◌≤◌, ◌<◌, length};
 ghost use Rattle.decoder.specs.Headers as Headers;
 ghost use Rattle.decoder.specs.Fit.{Fit};
-ghost use Rattle.decoder.specs.Checking.{check_result, RefinesCheckStore};
+ghost use Rattle.decoder.specs.Checking.{refusal_number, check_result, RefinesCheckStore};
 ghost use Rattle.bits.specs.Bounds.{longest_stream};
 ghost use Rattle.bits.specs.Runs.{position_of};
 ghost use Rattle.header.specs.Sequences.{rest_of};
@@ -11,16 +11,36 @@ use crate::record::{Decoder, store_bytes};
 use bits::reader::Reader;
 use header::possible::sizes_of;
 use header::sequences::{RestRead, aspect_of, rate_of, read_rest, read_size};
-use header::state::Sequence;
 use picture_state::types::Stores;
 use playback::search::{has_code, next_code};
-use playback::state::Clock;
 
-// `answer`: 0 where the call goes on, else the number of the first "no".
+// RULES Q3 to Q6: the first "no".
+#[derive(Clone, Copy, Debug, PartialEq, Eq)]
+pub enum HeaderRefusal {
+    NoSequence,
+    CutHeader,
+    EmptySize,
+    SmallStore,
+}
+
+impl HeaderRefusal {
+    pub fn number(self) -> u32
+        ensures { result ≡ refusal_number self }
+    {
+        match self {
+            HeaderRefusal::NoSequence => 3,
+            HeaderRefusal::CutHeader => 4,
+            HeaderRefusal::EmptySize => 5,
+            HeaderRefusal::SmallStore => 6,
+        }
+    }
+}
+
+// With no refusal the call goes on.
 #[derive(Clone, Copy)]
 pub struct CheckResult {
     pub decoder: Decoder,
-    pub answer: u32,
+    pub refusal: Option<HeaderRefusal>,
 }
 
 // RULES Q3, Q4: the sequence start code is searched, unless the record has it already.
@@ -29,8 +49,7 @@ fn find_sequence(s: &[u8], mut d: Decoder) -> Decoder
     requires s_len_bound { length s.now ≤ longest_stream }
     ensures { result ≡ Headers.find_sequence s.now d }
 {
-    let state = next_code(s, d.state, 0xb3);
-    d.state = state;
+    d.state = next_code(s, d.state, 0xb3);
     d
 }
 
@@ -40,40 +59,17 @@ fn accepted(rest: RestRead, mut d: Decoder) -> Decoder
     requires picture_rate_bound { rest.picture_rate < 16 }
     ensures { result ≡ Headers.accepted (record { value = rest_of rest; at = position_of rest.reader }) d }
 {
-    let old = d.sequence;
-    let width = old.width;
-    let height = old.height;
-    let matrices = rest.matrices;
-    let sequence = Sequence {
-        has_sequence_header: true,
-        width,
-        height,
-        sizes: sizes_of(width, height),
-        matrices,
-    };
-    d.sequence = sequence;
-    let mut x = d.state;
-    let mut display = x.display;
-    let c = display.clock;
-    let clock = Clock {
-        framerate: rate_of(rest.picture_rate),
-        pixel_aspect_ratio: aspect_of(rest.pel_aspect_ratio),
-        time: c.time,
-        last_frame_time: c.last_frame_time,
-    };
-    display.clock = clock;
-    x.display = display;
-    let mut picture = x.picture;
-    let stores = Stores {
+    d.sequence.has_sequence_header = true;
+    d.sequence.sizes = sizes_of(d.sequence.width, d.sequence.height);
+    d.sequence.matrices = rest.matrices;
+    d.state.display.clock.framerate = rate_of(rest.picture_rate);
+    d.state.display.clock.pixel_aspect_ratio = aspect_of(rest.pel_aspect_ratio);
+    d.state.picture.stores = Stores {
         cur: 0,
         fwd: 1,
         bwd: 2,
     };
-    picture.stores = stores;
-    x.picture = picture;
-    let position = rest.reader.position();
-    x.position = position;
-    d.state = x;
+    d.state.position = rest.reader.position();
     d
 }
 
@@ -81,31 +77,23 @@ fn accepted(rest: RestRead, mut d: Decoder) -> Decoder
 fn check_size(s: &[u8], mut d: Decoder) -> CheckResult
     requires fit { Fit d }
     requires s_len_bound { length s.now ≤ longest_stream }
-    ensures decoder_value { check_result result.answer result.decoder ≡ Headers.check_size s.now d }
+    ensures decoder_value { check_result result.refusal result.decoder ≡ Headers.check_size s.now d }
     ensures fit_2 { Fit result.decoder }
 {
     let size = read_size(s, Reader::from_position(d.state.position));
-    let reader = size.reader;
-    let width = size.width;
-    let height = size.height;
-    let mut state = d.state;
-    let position = reader.position();
-    state.position = position;
-    d.state = state;
-    let mut sequence = d.sequence;
-    sequence.width = width;
-    sequence.height = height;
-    d.sequence = sequence;
-    if (width == 0) | (height == 0) {
+    d.state.position = size.reader.position();
+    d.sequence.width = size.width;
+    d.sequence.height = size.height;
+    if (size.width == 0) | (size.height == 0) {
         return CheckResult {
             decoder: d,
-            answer: 5,
+            refusal: Some(HeaderRefusal::EmptySize),
         };
     }
-    let rest = read_rest(s, reader);
+    let rest = read_rest(s, size.reader);
     CheckResult {
         decoder: accepted(rest, d),
-        answer: 0,
+        refusal: None,
     }
 }
 
@@ -113,20 +101,20 @@ fn check_size(s: &[u8], mut d: Decoder) -> CheckResult
 pub fn check_header(s: &[u8], before: Decoder) -> CheckResult
     requires fit { Fit before }
     requires s_len_bound { length s.now ≤ longest_stream }
-    ensures decoder_value { check_result result.answer result.decoder ≡ Headers.check_header s.now before }
+    ensures decoder_value { check_result result.refusal result.decoder ≡ Headers.check_header s.now before }
     ensures fit_2 { Fit result.decoder }
 {
     let d = find_sequence(s, before);
     if has_code(d.state.picture, -1) {
         return CheckResult {
             decoder: d,
-            answer: 3,
+            refusal: Some(HeaderRefusal::NoSequence),
         };
     }
     if !Reader::from_position(d.state.position).has(s, 1088).value {
         return CheckResult {
             decoder: d,
-            answer: 4,
+            refusal: Some(HeaderRefusal::CutHeader),
         };
     }
     check_size(s, d)
@@ -137,8 +125,7 @@ pub fn check_store(d: Decoder, room: usize, before: CheckResult) -> CheckResult
     requires { Fit before.decoder }
     ensures { RefinesCheckStore d room before result }
 {
-    let answer = before.answer;
-    if answer != 0 {
+    if before.refusal.is_some() {
         return before;
     }
     if store_bytes(before.decoder) <= room {
@@ -146,6 +133,6 @@ pub fn check_store(d: Decoder, room: usize, before: CheckResult) -> CheckResult
     }
     CheckResult {
         decoder: d,
-        answer: 6,
+        refusal: Some(HeaderRefusal::SmallStore),
     }
 }

@@ -20,17 +20,15 @@ impl Decoder {
             };
         }
         let checked = check_store(d, store.len(), check_header(stream, d));
-        let decoder = checked.decoder;
-        let answer = checked.answer;
-        if answer != 0 {
+        if let Some(refusal) = checked.refusal {
             return Opened {
-                decoder,
-                answer: Opening::Refused(answer),
+                decoder: checked.decoder,
+                answer: Opening::Refused(refusal.number()),
             };
         }
-        clear(store, store_bytes(decoder));
+        clear(store, store_bytes(checked.decoder));
         Opened {
-            decoder,
+            decoder: checked.decoder,
             answer: Opening::Ready,
         }
     }

@@ -3,6 +3,8 @@ use mathlib.Core.Path.{◌≡◌, refl}
 use mathlib.Core.Bool.{true, false}
 use mathlib.Core.List.{List}
 use Prim.Native.Nat.{ℕ}
+use Rattle.std.specs.Prelude.{Some}
+use Rattle.picture_state.specs.declared.types.StopMark.TheVariants.{PredictionOutside}
 use lib.IntN.{ℤ, nat_abs}
 use lib.ListN.{length}
 use Rattle.bits.specs.declared.reader.Reader.{Reader}
@@ -65,7 +67,7 @@ module _ {g : Context} {x y : Slice} {left : List ℤ} {store s : List ℕ} {fro
   module _ {q : Predicted} {store₁ : List ℕ} (told : RefinesPrediction (predict_unless_intra g t y store) q store₁)
       (long : length store₁ ≡ length store) where
     pub body_refused : (m : Matrices) → q ≡ Err half_sample_outside
-        → RefinesAtMacroblock (body g m (slice_state x left store)) g s from (record { reader = headed; state = y; stop = 9 }) left store₁
+        → RefinesAtMacroblock (body g m (slice_state x left store)) g s from (record { reader = headed; state = y; stop = Some PredictionOutside }) left store₁
     unfolding body
     body_refused m e =
         record {

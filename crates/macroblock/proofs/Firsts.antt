@@ -4,9 +4,11 @@ use mathlib.Core.Bool.{Bool, true, false, ◌||◌}
 use mathlib.Core.List.{List}
 use Prim.Native.Nat.{ℕ, ◌≤◌}
 use native.Mathlib.Omega.{arith}
+use Rattle.std.specs.Prelude.{None}
 use lib.IntN.{ℤ, pos, ◌+ℤ◌}
 use lib.Signed.{lt_z, le_z}
-use mir.Syntax.{w64}
+use mir.Syntax.{w32, w64}
+use mir.Val.{to_z, of_z}
 use Rattle.laws.proofs.Ints.{up, dn, v, lit, neg, ◌⊕◌, lt_no, le-no, le_yes, cast-by, cast_is}
 use Rattle.bits.specs.declared.reader.Reader.{Reader}
 use Rattle.picture_state.specs.declared.types.{Context.Context, Matrices.Matrices, Slice.Slice, Progress.Progress}
@@ -17,6 +19,7 @@ use Rattle.picture_state.specs.Promises.{StoreFits, AddressInPicture, ReadInvari
 use Rattle.macroblock.specs.Promises.{AdvanceInvariant}
 use Rattle.picture_state.proofs.Possible.{between-by}
 use Rattle.picture_state.proofs.Ready.{size-most}
+use Rattle.picture_state.proofs.Signed.{address_read}
 use Rattle.picture_state.proofs.Results.{t-done, t-yes, t-no}
 
 -- neither before the first nor past the last
@@ -52,9 +55,15 @@ module _ {g : Context} {x y : Slice} {n : ℕ} {left : List ℤ} {store s : List
   further-reads : ReadInvariant s reader y left
   further-reads = record { inside = k.reads.inside; slice = further-possible; block = k.reads.block }
 
+  -- the test, as the code reads the address
+  pub outside_read : {t : Bool} → t ≡ (lt_z (to_z w32 (of_z w32 y.macroblock_address)) (pos 0)
+      || le_z (pos g.sizes.mb_size) (to_z w32 (of_z w32 y.macroblock_address)))
+      → t ≡ (lt_z y.macroblock_address (pos 0) || le_z (pos g.sizes.mb_size) y.macroblock_address)
+  outside_read e = rw (address_read further-possible) at e
+
   module _ {t : Bool} (at : t ≡ (lt_z y.macroblock_address (pos 0) || le_z (pos g.sizes.mb_size) y.macroblock_address)) where
     pub first_nowhere : (m : Matrices) → t ≡ true
-        → RefinesInSlice (first_macroblock g m n (slice_state x left store)) g s reader (record { reader = reader; state = y; stop = 0 }) left store
+        → RefinesInSlice (first_macroblock g m n (slice_state x left store)) g s reader (record { reader = reader; state = y; stop = None }) left store
     unfolding first_macroblock
     first_nowhere m e = let q = rw is at (sym at ∙ e) in record { runs = rw is (t-yes _ q (t-done refl)); reads = further-reads; store_fits = k.store_fits }
 

@@ -4,6 +4,9 @@ use mathlib.Core.Bool.{Bool, true, false}
 use mathlib.Core.List.{List}
 use Prim.Native.Nat.{ℕ, ◌+◌, ◌*◌, ◌≤◌}
 use native.Mathlib.Omega.{arith}
+use Rattle.std.specs.Prelude.{Option, None}
+use Rattle.picture_state.specs.declared.types.StopMark.{StopMark}
+use Rattle.picture_state.specs.Stop.{stop_number}
 use lib.IntN.{ℤ, pos, neg_ℤ, ◌+ℤ◌}
 use lib.ListN.{length}
 use lib.Signed.{le_z}
@@ -27,26 +30,26 @@ use Rattle.picture_state.proofs.Results.{t-done, t-yes, t-no, r-lift, r-bind, r_
 module _ {g : Context} {x : Slice} {n : ℕ} {left : List ℤ} {store s : List ℕ} {reader : Reader}
     (k : LaterInvariant g s reader x n left store) where
   pub later-past : (m : Matrices) → le_z (pos g.sizes.mb_size) (x.macroblock_address +ℤ pos n) ≡ true
-      → RefinesInSlice (later_macroblock g m n (slice_state x left store)) g s reader (record { reader = reader; state = x; stop = 0 }) left store
+      → RefinesInSlice (later_macroblock g m n (slice_state x left store)) g s reader (record { reader = reader; state = x; stop = None }) left store
   unfolding later_macroblock
   later-past m e = record { runs = t-yes _ e (t-done refl); reads = k.reads; store_fits = k.store_fits }
 
-  module _ {y : Slice} {stop : ℕ} {store₁ : List ℕ} (e : le_z (pos g.sizes.mb_size) (x.macroblock_address +ℤ pos n) ≡ false)
-      (a : RefinesAdvance g n x store y stop store₁) (long : length store₁ ≡ length store) where
+  module _ {y : Slice} {mark : ℕ} {store₁ : List ℕ} (e : le_z (pos g.sizes.mb_size) (x.macroblock_address +ℤ pos n) ≡ false)
+      (a : RefinesAdvance g n x store y mark store₁) (long : length store₁ ≡ length store) where
     later-reads : ReadInvariant s reader y left
     later-reads = record { inside = k.reads.inside; slice = a.possible k.reads.slice; block = k.reads.block }
 
-    pub later-stop : (m : Matrices) → (stop ≡ 0 → ⊥)
+    pub later-stop : (m : Matrices) {stop : Option StopMark} → mark ≡ stop_number stop → (mark ≡ 0 → ⊥)
         → RefinesInSlice (later_macroblock g m n (slice_state x left store)) g s reader (record { reader = reader; state = y; stop = stop }) left store₁
     unfolding later_macroblock
-    later-stop m h =
+    later-stop m is h =
         let o = nonzero-is-error (slice_state y left store₁) store₁ h in
-        record { runs = t-no _ e (rw o (r_if-ok _ (t-done (a.is left ∙ o)))); reads = later-reads; store_fits = held_on k.store_fits long }
+        record { runs = t-no _ e (rw (← is, o) (r_if-ok _ (t-done (a.is left ∙ o)))); reads = later-reads; store_fits = held_on k.store_fits long }
 
-    pub later-ready : stop ≡ 0 → MacroblockInvariant g s reader y left store₁
+    pub later-ready : mark ≡ 0 → MacroblockInvariant g s reader y left store₁
     later-ready z = record { reads = later-reads; store_fits = held_on k.store_fits long; here = a.here z k.more }
 
-    pub later-body : (m : Matrices) → stop ≡ 0 → {r : Progress} {left₁ : List ℤ} {store₂ : List ℕ}
+    pub later-body : (m : Matrices) → mark ≡ 0 → {r : Progress} {left₁ : List ℤ} {store₂ : List ℕ}
         → RefinesAtMacroblock (body g m (slice_state y left store₁)) g s reader r left₁ store₂
         → RefinesInSlice (later_macroblock g m n (slice_state x left store)) g s reader r left₁ store₂
     unfolding later_macroblock

@@ -7,7 +7,6 @@ use Prim.Native.Nat.{ℕ, ◌-◌}
 use lib.Dec.{ltb}
 use lib.IntN.{pos, nat_abs, ◌+ℤ◌}
 use lib.Signed.{le_z}
-use Rattle.laws.proofs.Tests.{by-case, if_yes, if_no}
 use Rattle.bits.specs.Programs.{Prog, RunResult, done, run}
 use Rattle.picture_state.specs.declared.types.{Context.Context, Matrices.Matrices, Slice.Slice}
 use Rattle.picture_state.specs.State.{SliceState, slice_state}
@@ -22,7 +21,6 @@ use Rattle.macroblock_head.specs.Predictions.{predict, predict_skipped}
 use Rattle.macroblock_head.specs.Stops.{PredictionStop, SkippedStop}
 use Rattle.macroblock_head.proofs.Stops.{predict-stopped, skipped-stopped, then-error}
 use Rattle.blocks.specs.Blocks.{blocks}
-use Rattle.blocks.specs.Stops.{BlocksStop}
 use Rattle.blocks.proofs.Stops.{blocks-stopped, blocks-stops}
 use Rattle.macroblock.specs.Macroblocks.{address_plus, is_outside, skip_reset, advance, predict_unless_intra, body, first_macroblock, later_macroblock}
 use Rattle.macroblock.specs.Macroblocks.{macroblock}

@@ -4,7 +4,7 @@ use Rattle.std.specs.Int.Signed.{lt_z, le_z}
 use Rattle.bits.specs.Programs.{Prog, when◌then◌else◌}
 use Rattle.picture_state.specs.declared.types.{Context.Context, Matrices.Matrices, Slice.Slice}
 use Rattle.picture_state.specs.State.{SliceState, slice_state, with_slice, zeroed, with_address, with_motions, dc_reset}
-use Rattle.picture_state.specs.Result.{Result, ok, and_then, lift, from_result, pure, ◌>>=◌, ◌>>◌}
+use Rattle.picture_state.specs.Result.{Result, ok, and_then, lift, from_result, pure, ◌>>=◌}
 use Rattle.picture_state.specs.Stop.{Stop}
 use Rattle.macroblock_head.specs.Increments.{increment}
 use Rattle.macroblock_head.specs.Predictions.{predict, predict_skipped}

@@ -12,7 +12,7 @@ use codes::lent::Tables;
 use macroblock_head::heads::{read_head, read_macroblock_type, read_pattern};
 use macroblock_head::predictions::predict;
 use picture_state::flags::flag;
-use picture_state::types::{Context, Progress, Slice};
+use picture_state::types::{Context, Progress, Slice, StopMark};
 use prediction::position::HalfSampleOutside;
 
 // RULES 7.14: prediction, unless intra.
@@ -58,7 +58,7 @@ pub fn body(
         return Progress {
             reader: from,
             state,
-            stop: 9,
+            stop: Some(StopMark::PredictionOutside),
         };
     };
     let p = read_pattern(s, from, tables, flags);

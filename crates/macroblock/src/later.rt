@@ -4,17 +4,18 @@ ghost use Rattle.std.specs.Int.Signed.{le_z};
 ghost use Rattle.picture_state.specs.Possible.{PossibleSlice};
 ghost use Rattle.macroblock.specs.Macroblocks.{skip_reset};
 ghost use Rattle.picture_state.specs.Promises.{StoreFits};
+ghost use Rattle.picture_state.specs.Stop.{stop_number};
 ghost use Rattle.macroblock.specs.Promises.{RefinesAdvance};
 
 use crate::addresses::address_plus;
 use macroblock_head::heads::{reset, zeroed};
 use macroblock_head::predictions::predict_skipped;
-use picture_state::types::{Context, Slice};
+use picture_state::types::{Context, Slice, StopMark};
 
 #[derive(Clone, Copy)]
 pub struct Advanced {
     pub state: Slice,
-    pub stop: u32,
+    pub stop: Option<StopMark>,
 }
 
 // RULES 7.11, 7.19, 7.20: what a skip resets.
@@ -36,13 +37,13 @@ pub fn advance(store: &mut [u8], g: Context, n: usize, state: Slice) -> Advanced
     requires store_fits { StoreFits g store.old }
     requires possible_slice { PossibleSlice state }
     requires n_value { le_z (pos g.sizes.mb_size) (state.macroblock_address +ℤ pos n) ≡ false }
-    ensures { RefinesAdvance g n state store.old result.state result.stop store.new }
+    ensures { RefinesAdvance g n state store.old result.state (stop_number result.stop) store.new }
 {
     let next = address_plus(state, 1);
     if n < 2 {
         return Advanced {
             state: next,
-            stop: 0,
+            stop: None,
         };
     }
     let skipped = skip_reset(g, state);
@@ -50,12 +51,12 @@ pub fn advance(store: &mut [u8], g: Context, n: usize, state: Slice) -> Advanced
     let Ok(()) = predict_skipped(store, g, first, n - 1, skipped) else {
         return Advanced {
             state: skipped,
-            stop: 9,
+            stop: Some(StopMark::PredictionOutside),
         };
     };
     let here = address_plus(skipped, n);
     Advanced {
         state: here,
-        stop: 0,
+        stop: None,
     }
 }

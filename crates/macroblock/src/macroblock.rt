@@ -13,7 +13,8 @@ use codes::lent::Tables;
 use macroblock_head::increments::read_increment;
 use picture_state::types::{Context, Progress, Slice};
 
-// RULES 7.8, 7.12: the first macroblock of a slice, n from the address before it.
+// RULES 7.8, 7.12: the first macroblock of a slice, n from the address before it. What leads to it is not what leads to a later one (7.9 to 7.11):
+// the two functions have only the call of `body` in common.
 fn first_macroblock(
     s: &[u8],
     reader: Reader,
@@ -34,7 +35,7 @@ fn first_macroblock(
         return Progress {
             reader,
             state: here,
-            stop: 0,
+            stop: None,
         };
     }
     body(s, reader, store, values, tables, g, here)
@@ -60,20 +61,18 @@ fn later_macroblock(
         return Progress {
             reader,
             state,
-            stop: 0,
+            stop: None,
         };
     }
-    let a = advance(store, g, n, state);
-    let here = a.state;
-    let stop = a.stop;
-    if stop != 0 {
+    let here = advance(store, g, n, state);
+    if here.stop.is_some() {
         return Progress {
             reader,
-            state: here,
-            stop,
+            state: here.state,
+            stop: here.stop,
         };
     }
-    body(s, reader, store, values, tables, g, here)
+    body(s, reader, store, values, tables, g, here.state)
 }
 
 // RULES 7.7 to 7.11: the increment, and the macroblock to which it leads; `first` says that it is the first of its slice.
@@ -93,10 +92,8 @@ pub fn macroblock(
         g s.now reader result values.new store.new }
 {
     let n = read_increment(s, reader, tables);
-    let after = n.reader;
-    let sum = n.sum;
     if first {
-        return first_macroblock(s, after, store, values, tables, g, sum, state);
+        return first_macroblock(s, n.reader, store, values, tables, g, n.sum, state);
     }
-    later_macroblock(s, after, store, values, tables, g, sum, state)
+    later_macroblock(s, n.reader, store, values, tables, g, n.sum, state)
 }

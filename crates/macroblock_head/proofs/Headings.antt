@@ -4,14 +4,15 @@ use mathlib.Core.Bool.{true, false}
 use mathlib.Core.List.{List}
 use Prim.Native.Nat.{ℕ, ◌≤◌}
 use native.Mathlib.Omega.{arith}
-use borrow.Author.Tests.{eq-eqb}
+use lib.Dec.{eqb}
 use lib.IntN.{ℤ, nat_abs}
 use mir.Syntax.{w32}
 use mir.Val.{to_z, of_z}
 use Rattle.laws.proofs.Ints.{v, lit, neg, le_of, lt_of, abs-by}
 use Rattle.laws.proofs.Nums.{num, rd}
 use Rattle.bits.specs.declared.reader.Reader.{Reader}
-use Rattle.bits.specs.Runs.{ReaderInBounds, RunsInBounds}
+use Rattle.bits.specs.Programs.{done, when◌then◌else◌}
+use Rattle.bits.specs.Runs.{RunsInBounds}
 use Rattle.bits.proofs.Gives.{given_by}
 use Rattle.bits.proofs.Rules.{r-call, r-yes, r-no, r-done}
 use Rattle.motion.specs.Displacement.{InRange}
@@ -19,9 +20,9 @@ use Rattle.motion.specs.Vector.{motion_vector}
 use Rattle.motion.proofs.OneStep.{component_in}
 use Rattle.picture_state.specs.declared.types.{Motion.Motion, Slice.Slice}
 use Rattle.picture_state.specs.Possible.{PossibleMotion, PossibleSlice}
-use Rattle.picture_state.specs.State.{zeroed, with_vector, dc_reset}
+use Rattle.picture_state.specs.State.{zeroed, with_vector, with_motions, dc_reset}
 use Rattle.picture_state.specs.Flags.{is_intra}
-use Rattle.macroblock_head.specs.Heads.{scale, vector, forward, vectors, flagged, vectors_reset, head}
+use Rattle.macroblock_head.specs.Heads.{scale, vector, forward, backward, vectors, flagged, vectors_reset, head}
 use Rattle.macroblock_head.proofs.Kept.{flagged-kept, scale-gives}
 
 -- ---- components
@@ -48,10 +49,14 @@ module _ (m : Motion) (k : PossibleMotion m) {s : List ℕ} {from across to : Re
       let j = given_by (component_in m.r_size m.v k.size k.v) q in
       rw (range-read i, range-read j) (record { runs = r-call _ p (r-call _ q r-done); inside = w.inside })
 
-pub forward-zero : (type : ℕ) (m : Motion) {n : Motion} {s : List ℕ} {from : Reader} → ReaderInBounds s from → m.is_set ≡ false → type ≡ 2 → n ≡ zeroed m
-    → RunsInBounds (forward type m) s from n from
-unfolding forward
-forward-zero type m i f t e = rw e (record { runs = r-no _ f (r-yes _ (eq-eqb type 2 t) r-done); inside = i })
+-- the vectors of a slice, each direction by its rule
+pub vectors-read : (type : ℕ) (x : Slice) {f b : Motion} {s : List ℕ} {from mid to : Reader}
+    → RunsInBounds (when x.motion_forward.is_set then vector x.motion_forward
+    else when eqb type 2 then done (zeroed x.motion_forward) else done x.motion_forward) s from f mid
+    → RunsInBounds (when x.motion_backward.is_set then vector x.motion_backward else done x.motion_backward) s mid b to
+    → RunsInBounds (vectors type x) s from (with_motions f b x) to
+unfolding vectors forward backward
+vectors-read type x p q = record { runs = r-call _ p.runs (r-call _ q.runs r-done); inside = q.inside }
 
 -- ---- the head
 

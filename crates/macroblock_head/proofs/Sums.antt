@@ -1,6 +1,5 @@
 -- The address increment: a turn, as the code takes it, and the loop. Assumes nothing.
-use mathlib.Core.Path.{◌≡◌}
-use mathlib.Core.Bool.{Bool, true, false}
+use mathlib.Core.Path.{◌≡◌, sym, subst}
 use mathlib.Core.List.{List}
 use mathlib.Core.Logic.{inl, inr}
 use Prim.Native.Nat.{ℕ, ◌+◌, ◌≤◌, ◌<◌}
@@ -14,7 +13,6 @@ use Rattle.bits.specs.Runs.{ReaderInBounds, RunsInBounds, position_of, bits_left
 use Rattle.bits.proofs.Rules.{Loops, loop-start, loop-on, loop-end, takes-less, r-call, r-yes, r-no, r-done, and_yes, and_no}
 use Rattle.codes.specs.Codes.{macroblock_address_increment}
 use Rattle.macroblock_head.specs.Increments.{increment_step, increment}
-use Rattle.macroblock_head.specs.Promises.{step_of}
 use Rattle.macroblock_head.proofs.IncrementBound.{Sum, step_sum}
 use Rattle.macroblock_head.proofs.Fuel.{increment-takes}
 
@@ -40,13 +38,13 @@ module _ {s : List ℕ} {from to : Reader} {n : ℕ} (sum : ℕ) (r : RunsInBoun
         inside = r.inside;
       }
 
-  pub stuffing : n ≡ 34 → sum ≡ 0 → Turns (continue 0)
+  pub stuffing : n ≡ 34 → sum ≡ 0 → Turns (continue sum)
   unfolding increment_step
   stuffing h k =
-      record {
+      subst (λ (t : ℕ). Turns (continue t)) (sym k) (record {
         runs = r-call _ r.runs (r-yes _ (and_yes (eqb n 34) (eqb sum 0) (eq-eqb n 34 h) (eq-eqb sum 0 k)) r-done);
         inside = r.inside;
-      }
+      })
 
   pub last-34 : n ≡ 34 → (sum ≡ 0 → ⊥) → Turns (finish (sum + n))
   unfolding increment_step
@@ -77,18 +75,19 @@ module _ {s : List ℕ} {from₀ from : Reader} {sum : ℕ} (i : AtSequenceCode 
   pub sum-most : sum ≤ 402653249
   sum-most = omega (arith, i.small.most, i.inside.stream)
 
-  module _ {next : Reader} (more : ℕ) (t : Bool) (r : RunsInBounds (increment_step sum) s from (step_of t more) next) where
-    pub goes_on : t ≡ true → bits_left s next < bits_left s from
-    goes_on e = takes-less increment_step (increment-takes s) (rw e at r.runs)
+  -- a code behind which another follows, and the last one
+  module _ {next : Reader} {more : ℕ} (r : RunsInBounds (increment_step sum) s from (continue more) next) where
+    pub goes_on : bits_left s next < bits_left s from
+    goes_on = takes-less increment_step (increment-takes s) r.runs
 
-    pub at-code-on : t ≡ true → AtSequenceCode s from₀ next more
-    at-code-on e = let q = rw e at r.runs in
+    pub at-code-on : AtSequenceCode s from₀ next more
+    at-code-on =
         record {
           inside = r.inside;
-          small = rw q.is at (step_sum s sum (position_of from) i.small);
-          rest = loop-on i.rest q (goes_on e);
+          small = rw r.runs.is at (step_sum s sum (position_of from) i.small);
+          rest = loop-on i.rest r.runs goes_on;
         }
 
-    pub code-end : t ≡ false → RunsInBounds increment s from₀ more next
-    unfolding increment
-    code-end e = record { runs = loop-end i.rest (rw e at r.runs); inside = r.inside }
+  pub code-end : {next : Reader} {all : ℕ} → RunsInBounds (increment_step sum) s from (finish all) next → RunsInBounds increment s from₀ all next
+  unfolding increment
+  code-end r = record { runs = loop-end i.rest r.runs; inside = r.inside }

@@ -1,6 +1,6 @@
 -- RULES 7.13 to 7.16 (11172-2, 2.4.2.7): what a macroblock has before its blocks.
 use Rattle.std.specs.Prelude.{ℕ, eqb}
-use Rattle.bits.specs.Programs.{Prog, done, bind, bits, ◌>>=◌, ◌>>◌, when◌then◌else◌}
+use Rattle.bits.specs.Programs.{Prog, done, bits, ◌>>=◌, when◌then◌else◌}
 use Rattle.codes.specs.Codes.{macroblock_type_intra, macroblock_type_predictive, macroblock_type_b, code_block_pattern}
 use Rattle.motion.specs.Vector.{motion_vector}
 use Rattle.picture_state.specs.declared.types.{Motion.Motion, Slice.Slice}

@@ -1,7 +1,5 @@
 -- What the functions of a macroblock's head and prediction ask and say.
-use Rattle.std.specs.Prelude.{◌≡◌, Bool, true, false, List, ℕ}
-use Rattle.laws.specs.Loops.{Step, continue, finish}
-use Rattle.std.specs.Prelude.{Ok, Err}
+use Rattle.std.specs.Prelude.{◌≡◌, List, ℕ, Ok, Err}
 use Rattle.prediction.specs.Planes.{Predicted}
 use Rattle.picture_state.specs.declared.types.Slice.{Slice}
 use Rattle.picture_state.specs.Possible.{PossibleMotion}
@@ -13,11 +11,6 @@ use Rattle.picture_state.specs.Promises.{Exit, exit, numbered}
 abbrev pub prediction_result : Predicted → List ℕ → Result Exit (List ℕ)
 prediction_result (Ok _) l = ok l
 prediction_result (Err _) l = error (exit 9 l)
-
--- whether to go on, and with which number
-abbrev pub step_of : Bool → ℕ → Step ℕ ℕ
-step_of true n = continue n
-step_of false n = finish n
 
 -- RULES Q2: both vectors of a state
 pub record PossibleMotions (x : Slice) : Type 0 where

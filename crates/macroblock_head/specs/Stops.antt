@@ -6,9 +6,9 @@ use Rattle.prediction.specs.declared.planes.Plane.TheVariants.{Y, Cr}
 use Rattle.prediction.specs.Predict.{macroblock_at, block_position_of, start, max_address, reach, in_halves, chroma}
 use Rattle.prediction.specs.Planes.{block_size, predict_plane_from_store}
 use Rattle.picture_state.specs.declared.types.{Context.Context, Motion.Motion, Slice.Slice}
-use Rattle.picture_state.specs.Result.{ok, error}
+use Rattle.picture_state.specs.Result.{ok}
 use Rattle.picture_state.specs.Stop.{prediction_outside, Stop, stop}
-use Rattle.macroblock_head.specs.Predictions.{predict_from, predict, predict_skipped}
+use Rattle.macroblock_head.specs.Predictions.{predict_from, predict_skipped}
 
 -- RULES Q9: a block is predicted by h and v: its start is in 0..max_address, and it reaches further
 pub record ReachesOut (p : BlockPosition) (h v : ℤ) : Type 0 where

@@ -1,10 +1,11 @@
 // RULES 7.13 to 7.16: what a macroblock has before its blocks.
 ghost use Rattle.std.specs.Prelude.{◌≡◌};
+ghost use Rattle.bits.specs.Programs.{done, when◌then◌else◌};
 ghost use Rattle.bits.specs.Runs.{ReaderInBounds, RunsInBounds};
 ghost use Rattle.codes.specs.DecodingTables.{DecodingTables};
 ghost use Rattle.picture_state.specs.Possible.{PossibleMotion, PossibleSlice};
 ghost use Rattle.picture_state.specs.State.{zeroed, with_is_set, dc_reset};
-ghost use Rattle.macroblock_head.specs.Heads.{macroblock_type, scale, vector, forward, backward, vectors, flagged, vectors_reset, head, pattern};
+ghost use Rattle.macroblock_head.specs.Heads.{macroblock_type, scale, vector, vectors, flagged, vectors_reset, head, pattern};
 ghost use Rattle.macroblock_head.specs.Promises.{PossibleMotions};
 
 use bits::reader::{Read, Reader};
@@ -35,13 +36,11 @@ pub fn read_macroblock_type(s: &[u8], reader: Reader, tables: &Tables, picture_t
     requires decoding_tables { DecodingTables tables.now }
     ensures { RunsInBounds (macroblock_type picture_type) s.now reader result.value result.reader }
 {
-    if picture_type == 1 {
-        return read_macroblock_type_intra(s, reader, tables);
+    match picture_type {
+        1 => read_macroblock_type_intra(s, reader, tables),
+        2 => read_macroblock_type_predictive(s, reader, tables),
+        _ => read_macroblock_type_b(s, reader, tables),
     }
-    if picture_type == 2 {
-        return read_macroblock_type_predictive(s, reader, tables);
-    }
-    read_macroblock_type_b(s, reader, tables)
 }
 
 // The vector 0 (RULES 7.19).
@@ -66,100 +65,70 @@ fn read_vector(s: &[u8], reader: Reader, tables: &Tables, m: Motion) -> MotionRe
 {
     let h = decode_motion_vector(s, reader, tables, m.r_size, m.h);
     let v = decode_motion_vector(s, h.reader, tables, m.r_size, m.v);
-    let after = v.reader;
-    let across = h.value;
-    let down = v.value;
-    let motion = Motion {
-        full_px: m.full_px,
-        is_set: m.is_set,
-        r_size: m.r_size,
-        h: across,
-        v: down,
-    };
     MotionRead {
-        reader: after,
-        motion,
+        reader: v.reader,
+        motion: Motion {
+            h: h.value,
+            v: v.value,
+            ..m
+        },
     }
 }
 
-// RULES 7.15: read with its flag set; without it the forward vector of a P picture goes back to 0.
-fn read_forward(
-    s: &[u8],
-    reader: Reader,
-    tables: &Tables,
-    picture_type: u32,
-    m: Motion,
-) -> MotionRead
+// RULES 7.15: a direction's vector, read with its flag set; without it, it goes back to 0 where `resets` says so.
+fn read_motion(s: &[u8], reader: Reader, tables: &Tables, resets: bool, m: Motion) -> MotionRead
     requires reader_in_bounds { ReaderInBounds s.now reader }
     requires decoding_tables { DecodingTables tables.now }
     requires possible_motion { PossibleMotion m }
-    ensures { RunsInBounds (forward picture_type m) s.now reader result.motion result.reader }
+    ensures { RunsInBounds (when m.is_set then vector m else when resets then done (zeroed m) else done m)
+        s.now reader result.motion result.reader }
 {
     if m.is_set {
         return read_vector(s, reader, tables, m);
     }
-    if picture_type == 2 {
-        let still = zeroed(m);
+    if resets {
         return MotionRead {
             reader,
-            motion: still,
+            motion: zeroed(m),
         };
     }
     MotionRead { reader, motion: m }
 }
 
-fn read_backward(s: &[u8], reader: Reader, tables: &Tables, m: Motion) -> MotionRead
-    requires reader_in_bounds { ReaderInBounds s.now reader }
-    requires decoding_tables { DecodingTables tables.now }
-    requires possible_motion { PossibleMotion m }
-    ensures { RunsInBounds (backward m) s.now reader result.motion result.reader }
-{
-    if m.is_set {
-        return read_vector(s, reader, tables, m);
-    }
-    MotionRead { reader, motion: m }
-}
-
-// The forward vector first.
+// The forward vector first: in a P picture it goes back to 0 without its flag.
 fn read_vectors(
     s: &[u8],
     reader: Reader,
     tables: &Tables,
     picture_type: u32,
-    before: Slice,
+    mut before: Slice,
 ) -> HeadRead
     requires reader_in_bounds { ReaderInBounds s.now reader }
     requires decoding_tables { DecodingTables tables.now }
     requires possible_motions { PossibleMotions before }
     ensures { RunsInBounds (vectors picture_type before) s.now reader result.state result.reader }
 {
-    let f = read_forward(s, reader, tables, picture_type, before.motion_forward);
-    let b = read_backward(s, f.reader, tables, before.motion_backward);
-    let forward = f.motion;
-    let backward = b.motion;
-    let after = b.reader;
-    let mut state = before;
-    state.motion_forward = forward;
-    state.motion_backward = backward;
+    let f = read_motion(s, reader, tables, picture_type == 2, before.motion_forward);
+    let b = read_motion(s, f.reader, tables, false, before.motion_backward);
+    before.motion_forward = f.motion;
+    before.motion_backward = b.motion;
     HeadRead {
-        reader: after,
-        state,
+        reader: b.reader,
+        state: before,
     }
 }
 
 // RULES 7.13: 5 bits of scale with flag 16.
-fn read_scale(s: &[u8], reader: Reader, t: u32, before: Slice) -> HeadRead
+fn read_scale(s: &[u8], reader: Reader, t: u32, mut before: Slice) -> HeadRead
     requires { ReaderInBounds s.now reader }
     ensures { RunsInBounds (scale t before) s.now reader result.state result.reader }
 {
     if flag(t, 16) {
         let q = reader.read(s, 5);
-        let after = q.reader;
-        let mut state = before;
-        state.quantizer_scale = q.value;
+        before.quantizer_scale = q.value;
         return HeadRead {
-            reader: after,
-            state,
+            reader: q.reader,
+            state: before,
         };
     }
     HeadRead {
@@ -215,17 +184,13 @@ pub fn read_head(
     ensures { RunsInBounds (head picture_type t before) s.now reader result.state result.reader }
 {
     let q = read_scale(s, reader, t, flagged(t, before));
-    let after = q.reader;
-    let scaled = q.state;
     if flag(t, 1) {
-        let state = vectors_reset(scaled);
         return HeadRead {
-            reader: after,
-            state,
+            reader: q.reader,
+            state: vectors_reset(q.state),
         };
     }
-    let fresh = reset(scaled);
-    read_vectors(s, after, tables, picture_type, fresh)
+    read_vectors(s, q.reader, tables, picture_type, reset(q.state))
 }
 
 // RULES 7.16: read with flag 2; else 63 for an intra macroblock, and 0 for any other.

@@ -7,7 +7,6 @@ use lib.Dec.{eqb}
 use Rattle.bits.proofs.Gives.{Gives, g-done, g_any, g-bind, g_if, g-bits}
 use Rattle.laws.proofs.Tests.{by-case}
 use Rattle.picture_state.specs.declared.types.{Motion.Motion, Picture.Picture}
-use Rattle.macroblock_head.specs.Heads.{forward, backward}
 use Rattle.picture.specs.Pictures.{Direction, absent, present, PictureHeader, direction, picture_header, motion_by, with_picture_header}
 use Rattle.picture_state.specs.Possible.{PossibleMotion, PossiblePicture}
 use Rattle.picture_state.proofs.Kept.{motions-kept}

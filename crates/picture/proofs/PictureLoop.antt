@@ -5,6 +5,7 @@ use mathlib.Core.List.{List}
 use Prim.Native.Nat.{ℕ, zero, suc, ◌+◌, ◌≤◌, ◌<◌}
 use native.Mathlib.Omega.{arith}
 use borrow.Author.Tests.{eqb-true, eqb-false, eq-eqb, ne_eqb}
+use Rattle.std.specs.Prelude.{None}
 use lib.Dec.{T, eqb}
 use lib.IntN.{ℤ, pos, nat_abs, ◌+ℤ◌}
 use lib.ListN.{length}
@@ -25,7 +26,7 @@ use Rattle.picture_state.specs.Possible.{PossiblePicture}
 use Rattle.picture_state.proofs.Possible.{between-of}
 use Rattle.picture_state.specs.State.{SliceState, slice_state}
 use Rattle.picture_state.specs.Result.{Result, ok, error}
-use Rattle.picture_state.specs.Stop.{Stop}
+use Rattle.picture_state.specs.Stop.{Stop, stop_number}
 use Rattle.slice.specs.Slices.{slice}
 use Rattle.picture.specs.Pictures as P
 use Rattle.picture.proofs.Fuel.{slices-take}
@@ -79,12 +80,12 @@ module _ (g : Context) (w : Progress) {c code : ℤ} (e : c ≡ code) where
   abbrev last : Bool
   last = le_z (pos g.sizes.mb_size) (w.state.macroblock_address +ℤ pos 1)
 
-  pub past_stop : (w.stop ≡ 0 → ⊥) → ended c w false ≡ after_slice_of g code w
-  past_stop h = rw e (ap (λ (t : Bool). ended code w (t && not last)) (sym (ne_eqb w.stop 0 h)))
+  pub past_stop : (stop_number w.stop ≡ 0 → ⊥) → ended c w false ≡ after_slice_of g code w
+  past_stop h = rw e (ap (λ (t : Bool). ended code w (t && not last)) (sym (ne_eqb (stop_number w.stop) 0 h)))
 
-  pub past-on : w.stop ≡ 0 → {t : Bool} → t ≡ last → ended c w (not t) ≡ after_slice_of g code w
+  pub past-on : stop_number w.stop ≡ 0 → {t : Bool} → t ≡ last → ended c w (not t) ≡ after_slice_of g code w
   past-on h q =
-      rw e (ap (λ (t : Bool). ended code w (not t)) q ∙ ap (λ (t : Bool). ended code w (t && not last)) (sym (eq-eqb w.stop 0 h)))
+      rw e (ap (λ (t : Bool). ended code w (not t)) q ∙ ap (λ (t : Bool). ended code w (t && not last)) (sym (eq-eqb (stop_number w.stop) 0 h)))
 
 -- ---- a turn
 
@@ -114,7 +115,7 @@ module _ {g : Context} {s : List ℕ} {reader : Reader} {x : Slice} {left : List
   unfolding P.slices_step
   refines-slice e w {left₁} {store₁} p = record {
     runs = λ before. t_call _ found.runs (t-yes _ e
-        (t_call _ p.runs.runs (behind w.state left₁ store₁ w.reader w.stop _ refl p.runs.value p.runs.is)));
+        (t_call _ p.runs.runs (behind w.state left₁ store₁ w.reader (stop_number w.stop) _ refl p.runs.value p.runs.is)));
     reads = p.reads;
     store_fits = p.store_fits;
     few = few;
@@ -122,7 +123,7 @@ module _ {g : Context} {s : List ℕ} {reader : Reader} {x : Slice} {left : List
 
   pub refines-other : P.is_slice code ≡ false → (t : Bool) → t ≡ (P.is_extra code && not begun)
       → RefinesSlicesStep g m s reader begun x left store
-      (record { reader = after; code = code; state = x; begun = false; continues = t; stop = 0 }) left store
+      (record { reader = after; code = code; state = x; begun = false; continues = t; stop = None }) left store
   unfolding P.slices_step
   refines-other e t q = record {
     runs = λ before. t_call _ found.runs (t-no _ e (picked before t (sym q)));

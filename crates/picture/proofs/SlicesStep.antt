@@ -13,7 +13,7 @@ use Rattle.picture_state.specs.declared.types.{Matrices.Matrices, Picture.Pictur
 use Rattle.picture_state.specs.declared.types.Stores.{Stores}
 use Rattle.picture_state.specs.State.{with_stores}
 use Rattle.picture_state.specs.Result.{Result, bind_result, pure}
-use Rattle.picture_state.specs.Stop.{Stop}
+use Rattle.picture_state.specs.Stop.{Stop, stop_number}
 use Rattle.picture.specs.Pictures as P
 use Rattle.picture_state.specs.Promises.{matrices, matrices_in, result_of, RunsNumbered, StoreFits}
 use Rattle.picture.specs.Promises.{picture_state_of, RefinesSlices, RefinesPicture}
@@ -92,7 +92,7 @@ module _ (z : Sizes) (m : Matrices) (p : Picture) (left : List ℤ) (store : Lis
   coded-other h e f c = record {
     runs = rw f
         (t-no _ h
-        (r-pure (λ f. P.with_picture (with_stores (P.roles_after_reading p.stores) f.picture) f) r.stop (P.picture_state r.picture left₁ store₁) store₁
+        (r-pure (λ f. P.with_picture (with_stores (P.roles_after_reading p.stores) f.picture) f) (stop_number r.stop) (P.picture_state r.picture left₁ store₁) store₁
         (rw e at c.runs)));
     inside = c.inside;
   }

@@ -6,7 +6,6 @@ use Prim.Native.Nat.{ℕ, zero, suc}
 use lib.Dec.{eqb}
 use lib.IntN.{ℤ, nat_abs}
 use Rattle.laws.specs.Loops.{Step, continue, finish}
-use Rattle.laws.proofs.Tests.{by-case}
 use Rattle.bits.specs.Programs.{Prog, RunResult, done, run, bind, next_start_code, loop, continue_with, stream_fuel}
 use Rattle.bits.proofs.Programs.{run_bind}
 use Rattle.bits.proofs.Gives.{Gives, g-done, g_if}

@@ -1,15 +1,16 @@
 -- What the code has behind a picture's header, behind a slice, and behind the slices of a picture.
-use Rattle.std.specs.Prelude.{true, not, ◌&&◌, eqb, ℤ, pos, ◌+ℤ◌}
+use Rattle.std.specs.Prelude.{true, not, ◌&&◌, eqb, ℤ, pos, ◌+ℤ◌, Option, Some, None}
 use Rattle.std.specs.Int.Signed.{le_z}
-use Rattle.bits.specs.Programs.{when◌then◌else◌}
 use Rattle.picture_state.specs.declared.types.{Context.Context, Stores.Stores, Progress.Progress, SlicesProgress.SlicesProgress}
 use Rattle.picture_state.specs.declared.types.PictureProgress.{PictureProgress}
+use Rattle.picture_state.specs.Stop.{stop_number}
 use Rattle.picture.specs.Pictures as P
 use Rattle.picture.specs.declared.headers.{Direction.Direction, HeaderRead.HeaderRead}
 
 -- RULES 7.1: a direction as the code has it
-abbrev pub direction_of : Direction → P.Direction
-direction_of d = when d.present then P.present d.full_pel_vector d.f_code else P.absent
+abbrev pub direction_of : Option Direction → P.Direction
+direction_of None = P.absent
+direction_of (Some d) = P.present d.full_pel_vector d.f_code
 
 -- RULES 7.1: the fields of a header as the code has read them, without the reader behind them
 abbrev pub header_of : HeaderRead → P.PictureHeader
@@ -28,7 +29,7 @@ after_slice_of g code w = record {
   code = code;
   state = w.state;
   begun = true;
-  continues = eqb w.stop 0 && not (le_z (pos g.sizes.mb_size) (w.state.macroblock_address +ℤ pos 1));
+  continues = eqb (stop_number w.stop) 0 && not (le_z (pos g.sizes.mb_size) (w.state.macroblock_address +ℤ pos 1));
   stop = w.stop;
 }
 

@@ -6,10 +6,9 @@ ghost use Rattle.picture.specs.CodeResults.{direction_of, header_of};
 
 use bits::reader::Reader;
 
-// Full-pel flag and f code of one direction, where the header has them.
+// Full-pel flag and f code of one direction.
 #[derive(Clone, Copy)]
 pub struct Direction {
-    pub present: bool,
     pub full_pel_vector: bool,
     pub f_code: u32,
 }
@@ -17,7 +16,7 @@ pub struct Direction {
 #[derive(Clone, Copy)]
 struct DirectionRead {
     pub reader: Reader,
-    pub direction: Direction,
+    pub direction: Option<Direction>,
 }
 
 #[derive(Clone, Copy)]
@@ -26,15 +25,15 @@ pub struct HeaderRead {
     pub temporal_reference: u32,
     pub picture_coding_type: u32,
     pub vbv_delay: u32,
-    pub forward: Direction,
-    pub backward: Direction,
+    pub forward: Option<Direction>,
+    pub backward: Option<Direction>,
 }
 
 // Does the header have an f code of 0 for this direction?
-pub fn is_zero(d: Direction) -> bool
+pub fn is_zero(d: Option<Direction>) -> bool
     ensures { result ≡ has_zero_fcode (direction_of d) }
 {
-    d.present & (d.f_code == 0)
+    matches!(d, Some(Direction { f_code: 0, .. }))
 }
 
 // One bit and three, if the header has them.
@@ -42,26 +41,21 @@ fn read_direction(s: &[u8], reader: Reader, present: bool) -> DirectionRead
     requires { ReaderInBounds s.now reader }
     ensures { RunsInBounds (direction present) s.now reader (direction_of result.direction) result.reader }
 {
-    if present {
-        let full = reader.read_bit(s);
-        let f = full.reader.read(s, 3);
-        let after = f.reader;
-        let direction = Direction {
-            present: true,
-            full_pel_vector: full.value != 0,
-            f_code: f.value,
-        };
+    if !present {
         return DirectionRead {
-            reader: after,
-            direction,
+            reader,
+            direction: None,
         };
     }
-    let direction = Direction {
-        present: false,
-        full_pel_vector: false,
-        f_code: 0,
-    };
-    DirectionRead { reader, direction }
+    let full = reader.read_bit(s);
+    let f = full.reader.read(s, 3);
+    DirectionRead {
+        reader: f.reader,
+        direction: Some(Direction {
+            full_pel_vector: full.value != 0,
+            f_code: f.value,
+        }),
+    }
 }
 
 // A P or B header has the forward direction, and a B header then the backward one, unless the forward f code is 0.
@@ -78,9 +72,8 @@ pub fn read_picture_header(s: &[u8], reader: Reader) -> HeaderRead
     let forward = f.direction;
     let b = read_direction(s, f.reader, is_b & !is_zero(forward));
     let backward = b.direction;
-    let after = b.reader;
     HeaderRead {
-        reader: after,
+        reader: b.reader,
         temporal_reference: temporal.value,
         picture_coding_type,
         vbv_delay: delay.value,

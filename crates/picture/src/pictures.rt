@@ -17,30 +17,21 @@ use slice::slices::read_slice;
 fn is_extra(code: i32) -> bool
     ensures { result ≡ is_extra code }
 {
-    if code == 0xb2 {
-        return true;
-    }
-    code == 0xb5
+    matches!(code, 0xb2 | 0xb5)
 }
 
 // RULES 7.3: 01 to AF.
 fn is_slice(code: i32) -> bool
     ensures { result ≡ is_slice code }
 {
-    if code < 1 {
-        return false;
-    }
-    code <= 0xaf
+    (1..=0xaf).contains(&code)
 }
 
 // RULES 7.3: user data and extensions are passed over before the first slice.
 fn passes_over(code: i32, begun: bool) -> bool
     ensures { result ≡ (is_extra code && not begun) }
 {
-    if begun {
-        return false;
-    }
-    is_extra(code)
+    !begun && is_extra(code)
 }
 
 // RULES 7.4: behind a slice with this start code. The picture ends where the address has reached the last macroblock.
@@ -49,27 +40,14 @@ fn after_slice(g: Context, code: i32, w: Progress) -> SlicesProgress
     requires address_sum_bound { AddressSumBound w.state.macroblock_address 1 }
     ensures { result ≡ after_slice_of g code w }
 {
-    let reader = w.reader;
-    let state = w.state;
-    let stop = w.stop;
-    if stop != 0 {
-        return SlicesProgress {
-            reader,
-            code,
-            state,
-            begun: true,
-            continues: false,
-            stop,
-        };
-    }
-    let last = past(g, state.macroblock_address, 1);
+    let continues = w.stop.is_none() && !past(g, w.state.macroblock_address, 1);
     SlicesProgress {
-        reader,
+        reader: w.reader,
         code,
-        state,
+        state: w.state,
         begun: true,
-        continues: !last,
-        stop,
+        continues,
+        stop: w.stop,
     }
 }
 
@@ -91,20 +69,27 @@ fn slices_step(
         result values.new store.new }
 {
     let found = reader.next_start_code(s);
-    let after = found.reader;
     let code = found.value;
     if is_slice(code) {
-        let w = read_slice(s, after, store, values, tables, g, code as usize, state);
+        let w = read_slice(
+            s,
+            found.reader,
+            store,
+            values,
+            tables,
+            g,
+            code as usize,
+            state,
+        );
         return after_slice(g, code, w);
     }
-    let continues = passes_over(code, begun);
     SlicesProgress {
-        reader: after,
+        reader: found.reader,
         code,
         state,
         begun: false,
-        continues,
-        stop: 0,
+        continues: passes_over(code, begun),
+        stop: None,
     }
 }
 

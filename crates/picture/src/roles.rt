@@ -32,11 +32,7 @@ fn roles_of(picture_type: u32, t: Stores) -> Roles
             afterwards: t,
         };
     }
-    let during = Stores {
-        cur: t.cur,
-        fwd: t.bwd,
-        bwd: t.bwd,
-    };
+    let during = Stores { fwd: t.bwd, ..t };
     let afterwards = Stores {
         cur: t.fwd,
         fwd: t.bwd,
@@ -50,15 +46,13 @@ fn picture_of(g: Context, stores: Stores, t: SlicesProgress) -> PictureProgress
     requires { nat_abs t.code ≤ 255 }
     ensures { result ≡ progress_of g stores t }
 {
-    let end = t.reader;
-    let slice = t.state;
     PictureProgress {
-        reader: end,
+        reader: t.reader,
         picture: Picture {
             picture_type: g.picture_type,
             start_code: t.code,
             stores,
-            slice,
+            slice: t.state,
         },
         stop: t.stop,
     }
@@ -94,14 +88,11 @@ pub fn read_slices_in_roles(
     has_bytes(other_bytes);
     let tables = tables_with(intra, other);
     let roles = roles_of(p.picture_type, p.stores);
-    let stores = roles.during;
-    let afterwards = roles.afterwards;
     let g = Context {
         picture_type: p.picture_type,
         sizes,
-        stores,
+        stores: roles.during,
     };
-    let start = p.slice;
-    let t = read_slices(s, reader, store, values, &tables, g, p.start_code, start);
-    picture_of(g, afterwards, t)
+    let t = read_slices(s, reader, store, values, &tables, g, p.start_code, p.slice);
+    picture_of(g, roles.afterwards, t)
 }

@@ -14,42 +14,34 @@ use bits::reader::Reader;
 use picture_state::types::{Motion, Picture, PictureProgress, Sizes};
 
 // Flag and r of a motion, from its direction in the header; an f code of 0 leaves r as it was.
-fn with_direction(m: Motion, d: Direction) -> Motion
+fn with_direction(mut m: Motion, d: Option<Direction>) -> Motion
     ensures { result ≡ motion_by (direction_of d) m }
 {
-    if d.present {
-        let mut motion = m;
-        motion.full_px = d.full_pel_vector;
-        if d.f_code == 0 {
-            return motion;
-        }
-        motion.r_size = d.f_code - 1;
-        return motion;
+    let Some(d) = d else {
+        return m;
+    };
+    m.full_px = d.full_pel_vector;
+    if d.f_code != 0 {
+        m.r_size = d.f_code - 1;
     }
     m
 }
 
 // The picture p with what its header sets.
-fn with_header(p: Picture, h: HeaderRead) -> Picture
+fn with_header(mut p: Picture, h: HeaderRead) -> Picture
     ensures { result ≡ with_picture_header (header_of h) p }
 {
-    let mut slice = p.slice;
-    let motion_forward = with_direction(slice.motion_forward, h.forward);
-    let motion_backward = with_direction(slice.motion_backward, h.backward);
-    slice.motion_forward = motion_forward;
-    slice.motion_backward = motion_backward;
-    let mut picture = p;
-    picture.picture_type = h.picture_coding_type;
-    picture.slice = slice;
-    picture
+    p.picture_type = h.picture_coding_type;
+    p.slice.motion_forward = with_direction(p.slice.motion_forward, h.forward);
+    p.slice.motion_backward = with_direction(p.slice.motion_backward, h.backward);
+    p
 }
 
 // Whether a picture with this header is decoded.
 fn is_decoded(h: HeaderRead) -> bool
     ensures { result ≡ is_decoded (header_of h) }
 {
-    let t = h.picture_coding_type;
-    (1 <= t) & (t <= 3) & !is_zero(h.forward) & !is_zero(h.backward)
+    (1..=3).contains(&h.picture_coding_type) && !is_zero(h.forward) && !is_zero(h.backward)
 }
 
 // One that is not decoded ends behind its header.
@@ -71,14 +63,13 @@ pub fn read_picture(
         s.now reader result values.new store.new }
 {
     let h = read_picture_header(s, reader);
-    let from = h.reader;
     let headed = with_header(p, h);
     if is_decoded(h) {
-        return read_slices_in_roles(s, from, store, values, sizes, intra, other, headed);
+        return read_slices_in_roles(s, h.reader, store, values, sizes, intra, other, headed);
     }
     PictureProgress {
-        reader: from,
+        reader: h.reader,
         picture: headed,
-        stop: 0,
+        stop: None,
     }
 }

@@ -14,7 +14,6 @@ use Rattle.coefficients.specs.Dcs.{dc_in_range}
 use Rattle.picture_state.specs.declared.types.{Motion.Motion, Slice.Slice}
 use Rattle.picture_state.specs.State.{zeroed, with_is_set, with_scale, with_motions, dc_reset, with_predictors}
 use Rattle.picture_state.specs.Possible.{PossibleMotion, PossibleSlice}
-use Rattle.laws.proofs.Ints.{v}
 
 pub zeroed-kept : {m : Motion} → PossibleMotion m → PossibleMotion (zeroed m)
 zeroed-kept k =

@@ -1,5 +1,5 @@
 -- The rules by which a function's proof follows a program that may leave early. Assumes nothing.
-use mathlib.Core.Path.{◌≡◌, refl, ap, sym, ◌∙◌}
+use mathlib.Core.Path.{◌≡◌, refl, ap, sym}
 use mathlib.Core.Bool.{Bool, true, false, cond, false≢true}
 use mathlib.Core.List.{List}
 use Prim.Native.Nat.{ℕ, zero, suc, ◌+◌}
@@ -10,7 +10,10 @@ use Rattle.bits.specs.Runs.{Runs, reader_at}
 use Rattle.bits.specs.declared.reader.Reader.{Reader}
 use Rattle.bits.proofs.Rules.{Loops, loop-end, r-call, r-done, r-yes, r-no, r-for-on}
 use Rattle.picture_state.specs.Result.{Result, ok, error, and_then, if_ok, bind_result, lift, for_below}
-use Rattle.picture_state.specs.Stop.{Cause, Stop, stop, error_code}
+use Rattle.std.specs.Prelude.{Option, Some, None, is_some}
+use Rattle.picture_state.specs.declared.types.StopMark.{StopMark}
+use Rattle.picture_state.specs.declared.types.StopMark.TheVariants.{DcOutside, PredictionOutside}
+use Rattle.picture_state.specs.Stop.{Cause, Stop, stop, error_code, stop_number}
 use Rattle.picture_state.specs.Promises.{Exit, exit, result_of, numbered, numbered_step, RunsAs, RunsNumbered}
 
 -- ---- a value that is told
@@ -161,6 +164,16 @@ loop-left {S} {A} {n} {f} {d} {x₀} {s} {from₀} {x} {from} {left} {w} {to} l 
     go : (t : Step S (Result Stop A)) → Runs (f x) s from t to → numbered_step t ≡ finish w → RunsNumbered (loop n f d x₀) s from₀ w to
     go (continue y) q e = absurd (finish_continues (sym e))
     go (finish v) q e = record { value = v; runs = loop-end l q; is = ap (value_of (numbered v)) e }
+
+-- a mark's number is not 0, and 0 says that there is none
+pub some-is-stop : (o : Option StopMark) → is_some o ≡ true → stop_number o ≡ 0 → ⊥
+some-is-stop None h z = absurd (false≢true h)
+some-is-stop (Some DcOutside) h z = absurd (omega arith)
+some-is-stop (Some PredictionOutside) h z = absurd (omega arith)
+
+pub none-goes-on : (o : Option StopMark) → is_some o ≡ false → stop_number o ≡ 0
+none-goes-on None h = refl
+none-goes-on (Some m) h = absurd (false≢true (sym h))
 
 -- the way that a number tells
 pub nonzero-is-error : {A : Type 0} {n : ℕ} (x : A) (l : List ℕ) → (n ≡ 0 → ⊥) → result_of n x l ≡ error (exit n l)

@@ -7,13 +7,12 @@ use Rattle.bits.specs.Programs.{Prog}
 use Rattle.bits.specs.Runs.{Runs, ReaderInBounds}
 use Rattle.codes.specs.DecodingTables.{matrix_of}
 use Rattle.codes.specs.Matrices.{Bounded}
-use Rattle.coefficients.specs.Blocks.{block}
 use Rattle.prediction.specs.Planes.{stores_bytes}
 use Rattle.picture_state.specs.declared.types.{Context.Context, Matrices.Matrices, Progress.Progress, Slice.Slice, Stores.Stores}
 use Rattle.picture_state.specs.State.{SliceState, slice_state}
 use Rattle.picture_state.specs.Possible.{PossibleSlice}
 use Rattle.picture_state.specs.Result.{Result, ok, error}
-use Rattle.picture_state.specs.Stop.{Stop, error_code}
+use Rattle.picture_state.specs.Stop.{Stop, error_code, stop_number}
 
 -- the two matrices, lent one by one
 abbrev pub matrices : List ℕ → List ℕ → Matrices
@@ -91,12 +90,12 @@ pub record MacroblockInvariant (g : Context) (s : List ℕ) (reader : Reader) (x
 -- p, from the reader on, goes where r says, with these coefficients left over and this store; and what works at a macroblock can go on from there
 pub record RefinesAtMacroblock (p : Prog (Result Stop SliceState)) (g : Context) (s : List ℕ) (reader : Reader) (r : Progress) (left : List ℤ)
     (store : List ℕ) : Type 0 where
-  pub runs : RunsNumbered p s reader (result_of r.stop (slice_state r.state left store) store) r.reader
+  pub runs : RunsNumbered p s reader (result_of (stop_number r.stop) (slice_state r.state left store) store) r.reader
   pub ready : MacroblockInvariant g s r.reader r.state left store
 
 -- the same where no macroblock need have the address in the end
 pub record RefinesInSlice (p : Prog (Result Stop SliceState)) (g : Context) (s : List ℕ) (reader : Reader) (r : Progress) (left : List ℤ)
     (store : List ℕ) : Type 0 where
-  pub runs : RunsNumbered p s reader (result_of r.stop (slice_state r.state left store) store) r.reader
+  pub runs : RunsNumbered p s reader (result_of (stop_number r.stop) (slice_state r.state left store) store) r.reader
   pub reads : ReadInvariant s r.reader r.state left
   pub store_fits : StoreFits g store

@@ -1,6 +1,8 @@
 -- RULES Q8, Q9: why a picture ends a call early, and what it leaves.
-use Rattle.std.specs.Prelude.{List, ℕ, ℤ}
+use Rattle.std.specs.Prelude.{List, ℕ, ℤ, Option, Some, None}
 use Rattle.prediction.specs.declared.planes.Plane.{Plane}
+use Rattle.picture_state.specs.declared.types.StopMark.{StopMark}
+use Rattle.picture_state.specs.declared.types.StopMark.TheVariants.{DcOutside, PredictionOutside}
 
 -- the macroblock by its address, and what is outside in it
 pub data Cause : Type 0 where
@@ -13,6 +15,15 @@ pub data Cause : Type 0 where
 abbrev pub error_code : Cause → ℕ
 error_code (dc_outside address block predictor difference) = 8
 error_code (prediction_outside address plane h v) = 9
+
+-- RULES Q8, Q9: the number of a mark of the code, and 0 where there is none
+abbrev pub mark_number : StopMark → ℕ
+mark_number DcOutside = 8
+mark_number PredictionOutside = 9
+
+abbrev pub stop_number : Option StopMark → ℕ
+stop_number None = 0
+stop_number (Some m) = mark_number m
 
 -- the cause, and the store as it then is. The record is not part of it: after 8 and 9 it is the one passed in
 pub record Stop : Type 0 where

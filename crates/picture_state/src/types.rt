@@ -1,4 +1,7 @@
 // What decoding a picture reads and changes, by value. The reader is beside it, and the store is lent.
+ghost use Rattle.std.specs.Prelude.{◌≡◌};
+ghost use Rattle.picture_state.specs.Stop.{mark_number};
+
 use bits::reader::Reader;
 
 // A vector of one direction, with the flags and the size that its reading needs.
@@ -60,12 +63,30 @@ pub struct Context {
     pub stores: Stores,
 }
 
-// Where a part of a slice ended. `stop`: 0, or 8 or 9.
+// RULES Q8, Q9: why a picture ends a call early. The decoder's record keeps its number.
+#[derive(Clone, Copy, Debug, PartialEq, Eq)]
+pub enum StopMark {
+    DcOutside,
+    PredictionOutside,
+}
+
+impl StopMark {
+    pub fn number(self) -> u32
+        ensures { result ≡ mark_number self }
+    {
+        match self {
+            StopMark::DcOutside => 8,
+            StopMark::PredictionOutside => 9,
+        }
+    }
+}
+
+// Where a part of a slice ended.
 #[derive(Clone, Copy)]
 pub struct Progress {
     pub reader: Reader,
     pub state: Slice,
-    pub stop: u32,
+    pub stop: Option<StopMark>,
 }
 
 // Where a turn over the slices of a picture ended. `continues`: another start code follows. `begun`: a slice has been read.
@@ -76,7 +97,7 @@ pub struct SlicesProgress {
     pub state: Slice,
     pub begun: bool,
     pub continues: bool,
-    pub stop: u32,
+    pub stop: Option<StopMark>,
 }
 
 // Where a picture ended.
@@ -84,5 +105,5 @@ pub struct SlicesProgress {
 pub struct PictureProgress {
     pub reader: Reader,
     pub picture: Picture,
-    pub stop: u32,
+    pub stop: Option<StopMark>,
 }

@@ -1,31 +1,34 @@
 -- The steps of the state alone, one law for each way out. Assumes nothing.
 use mathlib.Core.Path.{◌≡◌, ap, ◌∙◌}
-use mathlib.Core.Bool.{Bool, true, false, cond}
+use mathlib.Core.Bool.{true, false}
 use mathlib.Core.List.{List}
 use Prim.Native.Nat.{ℕ}
+use Rattle.std.specs.Prelude.{Some}
 use lib.Dec.{eqb}
 use lib.IntN.{ℤ}
 use Rattle.laws.specs.Loops.{Step, continue, finish}
 use Rattle.playback.specs.declared.outcome.Outcome.TheVariants.{Picture, Refused}
+use Rattle.playback.specs.declared.outcome.StepEnd.{StepEnd}
+use Rattle.playback.specs.declared.outcome.StepEnd.TheVariants.{Continues, Finished, Aborted}
 use Rattle.playback.specs.declared.outcome.StepResult.{StepResult}
 use Rattle.playback.specs.declared.state.State.{State}
 use Rattle.playback.specs.State.{has_reference_frame, shown_picture, has_reference_frame_as}
 use Rattle.playback.specs.Display.{OutcomeState, outcome_state, is_waiting, output_picture, shown, flushed}
 use Rattle.playback.specs.Steps as Steps
-use Rattle.playback.specs.StepResults.{end_of, step_of, RefinesStep}
+use Rattle.playback.specs.StepResults.{step_end_of, step_of, state_step, RefinesStep}
 
 -- a step is a turn among the coefficients and in the store that it leaves alone
 pub step-of : {t : StepResult} {x : Step State OutcomeState} (c : List ℤ) (l : List ℕ) → RefinesStep t x → step_of t c l ≡ Steps.with_store c l x
-step-of {t} {x} c l k = go t.stop k.goes t.continues k.is
+step-of {t} {x} c l k = go t.end k.is
   where
-    go : (n : ℕ) → n ≡ 0 → (b : Bool) → cond b (continue t.state) (finish (outcome_state t.outcome t.state)) ≡ x
-        → cond b (continue (Steps.decoding_state t.state c l)) (finish (end_of n t c l)) ≡ Steps.with_store c l x
-    go n e true h = ap (Steps.with_store c l) h
-    go n e false h = rw e (ap (Steps.with_store c l) h)
+    go : (e : StepEnd) → state_step e t.state ≡ Some x → step_end_of e t.state c l ≡ Steps.with_store c l x
+    go Continues h = let e : ◌≡◌ {A = Step State OutcomeState} (continue t.state) x = cc in ap (Steps.with_store c l) e
+    go (Finished o) h = let e : finish (outcome_state o t.state) ≡ x = cc in ap (Steps.with_store c l) e
+    go (Aborted m) h = absurd (cc)
 
 -- a step that equals another
 pub steps_as : {t : StepResult} {x y : Step State OutcomeState} → RefinesStep t x → x ≡ y → RefinesStep t y
-steps_as k e = record { is = k.is ∙ e; goes = k.goes }
+steps_as k e = record { is = k.is ∙ ap Some e }
 
 module _ (x : State) where
   pub shown_b : x.picture.picture_type ≡ 3 → ◌≡◌ {A = Step State OutcomeState} (finish (output_picture x.picture.stores.cur x)) (shown x)

@@ -6,11 +6,12 @@ ghost use Rattle.playback.specs.State.{possible_display, has_reference_frame_as}
 ghost use Rattle.playback.specs.Display as Rules;
 ghost use Rattle.playback.specs.StepResults.{RefinesStep};
 
-use crate::outcome::{Outcome, StepResult, shown_picture};
-use crate::state::{Clock, Display, State};
+use crate::outcome::{Outcome, StepEnd, StepResult, shown_picture};
+use crate::state::State;
 use bits::reader::Reader;
 
 // RULES 8.9: the time of n pictures at a rate, rounded once.
+#[tactic(auto, unfolding(crate::specs::Display::time_of))]
 fn time_of(n: u32, rate: f64) -> f64
     ensures { result ≡ Rules.time_of n rate }
 {
@@ -23,21 +24,11 @@ fn counted(mut d: State) -> State
     ensures { result ≡ Rules.counted d }
 {
     let n = d.display.frames_decoded + 1;
-    let c = d.display.clock;
-    let rate = c.framerate;
+    let rate = d.display.clock.framerate;
     let time = time_of(n, rate);
-    let clock = Clock {
-        framerate: c.framerate,
-        pixel_aspect_ratio: c.pixel_aspect_ratio,
-        time,
-        last_frame_time: c.time,
-    };
-    let display = Display {
-        clock,
-        has_reference_frame: d.display.has_reference_frame,
-        frames_decoded: n,
-    };
-    d.display = display;
+    d.display.frames_decoded = n;
+    d.display.clock.last_frame_time = d.display.clock.time;
+    d.display.clock.time = time;
     d
 }
 
@@ -45,9 +36,7 @@ fn counted(mut d: State) -> State
 fn has_reference_frame_as(mut d: State, has_reference_frame: bool) -> State
     ensures { result ≡ has_reference_frame_as has_reference_frame d }
 {
-    let mut display = d.display;
-    display.has_reference_frame = has_reference_frame;
-    d.display = display;
+    d.display.has_reference_frame = has_reference_frame;
     d
 }
 
@@ -56,9 +45,7 @@ pub fn finished(state: State, outcome: Outcome) -> StepResult
 {
     StepResult {
         state,
-        outcome,
-        continues: false,
-        stop: 0,
+        end: StepEnd::Finished(outcome),
     }
 }
 
@@ -76,9 +63,8 @@ pub fn shown(d: State) -> StepResult
     requires { possible_display d.display ≡ true }
     ensures { RefinesStep result (Rules.shown d) }
 {
-    let picture_type = d.picture.picture_type;
     let held = d.display.has_reference_frame;
-    if picture_type == 3 {
+    if d.picture.picture_type == 3 {
         return output_picture(d, d.picture.stores.cur);
     }
     if held {
@@ -86,9 +72,7 @@ pub fn shown(d: State) -> StepResult
     }
     StepResult {
         state: has_reference_frame_as(d, true),
-        outcome: Outcome::Refused(7),
-        continues: true,
-        stop: 0,
+        end: StepEnd::Continues,
     }
 }
 

@@ -3,6 +3,7 @@ ghost use Rattle.std.specs.Prelude.{◌≡◌};
 ghost use Rattle.playback.specs.State as Rules;
 
 use crate::state::State;
+use picture_state::types::StopMark;
 
 // What is told of a picture that is handed out: the number of its store, and the time shown with it.
 #[derive(Clone, Copy)]
@@ -19,17 +20,24 @@ pub fn shown_picture(d: State, k: usize) -> Shown
     Shown { store: k, time }
 }
 
+// The refusal's number, and not an enum of the refusals: callers and the C interface are given the number (docs/DECISIONS.md bits.3, RULES C.3).
 #[derive(Clone, Copy)]
 pub enum Outcome {
     Picture(Shown),
     Refused(u32),
 }
 
-// `continues`: nothing was handed out, and another turn follows. `stop`: 8 or 9, else 0; with a stop the state is of no use (RULES 8.14).
+// How a turn ends: another follows, and nothing was handed out; or the call ends with an outcome, or early (RULES Q8, Q9).
+#[derive(Clone, Copy)]
+pub enum StepEnd {
+    Continues,
+    Finished(Outcome),
+    Aborted(StopMark),
+}
+
+// Where a turn is aborted the state is of no use (RULES 8.14).
 #[derive(Clone, Copy)]
 pub struct StepResult {
     pub state: State,
-    pub outcome: Outcome,
-    pub continues: bool,
-    pub stop: u32,
+    pub end: StepEnd,
 }

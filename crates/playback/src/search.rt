@@ -14,19 +14,15 @@ use picture_state::types::Picture;
 pub fn has_code(p: Picture, code: i32) -> bool
     ensures { result ≡ eq_z p.start_code code }
 {
-    let last = p.start_code;
-    last == code
+    p.start_code == code
 }
 
 // A search that ended here with a start code.
 fn searched(mut d: State, reader: Reader, code: i32) -> State
     ensures { result ≡ with_search_result code (position_of reader) d }
 {
-    let mut p = d.picture;
-    p.start_code = code;
-    d.picture = p;
-    let position = reader.position();
-    d.position = position;
+    d.picture.start_code = code;
+    d.position = reader.position();
     d
 }
 
@@ -48,10 +44,5 @@ pub fn is_followed(s: &[u8], reader: Reader) -> bool
     requires { ReaderInBounds s.now reader }
     ensures { result ≡ Search.is_followed s.now (position_of reader) }
 {
-    let ahead = reader.has_start_code(s, 0);
-    let code = ahead.value;
-    if code != -1 {
-        return true;
-    }
-    reader.has_ended(s).value
+    reader.has_start_code(s, 0).value != -1 || reader.has_ended(s).value
 }

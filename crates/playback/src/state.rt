@@ -34,6 +34,7 @@ pub struct State {
 }
 
 // RULES Q2: is what is shown possible? The count of pictures handed out.
+#[tactic(auto, unfolding(crate::specs::State::possible_display))]
 pub fn possible_display(display: Display) -> bool
     ensures { result ≡ possible_display display }
 {
@@ -44,8 +45,6 @@ pub fn possible_display(display: Display) -> bool
 pub fn fresh_state() -> State
     ensures { result ≡ fresh_state }
 {
-    let position = BitPosition(0);
-    let picture = fresh_picture();
     let clock = Clock {
         framerate: 0.0,
         pixel_aspect_ratio: 0.0,
@@ -58,8 +57,8 @@ pub fn fresh_state() -> State
         frames_decoded: 0,
     };
     State {
-        position,
-        picture,
+        position: BitPosition(0),
+        picture: fresh_picture(),
         display,
     }
 }

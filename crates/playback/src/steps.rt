@@ -8,7 +8,7 @@ ghost use Rattle.playback.specs.Steps as Steps;
 ghost use Rattle.playback.specs.StepResults.{end_of, step_of};
 
 use crate::display::{finished, flushed, shown};
-use crate::outcome::{Outcome, StepResult};
+use crate::outcome::{Outcome, StepEnd, StepResult};
 use crate::search::{has_code, is_followed, next_code};
 use crate::state::State;
 use bits::reader::Reader;
@@ -34,17 +34,12 @@ fn decoded(
 {
     let reader = Reader::from_position(d.position);
     let p = read_picture(s, reader, store, values, sizes, intra, other, d.picture);
-    let stop = p.stop;
-    let picture = p.picture;
-    let position = p.reader.position();
-    d.picture = picture;
-    d.position = position;
-    if stop != 0 {
+    d.picture = p.picture;
+    d.position = p.reader.position();
+    if let Some(mark) = p.stop {
         return StepResult {
             state: d,
-            outcome: Outcome::Refused(stop),
-            continues: false,
-            stop,
+            end: StepEnd::Aborted(mark),
         };
     }
     shown(d)
@@ -90,12 +85,12 @@ pub fn pictures(
     requires fit_state { FitState sizes d values.old }
     requires s_len_bound { length s.now ≤ longest_stream }
     requires mb_size_in_bounds { stores_bytes sizes.mb_size ≤ length store.old }
-    ensures { end_of result.stop result values.new store.new
+    ensures { end_of result.end result.state values.new store.new
         ≡ Steps.pictures s.now sizes (matrices intra.now other.now)
         (Steps.decoding_state d values.old store.old) }
 {
     let t = picture_step(s, store, values, sizes, intra, other, d);
-    if t.continues {
+    if let StepEnd::Continues = t.end {
         return picture_step(s, store, values, sizes, intra, other, t.state);
     }
     t

@@ -15,9 +15,8 @@ use Rattle.bits.specs.Programs.{Prog, bind, loop, stream_fuel, run}
 use Rattle.laws.proofs.Tests.{by-case, both}
 use Rattle.bits.proofs.Programs.{run_bind, run_on, bind-on, next_le, got-served}
 use Rattle.bits.proofs.Rules.{Takes}
-use Rattle.bits.proofs.Start.{first}
 use Rattle.picture_state.specs.declared.types.{Context.Context, Matrices.Matrices}
-use Rattle.picture_state.specs.State.{SliceState, slice_state}
+use Rattle.picture_state.specs.State.{SliceState}
 use Rattle.picture_state.specs.Result.{Result, ok, error, bind_result, lift}
 use Rattle.picture_state.specs.Stop.{Stop}
 use Rattle.macroblock_head.specs.Increments.{increment}

@@ -22,7 +22,7 @@ use Rattle.bits.proofs.Gives.{given_by, g-bits}
 use Rattle.bits.proofs.Rules.{Loops, loop-start, loop-on, loop-end, takes-less, r-call, r-yes, r-no, r-done, r-reads}
 use Rattle.picture_state.specs.State.{SliceState, slice_state}
 use Rattle.picture_state.specs.Result.{Result, ok, error}
-use Rattle.picture_state.specs.Stop.{Stop}
+use Rattle.picture_state.specs.Stop.{Stop, stop_number}
 use Rattle.picture_state.specs.Possible.{PossibleSlice}
 use Rattle.macroblock.specs.Macroblocks.{macroblock}
 use Rattle.slice.specs.Slices.{slice_loop_state, extra_step, extra, after_macroblock, slice_step, slice_start, slice}
@@ -174,9 +174,9 @@ module _ {g : Context} {m : Matrices} {s : List ℕ} {from₀ : Reader} {x₀ : 
     {first : Bool} {from : Reader} {x : Slice} {left : List ℤ} {store : List ℕ}
     (i : AtMacroblock g m s from₀ x₀ left₀ store₀ first from x left store) {r : Progress} {left₁ : List ℤ} {store₁ : List ℕ}
     (p : RefinesInSlice (macroblock g m first (slice_state x left store)) g s from r left₁ store₁)
-    {more : Bool} (q : RefinesAfterMacroblock g s r.reader r.state r.stop more) where
+    {more : Bool} (q : RefinesAfterMacroblock g s r.reader r.state (stop_number r.stop) more) where
   macroblock-step : RunsAs numbered_step (slice_step g m (slice_loop_state first (slice_state x left store))) s from
-      (slice_step_of more r.stop (slice_state r.state left₁ store₁) store₁) r.reader
+      (slice_step_of more (stop_number r.stop) (slice_state r.state left₁ store₁) store₁) r.reader
   unfolding slice_step
   macroblock-step = t_call _ p.runs.runs (q.runs p.runs.value left₁ store₁ p.runs.is)
 

@@ -1,10 +1,10 @@
 -- RULES Q8, Q9: a slice ends a call exactly where one of its macroblocks does. Assumes nothing.
 use mathlib.Core.Path.{◌≡◌, refl, sym, ap, subst, ◌∙◌}
-use mathlib.Core.Bool.{Bool, true, false}
+use mathlib.Core.Bool.{true}
 use mathlib.Core.List.{List}
 use Prim.Native.Nat.{ℕ, zero, suc}
 use Rattle.laws.specs.Loops.{Step, continue, finish}
-use Rattle.bits.specs.Programs.{Prog, RunResult, done, run, bind, bits, non_zero, loop, continue_with, stream_fuel}
+use Rattle.bits.specs.Programs.{Prog, RunResult, run, bits, non_zero, loop, continue_with, stream_fuel}
 use Rattle.bits.proofs.Programs.{run_bind}
 use Rattle.bits.proofs.Gives.{Gives, OnStep, g-done, g_any, g-bind, g_if}
 use Rattle.bits.proofs.Rules.{loop_suc}

@@ -2,7 +2,7 @@
 use Rattle.std.specs.Prelude.{Bool, true, false, ℕ, ◌-◌, ◌*◌, eqb, pos, ◌+ℤ◌, ◌-ℤ◌, replicate}
 use Rattle.std.specs.Int.Signed.{le_z}
 use Rattle.laws.specs.Loops.{Step, continue, finish}
-use Rattle.bits.specs.Programs.{Prog, done, bind, bits, skips, non_zero, loop, stream_fuel, ◌>>=◌, ◌>>◌, when◌then◌else◌}
+use Rattle.bits.specs.Programs.{Prog, done, bits, skips, non_zero, loop, stream_fuel, ◌>>=◌, ◌>>◌, when◌then◌else◌}
 use Rattle.picture_state.specs.declared.types.{Context.Context, Matrices.Matrices, Slice.Slice}
 use Rattle.picture_state.specs.State.{SliceState, with_slice, zeroed}
 use Rattle.picture_state.specs.Result.{Result, ok, error}

@@ -3,6 +3,7 @@ ghost use Rattle.std.specs.Prelude.{◌≡◌, true, ◌≤◌};
 ghost use Rattle.bits.specs.Runs.{ReaderInBounds, RunsInBounds};
 ghost use Rattle.codes.specs.DecodingTables.{DecodingTables};
 ghost use Rattle.picture_state.specs.State.{slice_state};
+ghost use Rattle.picture_state.specs.Stop.{stop_number};
 ghost use Rattle.slice.specs.Slices.{extra, slice_start, slice};
 ghost use Rattle.picture_state.specs.Promises.{matrices_in, StoreFits, ReadInvariant, RefinesInSlice};
 ghost use Rattle.slice.specs.Promises.{macroblocks, RefinesAfterMacroblock, RefinesMacroblocks};
@@ -13,7 +14,7 @@ use codes::lent::Tables;
 use macroblock::addresses::past;
 use macroblock::macroblock::macroblock;
 use macroblock_head::heads::zeroed;
-use picture_state::types::{Context, Progress, Slice};
+use picture_state::types::{Context, Progress, Slice, StopMark};
 
 // RULES 7.5: while one bit read is 1, 8 bits are passed over.
 fn skip_extra(s: &[u8], reader: Reader) -> Reader
@@ -37,26 +38,24 @@ fn slice_start(g: Context, number: usize, scale: u32, state: Slice) -> Slice
     requires mb_width_bound { g.sizes.mb_width ≤ 256 }
     ensures { result ≡ slice_start g number scale state }
 {
-    let forward = zeroed(state.motion_forward);
-    let backward = zeroed(state.motion_backward);
     let address = ((number - 1) * g.sizes.mb_width) as i32 - 1;
     Slice {
         quantizer_scale: scale,
         macroblock_address: address,
-        motion_forward: forward,
-        motion_backward: backward,
+        motion_forward: zeroed(state.motion_forward),
+        motion_backward: zeroed(state.motion_backward),
         dc_predictor: [128; 3],
     }
 }
 
 // RULES 7.6: whether another macroblock follows. The slice ends at the last macroblock, or where the next 23 bits are all 0 or not there.
-fn goes_on(s: &[u8], reader: Reader, g: Context, state: Slice, stop: u32) -> bool
+fn goes_on(s: &[u8], reader: Reader, g: Context, state: Slice, stop: Option<StopMark>) -> bool
     requires reader_in_bounds { ReaderInBounds s.now reader }
     requires mb_size_bound { g.sizes.mb_size ≤ 65536 }
     requires address_sum_bound { AddressSumBound state.macroblock_address 1 }
-    ensures { RefinesAfterMacroblock g s.now reader state stop result }
+    ensures { RefinesAfterMacroblock g s.now reader state (stop_number stop) result }
 {
-    if stop != 0 {
+    if stop.is_some() {
         return false;
     }
     if past(g, state.macroblock_address, 1) {
@@ -86,16 +85,11 @@ fn read_macroblocks(
     let mut first = true;
     loop {
         let m = macroblock(s, from, store, values, tables, g, first, state);
+        if !goes_on(s, m.reader, g, m.state, m.stop) {
+            return m;
+        }
         from = m.reader;
         state = m.state;
-        let stop = m.stop;
-        if !goes_on(s, from, g, state, stop) {
-            return Progress {
-                reader: from,
-                state,
-                stop,
-            };
-        }
         first = false;
     }
 }
@@ -119,8 +113,7 @@ pub fn read_slice(
         g s.now reader result values.new store.new }
 {
     let q = reader.read(s, 5);
-    let scale = q.value;
     let from = skip_extra(s, q.reader);
-    let start = slice_start(g, number, scale, state);
+    let start = slice_start(g, number, q.value, state);
     read_macroblocks(s, from, store, values, tables, g, start)
 }
