@@ -1,5 +1,5 @@
 -- The sizes of the premultipliers, and the bound of coefficients: the test of it, and the record.
-use mathlib.Core.Path.{◌≡◌, ap, ◌∙◌}
+use mathlib.Core.Path.{◌≡◌}
 use mathlib.Core.Bool.{true, ◌&&◌}
 use mathlib.Core.List.{List}
 use Prim.Native.Nat.{ℕ, ◌≤◌, ◌<◌}
@@ -9,10 +9,7 @@ use lib.IntN.{ℤ, pos, nat_abs}
 use lib.ListN.{get_or}
 use lib.Signed.{non_neg}
 use mir.Facts.{and_yes}
-use mir.Syntax.{w32}
 use Rattle.laws.proofs.Each.{all-at, all-by}
-use Rattle.laws.proofs.Ints.{reread}
-use Rattle.laws.proofs.Nums.{num, rd}
 use Rattle.laws.proofs.Tables.{anywhere}
 use Rattle.codes.specs.Matrices.{zig_zag, down_from, diagonals, premultiplier_matrix, Bounded, bounded}
 
@@ -31,10 +28,6 @@ pub premultiplier-small : (k : ℕ) → nat_abs (get_or premultiplier_matrix k (
 premultiplier-small k =
     let p = get_or premultiplier_matrix k (pos 0) in
     leb→le (nat_abs p) 62 (and_yes (non_neg p) (leb (nat_abs p) 62) (premultiplier_in k)).1
-
--- as the code reads it
-pub premultiplier-read : {xs : List ℤ} → xs ≡ premultiplier_matrix → (k : ℕ) → reread w32 (get_or xs k (pos 0)) ≡ get_or premultiplier_matrix k (pos 0)
-premultiplier-read e k = ap (λ (xs : List ℤ). reread w32 (get_or xs k (pos 0))) e ∙ (rd w32 (num (premultiplier-small k)) tt).is
 
 pub bounded_of : (c : List ℤ) → bounded c ≡ true → Bounded c
 unfolding bounded

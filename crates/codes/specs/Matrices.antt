@@ -1,5 +1,6 @@
 -- The order of coefficients and the matrices, each as 64 numbers, row by row.
-use Rattle.std.specs.Prelude.{ℕ, zero, suc, min, ◌+◌, ◌-◌, ◌*◌, ◌%◌, ◌≤◌, ◌<◌, Bool, cond, List, [], ◌∷◌, ◌++◌, reverse, eqb, leb, ℤ, pos, nat_abs, get_or, replicate}
+use Rattle.std.specs.Prelude.{ℕ, zero, suc, min, ◌+◌, ◌-◌, ◌*◌, ◌%◌, ◌≤◌, ◌<◌, Bool, cond}
+use Rattle.std.specs.Prelude.{List, [], ◌∷◌, ◌++◌, reverse, eqb, leb, ℤ, pos, nat_abs, get_or, replicate}
 use Rattle.laws.specs.Each.{all_below}
 
 -- n places of the diagonal d, on which row + column = d, from the row r down

@@ -1,9 +1,8 @@
 -- Tests at all places below some number, one after the other.
 use mathlib.Core.Path.{◌≡◌, refl, sym, ◌∙◌}
 use mathlib.Core.Bool.{Bool, true, false, false≢true, ◌&&◌, and-false}
-use Prim.Native.Nat.{ℕ, zero, suc, ◌+◌, ◌≤◌, ◌<◌}
+use Prim.Native.Nat.{ℕ, zero, suc, ◌≤◌, ◌<◌}
 use native.Mathlib.Decide.{dec_lt}
-use native.Mathlib.Numerals.{add-one}
 use native.Mathlib.Omega.{arith}
 use Rattle.laws.specs.Each.{all_below}
 
@@ -36,14 +35,3 @@ pub record Passed (f : ℕ → Bool) (n i : ℕ) : Type 0 where
 pub passed_none : {f : ℕ → Bool} {n : ℕ} → Passed f n 0
 unfolding all_below
 passed_none = record { most = omega arith; each = refl }
-
-module _ {f : ℕ → Bool} {n i : ℕ} (h : Passed f n i) where
-  pub passed-one : i < n → f i ≡ true → Passed f n (i + 1)
-  unfolding all_below
-  passed-one l e = record { most = omega arith; each = rw (add-one i, h.each, e) }
-
-  pub passed-fails : i < n → f i ≡ false → false ≡ all_below n f
-  passed-fails l e = sym (one-fails f n i l e)
-
-  pub passed-all : n ≤ i → true ≡ all_below n f
-  passed-all l = let s : n ≡ i = omega (arith, h.most) in rw s (sym h.each)

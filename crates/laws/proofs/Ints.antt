@@ -2,7 +2,7 @@
 -- on ℤ into one on ℕ, which `omega` proves, and a fact on ℤ into one on ℕ, which `omega` reads. `omega` multiplies products out, so an identity of
 -- sums and products is `eq-by` of the differences of its two sides.
 use mathlib.Core.Path.{◌≡◌, refl, sym, ap, ◌∙◌, subst}
-use mathlib.Core.Bool.{Bool, true, false, cond, ◌&&◌, and-true}
+use mathlib.Core.Bool.{Bool, true, false, cond}
 use Prim.Native.Nat.{ℕ, zero, suc, ◌+◌, ◌*◌, ◌-◌, ◌%◌, ◌^◌, ◌≤◌, ◌<◌, pred, min}
 use native.Mathlib.Nat as NatL
 use native.Mathlib.Omega.{arith}
@@ -204,11 +204,6 @@ abs-by {z} b x h k = omega (arith, x.dif, nat_abs-is z, one_side z)
 
 pub abs-of : {z : ℤ} {p n : ℕ} {b : ℕ} → Dif z p n → nat_abs z ≤ b → (p ≤ n + b) × (n ≤ p + b)
 abs-of {z} x h = (omega (arith, x.dif, nat_abs-is z), omega (arith, x.dif, nat_abs-is z))
-
--- the two tests of the code that a size is at most b
-pub abs-test : (b : ℕ) (z : ℤ) → (le_z (neg_ℤ (pos b)) z && le_z z (pos b)) ≡ leb (nat_abs z) b
-abs-test b (pos a) = rw (yes_le (neg (lit b)) (lit a) (omega arith))
-abs-test b (negsuc a) = and-true _ ∙ le_test (neg (lit b)) (v (negsuc a)) ∙ same_leb (0 + suc a) (0 + b) (suc a) b (omega arith)
 
 -- ---- the width: z fits w bits, is cast to an unsigned number of w bits, is read back from its bits
 

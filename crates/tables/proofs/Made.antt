@@ -22,7 +22,8 @@ use Rattle.codes.specs.Matrices.{zig_zag, down_from, diagonals, intra_quant_matr
 use Rattle.codes.specs.Tables.{macroblock_address_increment_index, macroblock_address_increment_value, macroblock_type_intra_index, macroblock_type_intra_value}
 use Rattle.codes.specs.Tables.{macroblock_type_predictive_index, macroblock_type_predictive_value, macroblock_type_b_index, macroblock_type_b_value}
 use Rattle.codes.specs.Tables.{code_block_pattern_index, code_block_pattern_value, motion_index, motion_value}
-use Rattle.codes.specs.Tables.{dct_size_luminance_index, dct_size_luminance_value, dct_size_chrominance_index, dct_size_chrominance_value, dct_coeff_index, dct_coeff_value}
+use Rattle.codes.specs.Tables.{dct_size_luminance_index, dct_size_luminance_value, dct_size_chrominance_index}
+use Rattle.codes.specs.Tables.{dct_size_chrominance_value, dct_coeff_index, dct_coeff_value}
 use Rattle.codes.proofs.Entries.{above}
 use Rattle.codes.proofs.Joined.{Short}
 use Rattle.codes.specs.DecodingTables.{intra_matrix_at, non_intra_matrix_at, tables_length}
@@ -87,9 +88,6 @@ module _ {before : List ℕ} {at : ℕ} {part : List ℕ} where
       pasted (omega arith) p.inside
       (ap₂ (λ (t : List ℕ) (v : ℕ). set t (at + n) v) p.is e ∙ paste-suc before at part n 0 (omega (arith, p.inside)) l
       ∙ ap (paste before at part) (sym (add-one n)))
-
-  pub all-pasted : {n : ℕ} {now : List ℕ} → Pasted before at part n now → length part ≤ n → now ≡ paste before at part (length part)
-  all-pasted {n} p h = let all : n ≡ length part = omega (arith, p.most) in p.is ∙ ap (paste before at part) all
 
 -- a loop's turn over the entries of a table from `first` on: entry k
 pub pasted-from : {before now : List ℕ} (table : List ℕ) (at first k : ℕ) {x : ℕ} → Pasted before (at + first) (drop first table) (k - first) now → first ≤ k
@@ -161,7 +159,8 @@ pub record Bytes64 (m : List ℕ) : Type 0 where
 
 pub macroblock-codes-length : length macroblock_codes ≡ 246
 unfolding macroblock_codes macroblock_address_increment_index macroblock_address_increment_value macroblock_type_intra_index macroblock_type_intra_value
-    macroblock_type_predictive_index macroblock_type_predictive_value macroblock_type_b_index macroblock_type_b_value code_block_pattern_index code_block_pattern_value
+    macroblock_type_predictive_index macroblock_type_predictive_value macroblock_type_b_index macroblock_type_b_value code_block_pattern_index
+    code_block_pattern_value
 macroblock-codes-length = refl
 
 pub block-codes-length : length block_codes ≡ 456

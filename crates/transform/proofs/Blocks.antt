@@ -25,7 +25,3 @@ module _ (f : ℕ → ℕ → ℤ) where
       go k q =
           let p : k ≡ k / 8 * 8 + k % 8 = omega arith in
           ap (at a) p ∙ h (k / 8) (k % 8) (omega arith) (omega arith) ∙ sym (block_at k q)
-
-pub columns-length : (l : List ℤ) → length (columns l) ≡ 64
-unfolding columns
-columns-length l = block-length _

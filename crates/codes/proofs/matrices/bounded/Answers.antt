@@ -1,5 +1,5 @@
 -- The byte that is read at a place is the premultiplier there.
-use Rattle.std.proofs.Common.{◌≡◌, ℕ, ◌*◌, ◌≤◌, map, leb, nat_abs, pos, get_or, refl, arith, rules}
+use Rattle.std.proofs.Common.{◌≡◌, ℕ, map, nat_abs, pos, get_or, refl, arith, rules}
 use native.Mathlib.Numerals.{add-one}
 use Rattle.laws.specs.Each.{all_below}
 use Rattle.codes.specs.Matrices.{premultiplier_matrix, bounded}

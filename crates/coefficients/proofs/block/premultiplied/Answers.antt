@@ -15,10 +15,12 @@ abbrev ρ : (x f : ℤ) → nat_abs x ≤ 2048 → nat_abs f ≤ 62 → List (In
 
 pub overflow_mul-result : goal.overflow_mul-result
 overflow_mul-result c =
-    need (ρ c.dequantise.result c.premultiplier-factor.result c.dequantise.ensures.1 (rw c.premultiplier-factor.ensures (premultiplier-small c.args.position))) whole tt
+    let factor : nat_abs c.premultiplier-factor.result ≤ 62 = rw c.premultiplier-factor.ensures (premultiplier-small c.args.position) in
+    need (ρ c.dequantise.result c.premultiplier-factor.result c.dequantise.ensures.1 factor) whole tt
 
 pub returns : goal.returns
 returns c =
-    let inputs = ρ c.dequantise.result c.premultiplier-factor.result c.dequantise.ensures.1 (rw c.premultiplier-factor.ensures (premultiplier-small c.args.position)) in
+    let factor : nat_abs c.premultiplier-factor.result ≤ 62 = rw c.premultiplier-factor.ensures (premultiplier-small c.args.position) in
+    let inputs = ρ c.dequantise.result c.premultiplier-factor.result c.dequantise.ensures.1 factor in
     let e = rw (to_z-of_z c.ranges.level, c.entry-weight.ensures) at c.dequantise.ensures.0 in
     rw (value inputs whole tt, c.premultiplier-factor.ensures) (ap (λ (x : ℤ). x *ℤ get_or premultiplier_matrix c.args.position (pos 0)) e)
