@@ -7,7 +7,7 @@ use lib.IntN.{ℤ, pos}
 use lib.ListN.{length, replicate, length-replicate}
 use lib.Seq.{ext_get_or}
 use Rattle.laws.proofs.Lists.{rows_in, length-rows}
-use Rattle.transform.specs.Idct.{at, block, columns}
+use Rattle.transform.specs.Idct.{at, block}
 
 module _ (f : ℕ → ℕ → ℤ) where
   block-length : length (block f) ≡ 64
