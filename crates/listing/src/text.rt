@@ -1,4 +1,4 @@
-// Writes numbers and lines of the listing to a page.
+// Writes numbers and lines of the listing to a page. It is lent with the place to write at, and is no `Vec`, so that no writing fails for want of memory.
 ghost use Rattle.std.specs.Prelude.{◌+◌, ◌≤◌, length};
 ghost use Rattle.decoder.specs.Listing.{line};
 ghost use Rattle.listing.specs.Text.{Wrote, field, line_text};

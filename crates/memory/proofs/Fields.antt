@@ -1,13 +1,13 @@
 -- Laws of a list of fields, whatever it is.
 use mathlib.Core.Bool.{Bool, true, false, false≢true, and-false}
 use mathlib.Core.List.{List, [], ◌∷◌, ◌++◌, append_assoc, map}
-use mathlib.Core.Path.{◌≡◌, refl, sym, ap₂, ◌∙◌}
+use mathlib.Core.Path.{◌≡◌, refl, sym, ap, ap₂, ◌∙◌}
 use Prim.Native.Nat.{ℕ, zero, suc, ◌+◌, ◌≤◌, ◌<◌}
 use native.Mathlib.Omega.{arith}
 use borrow.Author.Tests.{le-leb, lt-leb, leb-true}
 use lib.Dec.{leb}
 use lib.ListN.{length, get_or, take, drop, length-append}
-use lib.Seq.{drop_at, take_at}
+use lib.Seq.{drop_at, take_at, get_or-take, length-take-le}
 use Rattle.std.proofs.Common.{MatchBool}
 use Rattle.std.proofs.lemmas.List.{length-map}
 use Rattle.std.proofs.lemmas.Slice.Zip.{length-zip, get_or-zip}
@@ -91,16 +91,20 @@ within_not (g ∷ fs) [] k h w p = refl
 within_not (g ∷ fs) (x ∷ n) zero h w p = rw (fits_not g x w p)
 within_not (g ∷ fs) (x ∷ n) (suc k) h w p = rw (within_not fs n k (omega arith) w p) (and-false (fits g x))
 
--- the answer of `all` over the numbers and their bounds
-pub within_zipped : (fs : List Number) (n : List ℕ) (r : Bool) → length fs ≤ length n → ((k : ℕ) → get_or n k 0 ≤ 18446744073709551615)
-    → MatchBool r (AllWithin (λ p. p.0 ≤ p.1) (zip n (bounds fs)) 0 (length (zip n (bounds fs))))
-    ((k : ℕ) × (k < length (zip n (bounds fs))) × HoldsAt (λ p. p.1 < p.0) (zip n (bounds fs)) k) → r ≡ within fs n
-within_zipped fs n true h w a =
-    sym (within_all fs n h (λ k l. rw (get_or-zip n (bounds fs) k (0, 0) (omega arith) (omega (arith, length-map fs most))) at
-    (a k (0, 0) (omega arith) (omega (arith, length-zip n (bounds fs), length-map fs most)))))
-within_zipped fs n false h w a =
-    let l : a.0 < length fs = omega (arith, a.1, length-zip n (bounds fs), length-map fs most) in
-    sym (within_not fs n a.0 l (w a.0) (rw (get_or-zip n (bounds fs) a.0 (0, 0) (omega arith) (omega (arith, length-map fs most))) at (a.2 (0, 0))))
+-- the answer of `all` over the numbers ns of a memory n and their bounds
+pub within_zipped : (fs : List Number) (n ns : List ℕ) (r : Bool) → length fs ≤ length n → ns ≡ take (length fs) n
+    → ((k : ℕ) → get_or n k 0 ≤ 18446744073709551615)
+    → MatchBool r (AllWithin (λ p. p.0 ≤ p.1) (zip ns (bounds fs)) 0 (length (zip ns (bounds fs))))
+    ((k : ℕ) × (k < length (zip ns (bounds fs))) × HoldsAt (λ p. p.1 < p.0) (zip ns (bounds fs)) k) → r ≡ within fs n
+within_zipped fs n ns true h e w a =
+    let long : length ns ≡ length fs = ap length e ∙ length-take-le (length fs) n h in
+    sym (within_all fs n h (λ k l. rw (get_or-zip ns (bounds fs) k (0, 0) (omega arith) (omega (arith, length-map fs most)), e, get_or-take (length fs) n k 0 l) at
+    (a k (0, 0) (omega arith) (omega (arith, length-zip ns (bounds fs), length-map fs most)))))
+within_zipped fs n ns false h e w a =
+    let long : length ns ≡ length fs = ap length e ∙ length-take-le (length fs) n h in
+    let l : a.0 < length fs = omega (arith, a.1, length-zip ns (bounds fs), length-map fs most) in
+    sym (within_not fs n a.0 l (w a.0)
+    (rw (get_or-zip ns (bounds fs) a.0 (0, 0) (omega arith) (omega (arith, length-map fs most)), e, get_or-take (length fs) n a.0 0 l) at (a.2 (0, 0))))
 
 -- ---- elements
 

@@ -93,6 +93,9 @@ pub fn record_of(numbers: &[usize], integers: &[i32], matrices: &[u8], clock: &[
     requires { is_record (memory numbers.now integers.now matrices.now clock.now) ≡ true }
     ensures { result ≡ record_of (memory numbers.now integers.now matrices.now clock.now) }
 {
+    let sequence = sequence_in(numbers, matrices);
+    let picture = picture_in(numbers, integers);
+    let block_data = part_in(integers, 9);
     let display = Display {
         clock: clock_in(clock),
         has_reference_frame: numbers[18] == 1,
@@ -100,13 +103,13 @@ pub fn record_of(numbers: &[usize], integers: &[i32], matrices: &[u8], clock: &[
     };
     let state = State {
         position: BitPosition(numbers[0]),
-        picture: picture_in(numbers, integers),
+        picture,
         display,
     };
     Decoder {
-        sequence: sequence_in(numbers, matrices),
+        sequence,
         state,
-        block_data: part_in(integers, 9),
+        block_data,
         stop: numbers[20] as u32,
     }
 }
@@ -121,12 +124,12 @@ pub fn has_room(numbers: &[usize], integers: &[i32], matrices: &[u8], clock: &[f
         & (CLOCK <= clock.len())
 }
 
-// Is each number a value of its field's type?
+// Is each number a value of its field's type? They are as many as the compiler knows, so that it writes the tests out one by one.
 fn in_range(numbers: &[usize]) -> bool
     requires { number_count ≤ length numbers.now }
     ensures { result ≡ in_range numbers.now }
 {
-    numbers
+    numbers[..NUMBERS]
         .iter()
         .zip(&BOUNDS)
         .all(|(number, most)| number <= most)

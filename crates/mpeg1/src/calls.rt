@@ -1,4 +1,4 @@
-// The three calls. Stream, store and record lie in the host's memory.
+// The three calls. Stream, store and record lie in the host's memory. C passes each part of a record by itself, and takes a number for an answer.
 ghost use Rattle.std.specs.Prelude.{◌≡◌, true};
 ghost use Rattle.decoder.specs.Decode as Out;
 ghost use Rattle.memory.specs.Memory.{memory, record_of, is_record};

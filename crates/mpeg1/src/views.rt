@@ -47,6 +47,7 @@ fn clock_number(clock: &[f64], k: usize) -> f64
     }
 }
 
+// C names a plane by a number.
 fn plane_number(plane: usize) -> Plane
     ensures { result ≡ View.plane_number plane }
 {

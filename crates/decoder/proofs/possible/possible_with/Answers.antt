@@ -3,4 +3,4 @@ use Rattle.decoder.proofs.possible.possible_with.Goals as goal
 
 pub returns : goal.returns
 returns c =
-    possible-by _ c.possible_numbers.ensures c.possible_display.ensures c.possible_sequence.ensures c.possible_picture.ensures c.bounded.ensures
+    possible-by _ c.possible_numbers.ensures c.possible_display.ensures c.possible_sequence.ensures c.possible_picture.ensures c.bounded-left.ensures

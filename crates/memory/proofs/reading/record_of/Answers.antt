@@ -7,14 +7,14 @@ use Rattle.memory.proofs.reading.record_of.Goals as goal
 pub bounds-numbers-0 : goal.bounds-numbers-0
 bounds-numbers-0 c = omega (arith, (roomed _ c.requires).numbers)
 
-pub sequence_in-requires : goal.sequence_in-requires
-sequence_in-requires c = let r = roomed _ c.requires in (r.numbers, r.matrices)
+pub sequence_in-sequence-requires : goal.sequence_in-sequence-requires
+sequence_in-sequence-requires c = let r = roomed _ c.requires in (r.numbers, r.matrices)
 
-pub picture_in-requires : goal.picture_in-requires
-picture_in-requires c = let r = roomed _ c.requires in (record-ranged _ c.requires, r.numbers, r.integers)
+pub picture_in-picture-requires : goal.picture_in-picture-requires
+picture_in-picture-requires c = let r = roomed _ c.requires in (record-ranged _ c.requires, r.numbers, r.integers)
 
-pub part_in-requires : goal.part_in-requires
-part_in-requires c = (omega arith, (roomed _ c.requires).integers)
+pub part_in-block_data-requires : goal.part_in-block_data-requires
+part_in-block_data-requires c = (omega arith, (roomed _ c.requires).integers)
 
 pub bounds-numbers-18 : goal.bounds-numbers-18
 bounds-numbers-18 c = omega (arith, (roomed _ c.requires).numbers)
@@ -36,4 +36,4 @@ clock_in-requires c = (roomed _ c.requires).clock
 
 pub returns : goal.returns
 unfolding record_of
-returns c = rw (c.sequence_in.ensures, c.picture_in.ensures, c.part_in.ensures, c.clock_in.ensures)
+returns c = rw (c.sequence_in-sequence.ensures, c.picture_in-picture.ensures, c.part_in-block_data.ensures, c.clock_in.ensures)

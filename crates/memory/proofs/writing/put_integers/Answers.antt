@@ -11,13 +11,13 @@ pub returns : goal.returns
 returns c =
     let l = c.args.integers.now in
     let x = c.single_integers.result in
-    let y = c.args.d.state.picture.slice.dc_predictor in
-    let z = c.args.d.block_data in
+    let y = c.args.d.now.state.picture.slice.dc_predictor in
+    let z = c.args.d.now.block_data in
     let six : length x ≡ 6 = ap length c.single_integers.ensures in
     let e : length y ≡ 3 = search rules in
     let f : length z ≡ 64 = search rules in
     let nine : length (x ++ y) ≡ 9 = length-append x y ∙ omega (arith, six, e) in
-    let same : x ++ y ++ z ≡ integers_of c.args.d = rw (c.single_integers.ensures, append-nil z) in (
+    let same : x ++ y ++ z ≡ integers_of c.args.d.now = rw (c.single_integers.ensures, append-nil z) in (
       rw (c.copy_from_slice.ensures.after, c.copy_from_slice-2.ensures.after, c.copy_from_slice-3.ensures.after)
           (ap (λ (u : List ℤ). put_mid 9 64 u z) (over_on 6 3 l x y six)
           ∙ over_on 9 64 l (x ++ y) z nine

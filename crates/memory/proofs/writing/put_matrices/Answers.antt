@@ -8,12 +8,12 @@ slice_bounds-copy_from_slice-end-2 c = sym (length-take-le 64 c.args.matrices.no
 
 pub copy_from_slice-requires : goal.copy_from_slice-requires
 copy_from_slice-requires c =
-    let e : length c.args.d.sequence.matrices.intra_quant_matrix ≡ 64 = search rules in
+    let e : length c.args.d.now.sequence.matrices.intra_quant_matrix ≡ 64 = search rules in
     length-take-le 64 c.args.matrices.now (omega (arith, c.requires)) ∙ sym e
 
 pub returns : goal.returns
 returns c =
-    let m = c.args.d.sequence.matrices in
+    let m = c.args.d.now.sequence.matrices in
     let l = c.args.matrices.now in
     let x = m.intra_quant_matrix in
     let y = m.non_intra_quant_matrix in
