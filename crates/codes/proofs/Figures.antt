@@ -7,7 +7,8 @@ use lib.IntN.{ℤ, pos, negsuc}
 use Rattle.codes.specs.Tables.{macroblock_address_increment_index, macroblock_type_intra_index, macroblock_type_predictive_index, macroblock_type_b_index}
 use Rattle.codes.specs.Tables.{code_block_pattern_index, motion_index, dct_size_luminance_index, dct_size_chrominance_index, dct_coeff_index}
 use Rattle.codes.specs.Standard.{Code, macroblock_address_increment_codes, macroblock_type_intra_codes, macroblock_type_predictive_codes}
-use Rattle.codes.specs.Standard.{macroblock_type_b_codes, code_block_pattern_codes, motion_codes, dct_size_luminance_codes, dct_size_chrominance_codes, dct_coeff_codes}
+use Rattle.codes.specs.Standard.{macroblock_type_b_codes, code_block_pattern_codes, motion_codes}
+use Rattle.codes.specs.Standard.{dct_size_luminance_codes, dct_size_chrominance_codes, dct_coeff_codes}
 
 pub record Figures : Type 0 where
   pub entries : ℕ
@@ -63,8 +64,10 @@ pub the-figures :
     figures 224 112 1 16 ∷
     []
     )
-unfolding macroblock_address_increment_index macroblock_type_intra_index macroblock_type_predictive_index macroblock_type_b_index code_block_pattern_index motion_index
-    dct_size_luminance_index dct_size_chrominance_index dct_coeff_index macroblock_address_increment_codes macroblock_type_intra_codes macroblock_type_predictive_codes
+unfolding macroblock_address_increment_index macroblock_type_intra_index macroblock_type_predictive_index macroblock_type_b_index
+    code_block_pattern_index motion_index
+    dct_size_luminance_index dct_size_chrominance_index dct_coeff_index macroblock_address_increment_codes macroblock_type_intra_codes
+    macroblock_type_predictive_codes
     macroblock_type_b_codes code_block_pattern_codes motion_codes dct_size_luminance_codes dct_size_chrominance_codes dct_coeff_codes
 the-figures = refl
 

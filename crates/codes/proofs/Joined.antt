@@ -144,7 +144,8 @@ module _ {ix vs : List ℤ} {t : List ℕ} (j : IsMergedTable ix vs t) where
       → Runs (vlc ix vs (pos 0)) s from (pos (get_or t k 0) -ℤ pos 1024) to
   unfolding vlc walk
   joined-runs n {k = k} r h l =
-      rw (ap (λ (m : ℕ). pos m -ℤ pos 1024) (ends-joined k h l) ∙ signed_back (get_or vs k (pos 0)) (near-at vs n k)) (r-call _ (rw (walk-joined 0) at r) r-done)
+      rw (ap (λ (m : ℕ). pos m -ℤ pos 1024) (ends-joined k h l) ∙ signed_back (get_or vs k (pos 0)) (near-at vs n k))
+      (r-call _ (rw (walk-joined 0) at r) r-done)
 
   -- the rule of the indices is that of the table
   pub joined_leading : ValidIndices ix → ValidMergedTable t

@@ -40,7 +40,8 @@ coefficient-looked x h = of_test dct_coeff_index dct_coeff_value dct_coeff_looku
 
 pub increment-looked : (x : ℕ) → x < 256
     → get_or macroblock_address_increment_lookup x 0 ≡ looked_up macroblock_address_increment_index macroblock_address_increment_value x
-unfolding macroblock_address_increment_lookup macroblock_address_increment_index macroblock_address_increment_value looked_up walk_byte walked_from walk_step run bind
+unfolding macroblock_address_increment_lookup macroblock_address_increment_index macroblock_address_increment_value looked_up walk_byte walked_from
+    walk_step run bind
     read_at
     after_read bits_at bit_at
 increment-looked x h = of_test macroblock_address_increment_index macroblock_address_increment_value macroblock_address_increment_lookup tt x h

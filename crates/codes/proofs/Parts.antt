@@ -83,9 +83,12 @@ pub record Places : Type 0 where
 pub places : Places
 unfolding fixed_tables macroblock_codes block_codes
     macroblock_address_increment_index macroblock_address_increment_value macroblock_type_intra_index macroblock_type_intra_value
-    macroblock_type_predictive_index macroblock_type_predictive_value macroblock_type_b_index macroblock_type_b_value code_block_pattern_index code_block_pattern_value
-    motion_index motion_value dct_size_luminance_index dct_size_luminance_value dct_size_chrominance_index dct_size_chrominance_value dct_coeff_index dct_coeff_value
-    zig_zag down_from diagonals premultiplier_matrix macroblock_address_increment macroblock_type_intra macroblock_type_predictive macroblock_type_b code_block_pattern
+    macroblock_type_predictive_index macroblock_type_predictive_value macroblock_type_b_index macroblock_type_b_value code_block_pattern_index
+    code_block_pattern_value
+    motion_index motion_value dct_size_luminance_index dct_size_luminance_value dct_size_chrominance_index dct_size_chrominance_value dct_coeff_index
+    dct_coeff_value
+    zig_zag down_from diagonals premultiplier_matrix macroblock_address_increment macroblock_type_intra macroblock_type_predictive macroblock_type_b
+    code_block_pattern
     dct_size_luminance dct_size_chrominance dct_coeff
 places =
     record {

@@ -10,10 +10,12 @@ use lib.IntN.{ℤ, pos, negsuc}
 use Rattle.bits.specs.Programs.{eq_z}
 use Rattle.codes.specs.Tables.{macroblock_address_increment_index, macroblock_address_increment_value, macroblock_type_intra_index, macroblock_type_intra_value}
 use Rattle.codes.specs.Tables.{macroblock_type_predictive_index, macroblock_type_predictive_value, macroblock_type_b_index, macroblock_type_b_value}
-use Rattle.codes.specs.Tables.{code_block_pattern_index, code_block_pattern_value, motion_index, motion_value, dct_size_luminance_index, dct_size_luminance_value}
+use Rattle.codes.specs.Tables.{code_block_pattern_index, code_block_pattern_value, motion_index}
+use Rattle.codes.specs.Tables.{motion_value, dct_size_luminance_index, dct_size_luminance_value}
 use Rattle.codes.specs.Tables.{dct_size_chrominance_index, dct_size_chrominance_value, dct_coeff_index, dct_coeff_value}
 use Rattle.codes.specs.Standard.{Code, ◌∈◌, macroblock_address_increment_codes, macroblock_type_intra_codes, macroblock_type_predictive_codes}
-use Rattle.codes.specs.Standard.{macroblock_type_b_codes, code_block_pattern_codes, motion_codes, dct_size_luminance_codes, dct_size_chrominance_codes, dct_coeff_codes}
+use Rattle.codes.specs.Standard.{macroblock_type_b_codes, code_block_pattern_codes, motion_codes}
+use Rattle.codes.specs.Standard.{dct_size_luminance_codes, dct_size_chrominance_codes, dct_coeff_codes}
 use Rattle.codes.proofs.Agreement.{Agrees}
 use Rattle.codes.proofs.Tested.{agrees-of}
 use Rattle.codes.proofs.Tree.{passes}

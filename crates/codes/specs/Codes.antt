@@ -3,7 +3,8 @@ use Rattle.std.specs.Prelude.{ℕ, ℤ, pos}
 use Rattle.bits.specs.Programs.{Prog}
 use Rattle.codes.specs.Tables.{macroblock_address_increment_index, macroblock_address_increment_value, macroblock_type_intra_index, macroblock_type_intra_value}
 use Rattle.codes.specs.Tables.{macroblock_type_predictive_index, macroblock_type_predictive_value, macroblock_type_b_index, macroblock_type_b_value}
-use Rattle.codes.specs.Tables.{code_block_pattern_index, code_block_pattern_value, motion_index, motion_value, dct_size_luminance_index, dct_size_luminance_value}
+use Rattle.codes.specs.Tables.{code_block_pattern_index, code_block_pattern_value, motion_index}
+use Rattle.codes.specs.Tables.{motion_value, dct_size_luminance_index, dct_size_luminance_value}
 use Rattle.codes.specs.Tables.{dct_size_chrominance_index, dct_size_chrominance_value, dct_coeff_index, dct_coeff_value}
 use Rattle.codes.specs.Walk.{vlc}
 

@@ -1,5 +1,6 @@
 -- The tables as functions are lent them: one array, in which each table begins where the one before it ends.
-use Rattle.std.specs.Prelude.{◌≡◌, Bool, true, cond, ◌&&◌, List, [], ◌∷◌, map, ◌++◌, ℕ, ◌+◌, ◌%◌, ◌≤◌, ◌<◌, T, leb, ℤ, pos, nat_abs, neg_ℤ, ◌+ℤ◌, length, get_or, take, drop}
+use Rattle.std.specs.Prelude.{◌≡◌, Bool, true, cond, ◌&&◌, List, [], ◌∷◌, map, ◌++◌, ℕ, ◌+◌, ◌%◌}
+use Rattle.std.specs.Prelude.{◌≤◌, ◌<◌, T, leb, ℤ, pos, nat_abs, neg_ℤ, ◌+ℤ◌, length, get_or, take, drop}
 use Rattle.std.specs.Int.Signed.{le_z, non_neg}
 use Rattle.codes.specs.Tables.{macroblock_address_increment_index, macroblock_address_increment_value, macroblock_type_intra_index, macroblock_type_intra_value}
 use Rattle.codes.specs.Tables.{macroblock_type_predictive_index, macroblock_type_predictive_value, macroblock_type_b_index, macroblock_type_b_value}

@@ -6,8 +6,8 @@ ghost use Rattle.codes.specs.Walk.{walk_from, walk, vlc_from, vlc};
 
 use bits::reader::{Read, Reader};
 
-// The entry at which the walk from a pair of entries on ends. A bit chooses an entry of the pair. Below 256 it is the index of the next pair; values stand above the indices, and the
-// walk ends at one.
+// The entry at which the walk from a pair of entries on ends. A bit chooses an entry of the pair. Below 256 it is the index of the next pair; values
+// stand above the indices, and the walk ends at one.
 pub fn walk_from(s: &[u8], reader: Reader, table: &[u16], pair: usize) -> Read<usize>
     requires reader_in_bounds { ReaderInBounds s.now reader }
     requires valid_merged_table { ValidMergedTable table.now }
