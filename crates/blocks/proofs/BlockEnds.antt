@@ -106,16 +106,16 @@ module _ (g : Context) (t : List ℕ) (intra : Bool) (number : ℕ) (x : Slice) 
         r-lift _ o.1 (t-done (ap (λ (r : BlockRead). numbered (block_result g q number (slice_state x left store) d r)) o.2 ∙ h d))
 
     pub block_out : r.end ≡ DcOutOfRange
-        → RefinesAtMacroblock (one_block g (matrices_in t) intra number (slice_state x left store)) g s from (record { reader = to; state = x; stop = Some DcOutside })
-        r.block_coefficients.coefficients
+        → RefinesAtMacroblock (one_block g (matrices_in t) intra number (slice_state x left store)) g s from
+        (record { reader = to; state = x; stop = Some DcOutside }) r.block_coefficients.coefficients
         store
     block_out k = record { runs = end-runs (λ d. ap numbered (out-end d r k)); ready = ready-outside ready reads.inside kept.bounded }
 
     pub block_on : {store₁ : List ℕ} {left₁ : List ℤ} {y : Slice} → (r.end ≡ DcOutOfRange → ⊥)
         → store₁ ≡ store_after g q₁ number (nat_abs x.macroblock_address) r store → left₁ ≡ block_data_after q₁ r
         → y ≡ with_dc_predictor number r.predictor x → length store₁ ≡ length store
-        → RefinesAtMacroblock (one_block g (matrices_in t) intra number (slice_state x left store)) g s from (record { reader = to; state = y; stop = None }) left₁
-        store₁
+        → RefinesAtMacroblock (one_block g (matrices_in t) intra number (slice_state x left store)) g s from
+        (record { reader = to; state = y; stop = None }) left₁ store₁
     block_on k u l y e =
         record {
           runs = end-runs (λ d. rw (u, l, y, same) (ap numbered (on-end d r k)));

@@ -30,7 +30,8 @@ use Rattle.picture_state.specs.Result.{Result, ok, error, if_ok, bind_result, li
 use Rattle.picture_state.specs.Stop.{Stop, stop, dc_outside}
 use Rattle.picture_state.specs.Flags.{flag}
 use Rattle.picture_state.proofs.Results.{error-is_not-ok, error_injective}
-use Rattle.blocks.specs.Blocks.{predictor_of, with_dc_predictor, dc_predictor, quantiser_of, matrix_for, written, block_result, one_block, pattern_block, blocks}
+use Rattle.blocks.specs.Blocks.{predictor_of, with_dc_predictor, dc_predictor, quantiser_of, matrix_for}
+use Rattle.blocks.specs.Blocks.{written, block_result, one_block, pattern_block, blocks}
 use Rattle.blocks.specs.Stops.{DcStop, BlocksStop}
 
 -- ---- how a block that is coded ends
@@ -184,7 +185,8 @@ module _ (g : Context) (m : Matrices) (intra : Bool) (pattern : ℕ) (w : SliceS
   up-to-stopped zero h k = absurd (error-is_not-ok (sym k))
   up-to-stopped {e} (suc n) h k = go (up_to n).value (up_to n).at refl (sym (up-to-next n) ∙ k) (λ k. up-to-stopped n (omega arith) k)
     where
-      go : (v : Result Stop SliceState) (b : ℕ) → up_to n ≡ record { value = v; at = b } → (run (if_ok (pattern_block g m intra pattern n) v) s b).value ≡ error e
+      go : (v : Result Stop SliceState) (b : ℕ) → up_to n ≡ record { value = v; at = b }
+          → (run (if_ok (pattern_block g m intra pattern n) v) s b).value ≡ error e
           → ((up_to n).value ≡ error e → BlocksStop g m intra pattern w s a e) → BlocksStop g m intra pattern w s a e
       go (ok x) b r k again = pattern-stopped n (omega arith) x b r k
       go (error d) b r k again = again (ap (λ (o : RunResult (Result Stop SliceState)). o.value) r ∙ k)

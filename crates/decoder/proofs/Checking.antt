@@ -53,7 +53,7 @@ module _ (s : List ℕ) (d : Decoder) {x : Decoder} (e : x ≡ find_sequence s d
 
 -- RULES Q6
 module _ (d : Decoder) (l : List ℕ) (x : Decoder) where
-  pub room-told : (n : ℕ) → refused n x ≡ check_store d l (refused n x)
+  room-told : (n : ℕ) → refused n x ≡ check_store d l (refused n x)
   unfolding check_store
   room-told n = refl
 
@@ -85,6 +85,7 @@ module _ (d : Decoder) {room : ℕ} where
       → RefinesCheckStore d room b (record { decoder = d; refusal = Some SmallStore })
   store-refused b h m = go b.refusal h
     where
-      go : (r : Option HeaderRefusal) → is_some r ≡ false → RefinesCheckStore d room (record b { refusal = r }) (record { decoder = d; refusal = Some SmallStore })
+      go : (r : Option HeaderRefusal) → is_some r ≡ false
+          → RefinesCheckStore d room (record b { refusal = r }) (record { decoder = d; refusal = Some SmallStore })
       go None h = record { is = λ l e. room-no d l b.decoder (rw e m); fit = λ e. absurd (cc); enough = λ e. absurd (cc) }
       go (Some r) h = absurd (false≢true (sym h))

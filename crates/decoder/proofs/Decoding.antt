@@ -57,7 +57,8 @@ module _ (b d : Decoder) where
 -- ---- the questions
 
 module _ (s : List ℕ) (d : Decoder) (l : List ℕ) where
-  first_as : {q : CheckResult} → q ≡ (when d.sequence.has_sequence_header then passed d else check_header s d) → check_store d l q ≡ check_header_and_store s d l
+  first_as : {q : CheckResult} → q ≡ (when d.sequence.has_sequence_header then passed d else check_header s d)
+      → check_store d l q ≡ check_header_and_store s d l
   unfolding check_header_and_store
   first_as e = ap (check_store d l) e
 

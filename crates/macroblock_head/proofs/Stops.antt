@@ -18,7 +18,8 @@ use Rattle.prediction.specs.Predict.{PredictionSource, half_sample_outside}
 use Rattle.prediction.specs.declared.planes.Plane.{Plane}
 use Rattle.prediction.specs.declared.planes.Plane.TheVariants.{Y, Cr, Cb}
 use Rattle.prediction.specs.Predict.{block_position_of, start, max_address, reach, prediction_source, chroma}
-use Rattle.prediction.specs.Planes.{PredictionOutcome, PlaneAfter, macroblocks, block_size, plane_start, predict_from_source, and_then_plane, predict_plane_from_store}
+use Rattle.prediction.specs.Planes.{PredictionOutcome, PlaneAfter, macroblocks, block_size, plane_start}
+use Rattle.prediction.specs.Planes.{predict_from_source, and_then_plane, predict_plane_from_store}
 use Rattle.prediction.specs.Planes.{predicted_planes}
 use Rattle.prediction.proofs.Macroblocks.{first-refused, second-refused}
 use Rattle.picture_state.specs.declared.types.{Context.Context, Motion.Motion, Slice.Slice}

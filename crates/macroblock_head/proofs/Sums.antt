@@ -2,7 +2,7 @@
 use mathlib.Core.Path.{◌≡◌, sym, subst}
 use mathlib.Core.List.{List}
 use mathlib.Core.Logic.{inl, inr}
-use Prim.Native.Nat.{ℕ, ◌+◌, ◌≤◌, ◌<◌}
+use Prim.Native.Nat.{ℕ, ◌+◌, ◌<◌}
 use native.Mathlib.Omega.{arith}
 use borrow.Author.Tests.{eq-eqb, ne_eqb}
 use lib.Dec.{eqb}
@@ -72,9 +72,6 @@ at_code i =
     }
 
 module _ {s : List ℕ} {from₀ from : Reader} {sum : ℕ} (i : AtSequenceCode s from₀ from sum) where
-  pub sum-most : sum ≤ 402653249
-  sum-most = omega (arith, i.small.most, i.inside.stream)
-
   -- a code behind which another follows, and the last one
   module _ {next : Reader} {more : ℕ} (r : RunsInBounds (increment_step sum) s from (continue more) next) where
     pub goes_on : bits_left s next < bits_left s from

@@ -2,24 +2,23 @@
 use mathlib.Core.Path.{◌≡◌, refl, ap, sym, ◌∙◌}
 use mathlib.Core.Bool.{Bool, true, false, not, ◌&&◌}
 use mathlib.Core.List.{List}
-use Prim.Native.Nat.{ℕ, zero, suc, ◌+◌, ◌≤◌, ◌<◌}
+use Prim.Native.Nat.{ℕ, zero, suc, ◌≤◌, ◌<◌}
 use native.Mathlib.Omega.{arith}
-use borrow.Author.Tests.{eqb-true, eqb-false, eq-eqb, ne_eqb}
+use borrow.Author.Tests.{ne_eqb}
 use Rattle.std.specs.Prelude.{None}
-use lib.Dec.{T, eqb}
+use lib.Dec.{eqb}
 use lib.IntN.{ℤ, pos, nat_abs, ◌+ℤ◌}
 use lib.ListN.{length}
-use lib.Signed.{non_neg, lt_z, le_z}
-use mir.Syntax.{w32, w64}
-use mir.Val.{Fits, SFits, to_z, of_z}
+use lib.Signed.{le_z}
+use mir.Syntax.{w32}
+use mir.Val.{to_z, of_z}
 use mir.Facts.{to_z-of_z}
 use Rattle.laws.specs.Loops.{continue, finish}
-use Rattle.laws.proofs.Ints.{up, dn, v, lit, le_yes, yes_le, no_le, lt_yes, lt_no, fits_by, cast-by, cast_is, same_bits}
-use Rattle.laws.proofs.Tests.{both}
+use Rattle.laws.proofs.Ints.{v, fits_by}
 use Rattle.bits.specs.declared.reader.Reader.{Reader}
-use Rattle.bits.specs.Programs.{stream_fuel, done, next_start_code, eq_z, when◌then◌else◌}
+use Rattle.bits.specs.Programs.{stream_fuel, done, next_start_code, when◌then◌else◌}
 use Rattle.bits.specs.Runs.{RunsInBounds, bits_left}
-use Rattle.bits.proofs.Codes.{eq_z-yes, eq_z-no, code_fits}
+use Rattle.bits.proofs.Codes.{code_fits}
 use Rattle.bits.proofs.Rules.{Loops, loop-start, loop-on, takes-less}
 use Rattle.picture_state.specs.declared.types.{Picture.Picture, Context.Context, Matrices.Matrices, Slice.Slice, Progress.Progress}
 use Rattle.picture_state.specs.Possible.{PossiblePicture}
@@ -46,46 +45,6 @@ start-read {p} k =
     let c = p.start_code in
     let b = between-of 1 255 (v c) k.code in
     to_z-of_z (fits_by {w = w32} (v c) (omega arith) (omega arith))
-
--- a comparison, as the code makes it
-pub is_code : (c : ℤ) (k : ℕ) → SFits w32 c → k ≤ 255 → of_z w32 (pos k) ≡ k → eqb (of_z w32 c) k ≡ eq_z c (pos k)
-is_code c k f h e = go (eqb (of_z w32 c) k) refl
-  where
-    go : (t : Bool) → eqb (of_z w32 c) k ≡ t → t ≡ eq_z c (pos k)
-    go true q = sym (eq_z-yes c (pos k) (same_bits w32 f (code_fits (pos k) h) (eqb-true (of_z w32 c) k q ∙ sym e)))
-    go false q = sym (eq_z-no c (pos k) (λ i. eqb-false (of_z w32 c) k q (ap (of_z w32) i ∙ e)))
-
-pub below-first : (c : ℤ) → lt_z c (pos 1) ≡ true → P.is_slice c ≡ false
-below-first c e = let l : le_z (pos 1) c ≡ false = no_le (lit 1) (v c) (omega (arith, lt_yes (v c) (lit 1) e)) in rw l
-
-pub from_first : (c : ℤ) → lt_z c (pos 1) ≡ false → le_z c (pos 175) ≡ P.is_slice c
-from_first c e = let l : le_z (pos 1) c ≡ true = yes_le (lit 1) (v c) (omega (arith, lt_no (v c) (lit 1) e)) in rw l
-
-module _ (c : ℤ) (e : P.is_slice c ≡ true) where
-  sides : (dn c + 1 ≤ up c) × (up c ≤ dn c + 175)
-  sides = let b = both (le_z (pos 1) c) (le_z c (pos 175)) e in (omega (arith, le_yes (lit 1) (v c) b.0), omega (arith, le_yes (v c) (lit 175) b.1))
-
-  pub slice_cast : T (non_neg c) × Fits w64 (nat_abs c)
-  slice_cast = cast-by {w = w64} (v c) (omega (arith, sides)) (omega (arith, sides))
-
-  pub slice-number : (1 ≤ nat_abs c) × (nat_abs c ≤ 175)
-  slice-number = let i = cast_is (v c) (omega (arith, sides)) in (omega (arith, sides), omega (arith, sides))
-
--- ---- behind a slice
-
-abbrev ended : ℤ → Progress → Bool → SlicesProgress
-ended code w t = record { reader = w.reader; code = code; state = w.state; begun = true; continues = t; stop = w.stop }
-
-module _ (g : Context) (w : Progress) {c code : ℤ} (e : c ≡ code) where
-  abbrev last : Bool
-  last = le_z (pos g.sizes.mb_size) (w.state.macroblock_address +ℤ pos 1)
-
-  pub past_stop : (stop_number w.stop ≡ 0 → ⊥) → ended c w false ≡ after_slice_of g code w
-  past_stop h = rw e (ap (λ (t : Bool). ended code w (t && not last)) (sym (ne_eqb (stop_number w.stop) 0 h)))
-
-  pub past-on : stop_number w.stop ≡ 0 → {t : Bool} → t ≡ last → ended c w (not t) ≡ after_slice_of g code w
-  past-on h q =
-      rw e (ap (λ (t : Bool). ended code w (not t)) q ∙ ap (λ (t : Bool). ended code w (t && not last)) (sym (eq-eqb (stop_number w.stop) 0 h)))
 
 -- ---- a turn
 

@@ -92,7 +92,8 @@ module _ (z : Sizes) (m : Matrices) (p : Picture) (left : List ℤ) (store : Lis
   coded-other h e f c = record {
     runs = rw f
         (t-no _ h
-        (r-pure (λ f. P.with_picture (with_stores (P.roles_after_reading p.stores) f.picture) f) (stop_number r.stop) (P.picture_state r.picture left₁ store₁) store₁
+        (r-pure (λ f. P.with_picture (with_stores (P.roles_after_reading p.stores) f.picture) f) (stop_number r.stop)
+        (P.picture_state r.picture left₁ store₁) store₁
         (rw e at c.runs)));
     inside = c.inside;
   }
@@ -113,6 +114,7 @@ coded-of z {m} {tables} k p left store {s} {from} r {left₁} {store₁} {before
 
     go : (b : Bool) → eqb p.picture_type 3 ≡ b → before ≡ (when b then p.stores else P.roles_while_reading p.stores)
         → after ≡ (when b then p.stores else P.roles_after_reading p.stores)
-        → RefinesPicture (P.slices_in_roles z m (P.picture_state p left store)) s from (progress_of (P.context_of z (with_stores before p)) after r) left₁ store₁
+        → RefinesPicture (P.slices_in_roles z m (P.picture_state p left store)) s from
+        (progress_of (P.context_of z (with_stores before p)) after r) left₁ store₁
     go true y d a = rw a (coded-b z m p left store (progress_of (P.context_of z p) p.stores r) y (rw d at read))
     go false y d a = coded-other z m p left store (progress_of (P.context_of z (with_stores before p)) before r) y d a read

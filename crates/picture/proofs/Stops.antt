@@ -144,7 +144,8 @@ module _ (z : Sizes) (m : Matrices) (f : P.PictureState) (s : List ℕ) (a : ℕ
   unfolding P.picture
   picture-run = ap (λ (o : RunResult (Result Stop P.PictureState)). o.value) (run_bind P.picture_header _ s a)
 
-  roles-stopped : {e : Stop} → (run (P.slices_in_roles z m headed) s (header_at s a).at).value ≡ error e → (run slices_read s (header_at s a).at).value ≡ error e
+  roles-stopped : {e : Stop} → (run (P.slices_in_roles z m headed) s (header_at s a).at).value ≡ error e
+      → (run slices_read s (header_at s a).at).value ≡ error e
   unfolding P.slices_in_roles
   roles-stopped {e} = go (eqb headed.picture.picture_type 3)
     where
@@ -187,7 +188,8 @@ module _ (z : Sizes) (m : Matrices) (f : P.PictureState) (s : List ℕ) (a : ℕ
           → (run (cond t (P.slices_in_roles z m headed) (done (ok headed))) s (header_at s a).at).value ≡ error e → PictureStop z m f s a e
       go true q k = record {
         decoded = q;
-        stops = looped-stopped (P.context_of z (picture_read f s a)) m s (P.with_picture (picture_read f s a) f) stream_fuel _ (header_at s a).at (roles-stopped k);
+        stops = looped-stopped (P.context_of z (picture_read f s a)) m s (P.with_picture (picture_read f s a) f) stream_fuel _ (header_at s a).at
+            (roles-stopped k);
       }
       go false q k = absurd (error-is_not-ok (sym k))
 

@@ -27,7 +27,8 @@ use Rattle.picture_state.specs.Flags.{flag, is_intra}
 use Rattle.macroblock_head.specs.Heads.{macroblock_type, head, pattern}
 use Rattle.blocks.specs.Blocks.{with_dc_predictor, dc_predictor, quantiser_of, matrix_for, written, block_result, one_block, pattern_block, blocks}
 use Rattle.macroblock_head.specs.Increments.{increment}
-use Rattle.macroblock.specs.Macroblocks.{is_outside, address_plus, skip_reset, advance, predict_unless_intra, body, first_macroblock, later_macroblock, macroblock}
+use Rattle.macroblock.specs.Macroblocks.{is_outside, address_plus, skip_reset, advance, predict_unless_intra, body}
+use Rattle.macroblock.specs.Macroblocks.{first_macroblock, later_macroblock, macroblock}
 use Rattle.slice.specs.Slices.{SliceLoopState, slice_loop_state, slice_start, is_last, extra, after_macroblock, slice_step, slice}
 use Rattle.picture.specs.Pictures as P
 use Rattle.picture_state.proofs.Exits.{OnResult, and_then-results, bind-results, lift-results, for-results}

@@ -4,7 +4,8 @@ use Rattle.std.specs.Int.Signed.{le_z}
 use Rattle.laws.specs.Loops.{Step, continue, finish}
 use Rattle.bits.specs.Programs.{Prog, done, bind, bits, next_start_code, eq_z, loop, stream_fuel, ◌>>=◌, when◌then◌else◌}
 use Rattle.picture_state.specs.declared.types.{Context.Context, Motion.Motion, Stores.Stores, Sizes.Sizes, Matrices.Matrices, Picture.Picture}
-use Rattle.picture_state.specs.State.{SliceState, slice_state, with_full_px, with_rsize, with_motions, with_start_code, with_picture_type, with_stores, with_picture_slice}
+use Rattle.picture_state.specs.State.{SliceState, slice_state, with_full_px, with_rsize, with_motions}
+use Rattle.picture_state.specs.State.{with_start_code, with_picture_type, with_stores, with_picture_slice}
 use Rattle.picture_state.specs.Result.{Result, ok, error, bind_result, pure}
 use Rattle.picture_state.specs.Stop.{Stop}
 use Rattle.slice.specs.Slices.{is_last, slice}

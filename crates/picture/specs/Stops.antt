@@ -36,4 +36,5 @@ picture_read f s a =
 -- RULES 7.1 to 7.4, 8.4: the picture is decoded, and one of its slices stops
 pub record PictureStop (z : Sizes) (m : Matrices) (f : PictureState) (s : List ℕ) (a : ℕ) (e : Stop) : Type 0 where
   pub decoded : is_decoded (header_at s a).value ≡ true
-  pub stops : SlicesStop (context_of z (picture_read f s a)) m s e stream_fuel (slices_loop_state false (with_picture (picture_read f s a) f)) (header_at s a).at
+  pub stops : SlicesStop (context_of z (picture_read f s a)) m s e stream_fuel (slices_loop_state false (with_picture (picture_read f s a) f))
+      (header_at s a).at

@@ -46,7 +46,8 @@ pub struct Slice {
     pub dc_predictor: [i32; 3],
 }
 
-// What a picture changes beside them.
+// What a picture changes beside them. `picture_type` and `start_code` are numbers: the host's memory may hold any, and question 2 (`decode` answers 2) is
+// asked of the impossible ones.
 #[derive(Clone, Copy)]
 pub struct Picture {
     pub picture_type: u32,
@@ -89,7 +90,8 @@ pub struct Progress {
     pub stop: Option<StopMark>,
 }
 
-// Where a turn over the slices of a picture ended. `continues`: another start code follows. `begun`: a slice has been read.
+// Where a turn over the slices of a picture ended. `continues`: another start code follows. `begun`: a slice has been read. Code, state and reader are of
+// use on each way, and `stop` beyond the last turn: an enum of the ways would have to hold all four in each variant.
 #[derive(Clone, Copy)]
 pub struct SlicesProgress {
     pub reader: Reader,

@@ -1,14 +1,9 @@
 -- A search for a start code that the state may spare. Assumes nothing.
-use mathlib.Core.Path.{◌≡◌, refl, ap, sym, ◌∙◌}
-use mathlib.Core.Bool.{Bool, true, false, not, ◌||◌, false≢true}
+use mathlib.Core.Path.{◌≡◌}
+use mathlib.Core.Bool.{Bool, true, false, not, ◌||◌}
 use mathlib.Core.List.{List}
 use Prim.Native.Nat.{ℕ}
-use lib.Dec.{eqb}
 use lib.IntN.{ℤ, negsuc}
-use mir.Syntax.{w32}
-use mir.Val.{of_z, SFits}
-use borrow.Author.Tests.{eq-eqb, ne_eqb}
-use Rattle.laws.proofs.Ints.{same_bits}
 use Rattle.bits.specs.declared.reader.Reader.{Reader}
 use Rattle.bits.specs.Programs.{eq_z, find_start_code}
 use Rattle.bits.specs.Runs.{Runs, position_of, reader_at}
@@ -16,7 +11,6 @@ use Rattle.bits.proofs.Codes.{eq_z-yes, eq_z-no}
 use Rattle.playback.specs.declared.state.State.{State}
 use Rattle.playback.specs.State.{position, start_code, with_search_result}
 use Rattle.playback.specs.Search.{ensure_start_code}
-use Rattle.playback.proofs.Searches.{eq_z-is}
 
 -- RULES Q3, 8.2
 module _ (c : ℤ) (s : List ℕ) (x : State) where
@@ -36,11 +30,3 @@ module _ {k v : ℤ} (b : Bool) (e : k ≡ v) where
 
   pub follow-no : {x : Bool} → k ≡ negsuc 0 → x ≡ b → x ≡ (not (eq_z v (negsuc 0)) || b)
   follow-no g h = rw (← e, eq_z-yes k (negsuc 0) g) h
-
--- two signed numbers are the same where their bits are
-pub eq_test : (a b : ℤ) → SFits w32 a → SFits w32 b → eqb (of_z w32 a) (of_z w32 b) ≡ eq_z a b
-eq_test a b f g = go (eq_z a b) refl
-  where
-    go : (t : Bool) → eq_z a b ≡ t → eqb (of_z w32 a) (of_z w32 b) ≡ t
-    go true e = eq-eqb _ _ (ap (of_z w32) (eq_z-is a b e))
-    go false e = ne_eqb _ _ (λ q. false≢true (sym e ∙ eq_z-yes a b (same_bits w32 f g q)))

@@ -84,6 +84,7 @@ pub fn flushed(s: &[u8], d: State) -> StepResult
     let held = d.display.has_reference_frame;
     let picture_type = d.picture.picture_type;
     let ended = Reader::from_position(d.position).has_ended(s).value;
+    // not `&&` and `matches!`: no plainer, and each of the two ways out is then reached by several branches
     if held & ended & ((picture_type == 1) | (picture_type == 2)) {
         let x = has_reference_frame_as(d, false);
         return finished(x, Outcome::Picture(shown_picture(x, x.picture.stores.bwd)));

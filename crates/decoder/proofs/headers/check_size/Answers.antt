@@ -17,4 +17,5 @@ pub returns-clause-fit_2 : goal.returns-clause-fit_2
 returns-clause-fit_2 c =
     let z = c.read_size-size.ensures in
     rw (c.accepted.ensures, c.position-d.ensures)
-    (fit-accepted _ (fit-sized _ c.requires.fit z.runs_in_bounds.inside.position z.width_bound.0 z.width_bound.1) c.read_rest-rest.ensures.runs_in_bounds.inside.position)
+    (fit-accepted _ (fit-sized _ c.requires.fit z.runs_in_bounds.inside.position z.width_bound.0 z.width_bound.1)
+    c.read_rest-rest.ensures.runs_in_bounds.inside.position)

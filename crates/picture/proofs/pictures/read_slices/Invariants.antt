@@ -7,7 +7,8 @@ use Rattle.picture.proofs.pictures.read_slices.Given as goal
 
 abbrev pub invariant-loop-g : goal.invariant-loop-g
 invariant-loop-g l =
-    AtSlices l.g (matrices_in l.tables) l.s l.fn.reader (picture_state_of l.g l.fn.before l.fn.start l.fn.values l.fn.store) l.begun l.from l.state l.values l.store
+    AtSlices l.g (matrices_in l.tables) l.s l.fn.reader (picture_state_of l.g l.fn.before l.fn.start l.fn.values l.fn.store)
+    l.begun l.from l.state l.values l.store
 
 abbrev pub decreases-loop-g : goal.decreases-loop-g
 decreases-loop-g l = bits_left l.s l.from
