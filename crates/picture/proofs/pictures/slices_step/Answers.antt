@@ -15,7 +15,7 @@ after_slice-requires-clause-address_sum_bound c = adds_one c.read_slice-w.ensure
 pub returns-then-is_slice : goal.returns-then-is_slice
 returns-then-is_slice c =
     let f = c.next_start_code-found.ensures in
-    let is = code_read {c = c.next_start_code-found.result.code} f.code_bound in
+    let is = code_read {c = c.next_start_code-found.result.value} f.code_bound in
     rw (c.after_slice.ensures, is)
     (refines-slice c.requires.read_invariant c.requires.store_fits (matrices_in c.args.tables.now) c.args.begun f.runs_in_bounds f.code_bound
     (sym (rw is at c.is_slice.ensures) ∙ c.if-is_slice.true) c.read_slice-w.result (rw is at c.read_slice-w.ensures))
@@ -23,7 +23,7 @@ returns-then-is_slice c =
 pub returns : goal.returns
 returns c =
     let f = c.next_start_code-found.ensures in
-    let is = code_read {c = c.next_start_code-found.result.code} f.code_bound in
+    let is = code_read {c = c.next_start_code-found.result.value} f.code_bound in
     rw is
     (refines-other c.requires.read_invariant c.requires.store_fits (matrices_in c.args.tables.now) c.args.begun f.runs_in_bounds f.code_bound
     (sym (rw is at c.is_slice.ensures) ∙ c.if-is_slice.false) c.passes_over.result (rw is at c.passes_over.ensures))

@@ -13,7 +13,7 @@ returns-then-has_code c =
 pub returns : goal.returns
 returns c =
     let f = c.find_start_code-found.ensures in
-    let found = to_z-of_z {w = w32} {z = c.find_start_code-found.result.code} (code_fits _ f.code_bound) in
+    let found = to_z-of_z {w = w32} {z = c.find_start_code-found.result.value} (code_fits _ f.code_bound) in
     let same = to_z-of_z {w = w32} {z = c.args.code} c.ranges.code in
     rw found at c.searched.ensures
     ∙ seek_finds c.args.code _ c.args.d (sym (rw same at c.has_code.ensures) ∙ c.if-has_code.false)
