@@ -31,7 +31,12 @@ struct MotionRead {
 }
 
 // RULES 7.13: the macroblock type, by the table of the picture's type.
-pub fn read_macroblock_type(s: &[u8], reader: Reader, tables: &Tables, picture_type: u32) -> Read<u32>
+pub fn read_macroblock_type(
+    s: &[u8],
+    reader: Reader,
+    tables: &Tables,
+    picture_type: u32,
+) -> Read<u32>
     requires reader_in_bounds { ReaderInBounds s.now reader }
     requires decoding_tables { DecodingTables tables.now }
     ensures { RunsInBounds (macroblock_type picture_type) s.now reader result.value result.reader }
