@@ -23,7 +23,7 @@ pub fn block_of(list: &[u8]) -> [i32; 64]
     block
 }
 
-// The 64 bytes that a list begins with; 0 past its end.
+// The 64 bytes that a list begins with; 0 past its end. What block_of shares with this is the loop alone: the elements are of another type, and read otherwise.
 pub fn matrix_of(list: &[u8]) -> [u8; 64]
     ensures { result ≡ matrix_of list.now }
 {
