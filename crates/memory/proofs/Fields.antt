@@ -98,7 +98,11 @@ pub within_zipped : (fs : List Number) (n ns : List ℕ) (r : Bool) → length f
     ((k : ℕ) × (k < length (zip ns (bounds fs))) × HoldsAt (λ p. p.1 < p.0) (zip ns (bounds fs)) k) → r ≡ within fs n
 within_zipped fs n ns true h e w a =
     let long : length ns ≡ length fs = ap length e ∙ length-take-le (length fs) n h in
-    sym (within_all fs n h (λ k l. rw (get_or-zip ns (bounds fs) k (0, 0) (omega arith) (omega (arith, length-map fs most)), e, get_or-take (length fs) n k 0 l) at
+    sym (within_all fs n h (λ k l. rw (
+      get_or-zip ns (bounds fs) k (0, 0) (omega arith) (omega (arith, length-map fs most)),
+      e,
+      get_or-take (length fs) n k 0 l,
+    ) at
     (a k (0, 0) (omega arith) (omega (arith, length-zip ns (bounds fs), length-map fs most)))))
 within_zipped fs n ns false h e w a =
     let long : length ns ≡ length fs = ap length e ∙ length-take-le (length fs) n h in
