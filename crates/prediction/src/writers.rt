@@ -3,7 +3,8 @@ ghost use Rattle.std.specs.Prelude.{◌≡◌, ℕ, ◌+◌, ◌*◌, ◌≤◌,
 ghost use Rattle.prediction.specs.Planes.{macroblocks, plane_of, plane_length};
 ghost use Rattle.prediction.specs.Predict.{MacroblockInPicture};
 ghost use Rattle.laws.specs.Sizes.{ResultsInBounds};
-ghost use Rattle.prediction.specs.Writers.{luma_address, chroma_address, block_width, block_address, Gives, made_block, set_const, overwrite, add_const, add_block};
+ghost use Rattle.prediction.specs.Writers.{luma_address, chroma_address, block_width, block_address};
+ghost use Rattle.prediction.specs.Writers.{Gives, made_block, set_const, overwrite, add_const, add_block};
 
 use crate::planes::{block_size, plane_of};
 use crate::position::Macroblock;

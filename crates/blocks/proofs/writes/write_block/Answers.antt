@@ -16,5 +16,6 @@ returns-in-Complete-clause-values_after c = rw c.in-Complete.is (rw c.in-Complet
 pub returns-in_default : goal.returns-in_default
 returns-in_default c =
     let a = c.args in
-    let kept = not-whole a.g a.q a.number (nat_abs a.address) (block_coefficients a.values.now a.r.n) a.r.predictor a.r.end a.store.now c.in_default.not-Complete in
+    let f = block_coefficients a.values.now a.r.n in
+    let kept = not-whole a.g a.q a.number (nat_abs a.address) f a.r.predictor a.r.end a.store.now c.in_default.not-Complete in
     record { store_after = kept.0; values_after = kept.1 }
