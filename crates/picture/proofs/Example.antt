@@ -82,14 +82,15 @@ store_of (error e) = e.store
 
 -- the first row of plane Y in store 0
 pub row : take 32 (store_of decoded.value) ≡ replicate 16 133 ++ replicate 16 128
-unfolding clamp255 odd store_row store_rows bit_at bits_at read_at after_read code_prefix code_from found run bind for_below loop macroblock_address_increment_index
-    macroblock_address_increment_value macroblock_type_intra_index macroblock_type_intra_value dct_size_luminance_index dct_size_luminance_value dct_size_chrominance_index
-    dct_size_chrominance_value dct_coeff_index dct_coeff_value walk_step walk vlc Codes.macroblock_address_increment Codes.macroblock_type_intra Codes.dct_size_luminance
-    Codes.dct_size_chrominance Codes.dct_coeff down_from diagonals zig_zag intra_quant_matrix premultiplier_matrix Dcs.dc_size Dcs.added Dcs.dc_difference
-    Coefficients.run_level Coefficients.coefficient dequantised Syntax.pair_step Syntax.pairs Syntax.intra_coded Syntax.coded_block Block.with_pairs
-    Block.reconstructed Block.block Block.block_data_after butterfly columns rows idct dc_only set_const overwrite if_ok bind_result lift increment_step increment
-    macroblock_type scale head pattern block_address results written block_result one_block blocks advance predict_unless_intra body first_macroblock later_macroblock
-    macroblock extra_step extra after_macroblock slice_step slice P.direction P.picture_header P.after_slice P.slices_step P.slices P.slices_in_roles P.picture
+unfolding clamp255 odd store_row store_rows bit_at bits_at read_at after_read code_prefix code_from found run bind for_below loop
+    macroblock_address_increment_index macroblock_address_increment_value macroblock_type_intra_index macroblock_type_intra_value dct_size_luminance_index
+    dct_size_luminance_value dct_size_chrominance_index dct_size_chrominance_value dct_coeff_index dct_coeff_value walk_step walk vlc
+    Codes.macroblock_address_increment Codes.macroblock_type_intra Codes.dct_size_luminance Codes.dct_size_chrominance Codes.dct_coeff down_from diagonals
+    zig_zag intra_quant_matrix premultiplier_matrix Dcs.dc_size Dcs.added Dcs.dc_difference Coefficients.run_level Coefficients.coefficient dequantised
+    Syntax.pair_step Syntax.pairs Syntax.intra_coded Syntax.coded_block Block.with_pairs Block.reconstructed Block.block Block.block_data_after butterfly
+    columns rows idct dc_only set_const overwrite if_ok bind_result lift increment_step increment macroblock_type scale head pattern block_address results
+    written block_result one_block blocks advance predict_unless_intra body first_macroblock later_macroblock macroblock extra_step extra after_macroblock
+    slice_step slice P.direction P.picture_header P.after_slice P.slices_step P.slices P.slices_in_roles P.picture
 row = refl
 
 abbrev pub one : Sizes
@@ -107,12 +108,12 @@ in_block0 = dc_outside 0 0 (pos 128) (pos 255)
 
 -- RULES Q8: the DC value is 128 + 255
 pub eight : run (P.picture one matrices given) outside 0 ≡ record { value = error (stop in_block0 (replicate 1152 7)); at = 87 }
-unfolding bit_at bits_at read_at after_read code_prefix code_from found run bind for_below loop macroblock_address_increment_index macroblock_address_increment_value
-    macroblock_type_intra_index macroblock_type_intra_value dct_size_luminance_index dct_size_luminance_value walk_step walk vlc Codes.macroblock_address_increment
-    Codes.macroblock_type_intra Codes.dct_size_luminance Dcs.dc_size Dcs.added Dcs.dc_difference Syntax.intra_coded Syntax.coded_block Block.reconstructed
-    Block.block if_ok bind_result lift increment_step increment macroblock_type scale head pattern block_result one_block blocks predict_unless_intra body
-    first_macroblock macroblock extra_step extra after_macroblock slice_step slice P.direction P.picture_header P.after_slice P.slices_step P.slices P.slices_in_roles
-    P.picture
+unfolding bit_at bits_at read_at after_read code_prefix code_from found run bind for_below loop macroblock_address_increment_index
+    macroblock_address_increment_value macroblock_type_intra_index macroblock_type_intra_value dct_size_luminance_index dct_size_luminance_value walk_step
+    walk vlc Codes.macroblock_address_increment Codes.macroblock_type_intra Codes.dct_size_luminance Dcs.dc_size Dcs.added Dcs.dc_difference
+    Syntax.intra_coded Syntax.coded_block Block.reconstructed Block.block if_ok bind_result lift increment_step increment macroblock_type scale head pattern
+    block_result one_block blocks predict_unless_intra body first_macroblock macroblock extra_step extra after_macroblock slice_step slice P.direction
+    P.picture_header P.after_slice P.slices_step P.slices P.slices_in_roles P.picture
 eight = refl
 
 -- the same behind a block 0 that is whole: size 3 (101), differential 101, end of block (10)
@@ -131,13 +132,13 @@ in_block1 = dc_outside 0 1 (pos 133) (pos 255)
 
 -- RULES Q8: the DC value of block 1 is 133 + 255; the 64 samples of block 0 are written
 pub eight_in-block-1 : run (P.picture one matrices given) outside_later 0 ≡ record { value = error (stop in_block1 block0); at = 95 }
-unfolding clamp255 store_row store_rows bit_at bits_at read_at after_read code_prefix code_from found run bind for_below loop macroblock_address_increment_index
-    macroblock_address_increment_value macroblock_type_intra_index macroblock_type_intra_value dct_size_luminance_index dct_size_luminance_value dct_coeff_index dct_coeff_value
-    walk_step walk vlc Codes.macroblock_address_increment Codes.macroblock_type_intra Codes.dct_size_luminance Codes.dct_coeff Dcs.dc_size Dcs.added Dcs.dc_difference
-    Coefficients.coefficient Syntax.pair_step Syntax.pairs Syntax.intra_coded Syntax.coded_block Block.with_pairs Block.reconstructed Block.block_data_after dc_only
-    set_const if_ok bind_result lift increment_step increment macroblock_type scale head pattern block_address results written block_result one_block blocks
-    predict_unless_intra body first_macroblock macroblock extra_step extra after_macroblock slice_step slice P.direction P.picture_header P.after_slice P.slices_step
-    P.slices P.slices_in_roles P.picture
+unfolding clamp255 store_row store_rows bit_at bits_at read_at after_read code_prefix code_from found run bind for_below loop
+    macroblock_address_increment_index macroblock_address_increment_value macroblock_type_intra_index macroblock_type_intra_value dct_size_luminance_index
+    dct_size_luminance_value dct_coeff_index dct_coeff_value walk_step walk vlc Codes.macroblock_address_increment Codes.macroblock_type_intra
+    Codes.dct_size_luminance Codes.dct_coeff Dcs.dc_size Dcs.added Dcs.dc_difference Coefficients.coefficient Syntax.pair_step Syntax.pairs Syntax.intra_coded
+    Syntax.coded_block Block.with_pairs Block.reconstructed Block.block_data_after dc_only set_const if_ok bind_result lift increment_step increment
+    macroblock_type scale head pattern block_address results written block_result one_block blocks predict_unless_intra body first_macroblock macroblock
+    extra_step extra after_macroblock slice_step slice P.direction P.picture_header P.after_slice P.slices_step P.slices P.slices_in_roles P.picture
 eight_in-block-1 = refl
 
 -- a P picture with f code 1 whose macroblock has the type 001, a forward vector, and the motion codes 010 and 1: (1, 0) in half samples
@@ -149,12 +150,12 @@ in_y = prediction_outside 0 Y (pos 1) (pos 0)
 
 -- RULES Q9: the start 0 is max_address, and the half sample reaches 1 further
 pub nine : run (P.picture one matrices given) past 0 ≡ record { value = error (stop in_y (replicate 1152 7)); at = 86 }
-unfolding odd bit_at bits_at read_at after_read code_prefix code_from found run bind loop macroblock_address_increment_index macroblock_address_increment_value
-    macroblock_type_predictive_index macroblock_type_predictive_value motion_index motion_value walk_step walk vlc Codes.macroblock_address_increment
-    Codes.macroblock_type_predictive Codes.motion displacement motion_vector corrected prediction_source predict_from_source following predicted_planes if_ok
-    bind_result lift increment_step
-    increment unless_refused predict_from predict macroblock_type scale vector forward backward vectors head predict_unless_intra body first_macroblock macroblock
-    extra_step extra after_macroblock slice_step slice P.direction P.picture_header P.after_slice P.slices_step P.slices P.slices_in_roles P.picture
+unfolding odd bit_at bits_at read_at after_read code_prefix code_from found run bind loop macroblock_address_increment_index
+    macroblock_address_increment_value macroblock_type_predictive_index macroblock_type_predictive_value motion_index motion_value walk_step walk vlc
+    Codes.macroblock_address_increment Codes.macroblock_type_predictive Codes.motion displacement motion_vector corrected prediction_source
+    predict_from_source following predicted_planes if_ok bind_result lift increment_step increment unless_refused predict_from predict macroblock_type scale
+    vector forward backward vectors head predict_unless_intra body first_macroblock macroblock extra_step extra after_macroblock slice_step slice P.direction
+    P.picture_header P.after_slice P.slices_step P.slices P.slices_in_roles P.picture
 nine = refl
 
 -- ---- inputs of which neither cause holds
@@ -172,13 +173,14 @@ dc_decoded = run (P.picture one matrices given) inside_dc 0
 
 -- RULES Q8: a DC value of 255 is inside
 pub dc-of-255 : is_ok dc_decoded.value ≡ true
-unfolding clamp255 store_row store_rows bit_at bits_at read_at after_read code_prefix code_from found run bind for_below loop macroblock_address_increment_index
-    macroblock_address_increment_value macroblock_type_intra_index macroblock_type_intra_value dct_size_luminance_index dct_size_luminance_value dct_size_chrominance_index
-    dct_size_chrominance_value dct_coeff_index dct_coeff_value walk_step walk vlc Codes.macroblock_address_increment Codes.macroblock_type_intra Codes.dct_size_luminance
-    Codes.dct_size_chrominance Codes.dct_coeff Dcs.dc_size Dcs.added Dcs.dc_difference Coefficients.coefficient Syntax.pair_step Syntax.pairs Syntax.intra_coded
-    Syntax.coded_block Block.with_pairs Block.reconstructed Block.block_data_after dc_only set_const if_ok bind_result lift increment_step increment macroblock_type
-    scale head pattern block_address results written block_result one_block blocks predict_unless_intra body first_macroblock macroblock extra_step extra
-    after_macroblock slice_step slice P.direction P.picture_header P.after_slice P.slices_step P.slices P.slices_in_roles P.picture
+unfolding clamp255 store_row store_rows bit_at bits_at read_at after_read code_prefix code_from found run bind for_below loop
+    macroblock_address_increment_index macroblock_address_increment_value macroblock_type_intra_index macroblock_type_intra_value dct_size_luminance_index
+    dct_size_luminance_value dct_size_chrominance_index dct_size_chrominance_value dct_coeff_index dct_coeff_value walk_step walk vlc
+    Codes.macroblock_address_increment Codes.macroblock_type_intra Codes.dct_size_luminance Codes.dct_size_chrominance Codes.dct_coeff Dcs.dc_size Dcs.added
+    Dcs.dc_difference Coefficients.coefficient Syntax.pair_step Syntax.pairs Syntax.intra_coded Syntax.coded_block Block.with_pairs Block.reconstructed
+    Block.block_data_after dc_only set_const if_ok bind_result lift increment_step increment macroblock_type scale head pattern block_address results written
+    block_result one_block blocks predict_unless_intra body first_macroblock macroblock extra_step extra after_macroblock slice_step slice P.direction
+    P.picture_header P.after_slice P.slices_step P.slices P.slices_in_roles P.picture
 dc-of-255 = refl
 
 -- the P picture of one macroblock with the motion codes 1 and 1
@@ -191,10 +193,9 @@ still_decoded = run (P.picture one matrices given) still_vector 0
 -- RULES Q9: the start 0 is max_address, and reaches no further
 pub no_half-sample : is_ok still_decoded.value ≡ true
 unfolding odd half_toward_zero store_row store_rows sample predicted bit_at bits_at read_at after_read code_prefix code_from found run bind for_below loop
-    macroblock_address_increment_index macroblock_address_increment_value macroblock_type_predictive_index macroblock_type_predictive_value motion_index motion_value
-    walk_step walk vlc Codes.macroblock_address_increment Codes.macroblock_type_predictive Codes.motion displacement motion_vector corrected prediction_source
-    predict_from_source following
-    predicted_planes if_ok bind_result lift increment_step increment unless_refused predict_from predict macroblock_type scale vector forward backward vectors head
-    pattern blocks predict_unless_intra body first_macroblock macroblock extra_step extra after_macroblock slice_step slice P.direction P.picture_header
-    P.after_slice P.slices_step P.slices P.slices_in_roles P.picture
+    macroblock_address_increment_index macroblock_address_increment_value macroblock_type_predictive_index macroblock_type_predictive_value motion_index
+    motion_value walk_step walk vlc Codes.macroblock_address_increment Codes.macroblock_type_predictive Codes.motion displacement motion_vector corrected
+    prediction_source predict_from_source following predicted_planes if_ok bind_result lift increment_step increment unless_refused predict_from predict
+    macroblock_type scale vector forward backward vectors head pattern blocks predict_unless_intra body first_macroblock macroblock extra_step extra
+    after_macroblock slice_step slice P.direction P.picture_header P.after_slice P.slices_step P.slices P.slices_in_roles P.picture
 no_half-sample = refl

@@ -10,7 +10,8 @@ use Rattle.laws.specs.Signed.{odd, half_toward_zero}
 use Rattle.laws.specs.Stores.{store_row, store_rows}
 use Rattle.bits.specs.Bits.{bit_at, bits_at, read_at, after_read, code_prefix, code_from, found}
 use Rattle.bits.specs.Programs.{run, bind, loop}
-use Rattle.codes.specs.Tables.{macroblock_address_increment_index, macroblock_address_increment_value, macroblock_type_predictive_index, macroblock_type_predictive_value}
+use Rattle.codes.specs.Tables.{macroblock_address_increment_index, macroblock_address_increment_value}
+use Rattle.codes.specs.Tables.{macroblock_type_predictive_index, macroblock_type_predictive_value}
 use Rattle.codes.specs.Tables.{motion_index, motion_value}
 use Rattle.codes.specs.Walk.{walk_step, walk, vlc}
 use Rattle.codes.specs.Codes as Codes
@@ -53,14 +54,14 @@ abbrev with_y : List ℕ
 with_y = replicate 256 7 ++ replicate 256 91 ++ replicate 256 7 ++ replicate 768 50 ++ from241
 
 -- RULES Q9: Y is copied from 241, of max_address 256; Cr, by (1, -1), begins at 56 and reaches 9 further, past max_address 64. Cr and Cb are as they were
-pub nine_in-cr : run (P.picture two matrices given_two) past_in_cr 0 ≡ record { value = error (stop (prediction_outside 1 Cr (pos 1) (negsuc 0)) with_y); at = 90 }
+pub nine_in-cr : run (P.picture two matrices given_two) past_in_cr 0
+    ≡ record { value = error (stop (prediction_outside 1 Cr (pos 1) (negsuc 0)) with_y); at = 90 }
 unfolding odd half_toward_zero store_row store_rows sample predicted bit_at bits_at read_at after_read code_prefix code_from found run bind loop
-    macroblock_address_increment_index macroblock_address_increment_value macroblock_type_predictive_index macroblock_type_predictive_value motion_index motion_value
-    walk_step walk vlc Codes.macroblock_address_increment Codes.macroblock_type_predictive Codes.motion displacement motion_vector corrected prediction_source
-    predict_from_source following
-    predicted_planes if_ok bind_result lift increment_step increment unless_refused predict_from predict macroblock_type scale vector forward backward vectors head
-    predict_unless_intra body first_macroblock macroblock extra_step extra after_macroblock slice_step slice P.direction P.picture_header P.after_slice P.slices_step
-    P.slices P.slices_in_roles P.picture
+    macroblock_address_increment_index macroblock_address_increment_value macroblock_type_predictive_index macroblock_type_predictive_value motion_index
+    motion_value walk_step walk vlc Codes.macroblock_address_increment Codes.macroblock_type_predictive Codes.motion displacement motion_vector corrected
+    prediction_source predict_from_source following predicted_planes if_ok bind_result lift increment_step increment unless_refused predict_from predict
+    macroblock_type scale vector forward backward vectors head predict_unless_intra body first_macroblock macroblock extra_step extra after_macroblock
+    slice_step slice P.direction P.picture_header P.after_slice P.slices_step P.slices P.slices_in_roles P.picture
 nine_in-cr = refl
 
 -- ---- pictures that come to none
