@@ -1,6 +1,5 @@
 // RULES 7.16: the blocks of a macroblock.
 ghost use Rattle.std.specs.Prelude.{◌≡◌, ◌-◌, ◌^◌, ◌<◌};
-ghost use Rattle.codes.specs.DecodingTables.{DecodingTables};
 ghost use Rattle.picture_state.specs.State.{slice_state};
 ghost use Rattle.blocks.specs.Blocks.{predictor_of, with_dc_predictor, quantiser_of, one_block, pattern_block, blocks};
 ghost use Rattle.picture_state.specs.Promises.{matrices_in, MacroblockInvariant, RefinesAtMacroblock};
@@ -62,7 +61,6 @@ fn one_block(
     number: usize,
 ) -> Progress
     requires macroblock_invariant { MacroblockInvariant coded.context s.now reader state values.old store.old }
-    requires decoding_tables { DecodingTables tables.now }
     requires number_bound { number < 6 }
     ensures { RefinesAtMacroblock
         (one_block coded.context (matrices_in tables.now) coded.intra number (slice_state state values.old store.old))
@@ -108,7 +106,6 @@ fn block_of_pattern(
     number: usize,
 ) -> Progress
     requires macroblock_invariant { MacroblockInvariant coded.context s.now reader state values.old store.old }
-    requires decoding_tables { DecodingTables tables.now }
     requires number_bound { number < 6 }
     ensures { RefinesAtMacroblock (pattern_block coded.context (matrices_in tables.now) coded.intra coded.pattern number
         (slice_state state values.old store.old))
@@ -135,7 +132,6 @@ pub fn read_blocks(
     before: Slice,
 ) -> Progress
     requires macroblock_invariant { MacroblockInvariant coded.context s.now reader before values.old store.old }
-    requires decoding_tables { DecodingTables tables.now }
     ensures { RefinesAtMacroblock (blocks coded.context (matrices_in tables.now) coded.intra coded.pattern
         (slice_state before values.old store.old))
         coded.context s.now reader result values.new store.new }

@@ -3,7 +3,6 @@
 ghost use Rattle.std.specs.Prelude.{◌≡◌, ◌≤◌, length};
 ghost use Rattle.bits.specs.Bounds.{longest_stream};
 ghost use Rattle.bits.specs.Programs.{run};
-ghost use Rattle.codes.specs.DecodingTables.{DecodingTables};
 ghost use Rattle.code_timing.specs.Sum.{summed, code_of, code_sum};
 
 use bits::position::LONGEST_STREAM;
@@ -16,7 +15,6 @@ use tables::tables::tables_with;
 // The values of `count` codes of a table: of coefficients for 0, of increments for any other number.
 fn table_sum<const TABLE: u32>(s: &[u8], tables: &Tables, count: usize) -> u64
     requires s_len_bound { length s.now ≤ longest_stream }
-    requires decoding_tables { DecodingTables tables.now }
     ensures { result ≡ (run (summed (code_of TABLE) count 0) s.now 0).value }
 {
     let mut reader = Reader::new();

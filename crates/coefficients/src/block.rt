@@ -1,7 +1,7 @@
 // The coefficients of a block.
 ghost use Rattle.std.specs.Prelude.{◌≡◌, true, ◌≤◌, ◌<◌, ◌*◌, pos, nat_abs, ◌*ℤ◌, get_or};
 ghost use Rattle.bits.specs.Runs.{ReaderInBounds, RunsInBounds};
-ghost use Rattle.codes.specs.DecodingTables.{DecodingTables, matrix_of};
+ghost use Rattle.codes.specs.DecodingTables.{matrix_of};
 ghost use Rattle.codes.specs.Matrices.{premultiplier_matrix};
 ghost use Rattle.coefficients.specs.Dcs.{dc_in_range};
 ghost use Rattle.coefficients.specs.Dequantise.{dequantised};
@@ -12,7 +12,7 @@ use crate::dc::{dc_in_range, read_dc_difference};
 use crate::dequantise::dequantise;
 use crate::quantiser::Quantiser;
 use bits::reader::Reader;
-use codes::lent::{Tables, entry, premultiplier, zig_zag_position};
+use codes::lent::Tables;
 
 // How a block ended: read to its end; dropped, its run having led past the last place; or its DC value outside -256..255 (number 8).
 // An enum in the terms of the field, and no Result: a dropped block is no refusal.
@@ -42,12 +42,11 @@ struct CoefficientsEnd {
 
 // RULES 3.8 with its last step: the coefficient at a place.
 fn premultiplied(tables: &Tables, q: Quantiser, level: i32, position: usize) -> i32
-    requires decoding_tables { DecodingTables tables.now }
     requires level_bound { (nat_abs level ≤ 256) × (q.scale ≤ 31) × (position < 64) }
     ensures { result ≡ dequantised q level (get_or (matrix_of tables.now q.intra) position 0) *ℤ get_or premultiplier_matrix position (pos 0) }
 {
-    let weight = entry(tables, q.intra, position);
-    let factor = premultiplier(tables, position);
+    let weight = tables.entry(q.intra, position);
+    let factor = tables.premultiplier(position);
     dequantise(q, level, weight) * factor
 }
 
@@ -61,7 +60,6 @@ fn read_coefficients(
     first: usize,
 ) -> CoefficientsEnd
     requires reader_in_bounds { ReaderInBounds s.now reader }
-    requires decoding_tables { DecodingTables tables.now }
     requires first_bound { (first ≤ 64) × (q.scale ≤ 31) }
     ensures { RunsInBounds (coefficients q (matrix_of tables.now q.intra) (block_coefficients values.old first))
         s.now reader (block_coefficients_end (block_coefficients values.new result.n) result.end) result.reader }
@@ -86,7 +84,7 @@ fn read_coefficients(
                 end: BlockEnd::Dropped,
             };
         }
-        let position = zig_zag_position(tables, at);
+        let position = tables.zig_zag_position(at);
         values[position] = premultiplied(tables, q, level, position);
         n = at + 1;
     }
@@ -103,7 +101,6 @@ fn read_intra_block(
     predictor: i32,
 ) -> Block
     requires reader_in_bounds { ReaderInBounds s.now reader }
-    requires decoding_tables { DecodingTables tables.now }
     requires intra_value { (q.intra ≡ true) × (q.scale ≤ 31) × (dc_in_range predictor ≡ true) }
     ensures { RunsInBounds (block q (matrix_of tables.now q.intra) luminance predictor values.old)
         s.now reader (block_read_of values.new result) result.reader }
@@ -140,7 +137,6 @@ pub fn read_block(
     predictor: i32,
 ) -> Block
     requires reader_in_bounds { ReaderInBounds s.now reader }
-    requires decoding_tables { DecodingTables tables.now }
     requires scale_bound { (q.scale ≤ 31) × (dc_in_range predictor ≡ true) }
     ensures { RunsInBounds (block q (matrix_of tables.now q.intra) luminance predictor values.old)
         s.now reader (block_read_of values.new result) result.reader }

@@ -1,6 +1,5 @@
 // A coefficient as it is coded.
 ghost use Rattle.bits.specs.Runs.{ReaderInBounds, RunsInBounds};
-ghost use Rattle.codes.specs.DecodingTables.{DecodingTables};
 ghost use Rattle.coefficients.specs.Coefficients.{escape_level, escape, run_level, coefficient};
 
 use bits::reader::{Read, Reader};
@@ -84,7 +83,6 @@ fn read_run_level(s: &[u8], reader: Reader, code: u32) -> Read<Coefficient>
 // A coefficient, or the end of a block that has n places used.
 pub fn read_coefficient(s: &[u8], reader: Reader, tables: &Tables, n: usize) -> Read<Coefficient>
     requires reader_in_bounds { ReaderInBounds s.now reader }
-    requires decoding_tables { DecodingTables tables.now }
     ensures { RunsInBounds (coefficient n) s.now reader result.value result.reader }
 {
     let code = read_dct_coeff(s, reader, tables);

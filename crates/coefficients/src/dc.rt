@@ -1,7 +1,6 @@
 // The DC value of an intra block.
 ghost use Rattle.std.specs.Prelude.{◌≡◌, ◌≤◌, ◌<◌, ◌^◌, nat_abs};
 ghost use Rattle.bits.specs.Runs.{ReaderInBounds, RunsInBounds};
-ghost use Rattle.codes.specs.DecodingTables.{DecodingTables};
 ghost use Rattle.coefficients.specs.Dcs.{added, dc_difference, dc_in_range, dc_size};
 
 use bits::reader::{Read, Reader};
@@ -11,7 +10,6 @@ use codes::lent::Tables;
 // How many bits the differential has.
 fn read_dc_size(s: &[u8], reader: Reader, tables: &Tables, luminance: bool) -> Read<u32>
     requires reader_in_bounds { ReaderInBounds s.now reader }
-    requires decoding_tables { DecodingTables tables.now }
     ensures { RunsInBounds (dc_size luminance) s.now reader result.value result.reader }
 {
     if luminance {
@@ -34,7 +32,6 @@ fn added(size: usize, differential: u32) -> i32
 // What the DC value adds to the predictor.
 pub fn read_dc_difference(s: &[u8], reader: Reader, tables: &Tables, luminance: bool) -> Read<i32>
     requires reader_in_bounds { ReaderInBounds s.now reader }
-    requires decoding_tables { DecodingTables tables.now }
     ensures { RunsInBounds (dc_difference luminance) s.now reader result.value result.reader }
 {
     let code = read_dc_size(s, reader, tables, luminance);

@@ -1,5 +1,4 @@
 // RULES 7.13 to 7.16: a macroblock at its address.
-ghost use Rattle.codes.specs.DecodingTables.{DecodingTables};
 ghost use Rattle.macroblock.specs.Macroblocks.{predict_unless_intra, body};
 ghost use Rattle.picture_state.specs.Possible.{PossibleSlice};
 ghost use Rattle.picture_state.specs.State.{slice_state};
@@ -45,7 +44,6 @@ pub fn body(
     before: Slice,
 ) -> Progress
     requires macroblock_invariant { MacroblockInvariant g s.now reader before values.old store.old }
-    requires decoding_tables { DecodingTables tables.now }
     ensures { RefinesAtMacroblock (body g (matrices_in tables.now) (slice_state before values.old store.old))
         g s.now reader result values.new store.new }
 {

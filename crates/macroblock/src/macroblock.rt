@@ -1,5 +1,4 @@
 // RULES 7.7 to 7.12: from one macroblock to the next.
-ghost use Rattle.codes.specs.DecodingTables.{DecodingTables};
 ghost use Rattle.macroblock.specs.Macroblocks.{first_macroblock, later_macroblock, macroblock};
 ghost use Rattle.picture_state.specs.State.{slice_state};
 ghost use Rattle.picture_state.specs.Promises.{matrices_in, RefinesInSlice};
@@ -26,7 +25,6 @@ fn first_macroblock(
     state: Slice,
 ) -> Progress
     requires advance_invariant { AdvanceInvariant g s.now reader state n values.old store.old }
-    requires decoding_tables { DecodingTables tables.now }
     ensures { RefinesInSlice (first_macroblock g (matrices_in tables.now) n (slice_state state values.old store.old))
         g s.now reader result values.new store.new }
 {
@@ -53,7 +51,6 @@ fn later_macroblock(
     state: Slice,
 ) -> Progress
     requires later_invariant { LaterInvariant g s.now reader state n values.old store.old }
-    requires decoding_tables { DecodingTables tables.now }
     ensures { RefinesInSlice (later_macroblock g (matrices_in tables.now) n (slice_state state values.old store.old))
         g s.now reader result values.new store.new }
 {
@@ -87,7 +84,6 @@ pub fn macroblock(
     state: Slice,
 ) -> Progress
     requires increment_invariant { IncrementInvariant g s.now reader first state values.old store.old }
-    requires decoding_tables { DecodingTables tables.now }
     ensures { RefinesInSlice (macroblock g (matrices_in tables.now) first (slice_state state values.old store.old))
         g s.now reader result values.new store.new }
 {

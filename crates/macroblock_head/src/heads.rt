@@ -2,7 +2,6 @@
 ghost use Rattle.std.specs.Prelude.{◌≡◌};
 ghost use Rattle.bits.specs.Programs.{done, when◌then◌else◌};
 ghost use Rattle.bits.specs.Runs.{ReaderInBounds, RunsInBounds};
-ghost use Rattle.codes.specs.DecodingTables.{DecodingTables};
 ghost use Rattle.picture_state.specs.Possible.{PossibleMotion, PossibleSlice};
 ghost use Rattle.picture_state.specs.State.{zeroed, with_is_set, dc_reset};
 ghost use Rattle.macroblock_head.specs.Heads.{macroblock_type, scale, vector, vectors, flagged, vectors_reset, head, pattern};
@@ -38,7 +37,6 @@ pub fn read_macroblock_type(
     picture_type: u32,
 ) -> Read<u32>
     requires reader_in_bounds { ReaderInBounds s.now reader }
-    requires decoding_tables { DecodingTables tables.now }
     ensures { RunsInBounds (macroblock_type picture_type) s.now reader result.value result.reader }
 {
     match picture_type {
@@ -64,7 +62,6 @@ pub fn is_set_as(m: Motion, is: bool) -> Motion
 // RULES 5.7: a vector, the horizontal component first.
 fn read_vector(s: &[u8], reader: Reader, tables: &Tables, m: Motion) -> MotionRead
     requires reader_in_bounds { ReaderInBounds s.now reader }
-    requires decoding_tables { DecodingTables tables.now }
     requires possible_motion { PossibleMotion m }
     ensures { RunsInBounds (vector m) s.now reader result.motion result.reader }
 {
@@ -83,7 +80,6 @@ fn read_vector(s: &[u8], reader: Reader, tables: &Tables, m: Motion) -> MotionRe
 // RULES 7.15: a direction's vector, read with its flag set; without it, it goes back to 0 where `resets` says so.
 fn read_motion(s: &[u8], reader: Reader, tables: &Tables, resets: bool, m: Motion) -> MotionRead
     requires reader_in_bounds { ReaderInBounds s.now reader }
-    requires decoding_tables { DecodingTables tables.now }
     requires possible_motion { PossibleMotion m }
     ensures { RunsInBounds (when m.is_set then vector m else when resets then done (zeroed m) else done m)
         s.now reader result.motion result.reader }
@@ -110,7 +106,6 @@ fn read_vectors(
     mut before: Slice,
 ) -> HeadRead
     requires reader_in_bounds { ReaderInBounds s.now reader }
-    requires decoding_tables { DecodingTables tables.now }
     requires possible_motions { PossibleMotions before }
     ensures { RunsInBounds (vectors picture_type before) s.now reader result.state result.reader }
 {
@@ -185,7 +180,6 @@ pub fn read_head(
     before: Slice,
 ) -> HeadRead
     requires reader_in_bounds { ReaderInBounds s.now reader }
-    requires decoding_tables { DecodingTables tables.now }
     requires possible_slice { PossibleSlice before }
     ensures { RunsInBounds (head picture_type t before) s.now reader result.state result.reader }
 {
@@ -202,7 +196,6 @@ pub fn read_head(
 // RULES 7.16: read with flag 2; else 63 for an intra macroblock, and 0 for any other.
 pub fn read_pattern(s: &[u8], reader: Reader, tables: &Tables, t: u32) -> Read<u32>
     requires reader_in_bounds { ReaderInBounds s.now reader }
-    requires decoding_tables { DecodingTables tables.now }
     ensures { RunsInBounds (pattern t) s.now reader result.value result.reader }
 {
     if flag(t, 2) {

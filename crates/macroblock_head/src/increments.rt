@@ -1,6 +1,5 @@
 // RULES 7.7: the address increment.
 ghost use Rattle.bits.specs.Runs.{ReaderInBounds, RunsInBounds};
-ghost use Rattle.codes.specs.DecodingTables.{DecodingTables};
 ghost use Rattle.macroblock_head.specs.Increments.{increment};
 
 use bits::reader::Reader;
@@ -16,7 +15,6 @@ pub struct Increment {
 // The sum of the codes. A code of 34 (stuffing) is dropped where no 35 (escape) came before it; a 35 adds 33 and goes on; any other is added and is the last.
 pub fn read_increment(s: &[u8], reader: Reader, tables: &Tables) -> Increment
     requires reader_in_bounds { ReaderInBounds s.now reader }
-    requires decoding_tables { DecodingTables tables.now }
     ensures { RunsInBounds increment s.now reader result.sum result.reader }
 {
     let mut from = reader;

@@ -1,7 +1,6 @@
 // The step of a motion vector's component: the Rust's decode_motion_vector, with r for its r_size.
 ghost use Rattle.std.specs.Prelude.{◌≡◌, ◌^◌, ◌≤◌, ◌<◌, nat_abs};
 ghost use Rattle.bits.specs.Runs.{ReaderInBounds, RunsInBounds};
-ghost use Rattle.codes.specs.DecodingTables.{DecodingTables};
 ghost use Rattle.motion.specs.Displacement.{InRange, displacement_from, corrected};
 ghost use Rattle.motion.specs.Vector.{displacement, motion_vector};
 
@@ -43,7 +42,6 @@ fn corrected(r: u32, motion: i32) -> i32
 // The displacement at the reader's place: a code alone where it is 0 or r is 0, else with a residual of r bits (RULES 5.3, 5.4).
 fn read_displacement(s: &[u8], reader: Reader, tables: &Tables, r: u32) -> Read<i32>
     requires reader_in_bounds { ReaderInBounds s.now reader }
-    requires decoding_tables { DecodingTables tables.now }
     requires r_bound { r ≤ 6 }
     ensures { RunsInBounds (displacement r) s.now reader result.value result.reader }
 {
@@ -68,7 +66,6 @@ pub fn decode_motion_vector(
     motion: i32,
 ) -> Read<i32>
     requires reader_in_bounds { ReaderInBounds s.now reader }
-    requires decoding_tables { DecodingTables tables.now }
     requires r_bound { r ≤ 6 }
     requires in_range { InRange 64 motion }
     ensures { RunsInBounds (motion_vector r motion) s.now reader result.value result.reader }

@@ -1,6 +1,5 @@
 // RULES 7.3, 7.4: the slices of a picture.
 ghost use Rattle.std.specs.Prelude.{◌≡◌, not, ◌&&◌, ◌≤◌};
-ghost use Rattle.codes.specs.DecodingTables.{DecodingTables};
 ghost use Rattle.picture.specs.Pictures.{is_slice, is_extra, slices};
 ghost use Rattle.picture_state.specs.Promises.{matrices_in, ReadInvariant, StoreFits};
 ghost use Rattle.picture.specs.Promises.{picture_state_of, RefinesSlicesStep, RefinesSlices};
@@ -64,7 +63,6 @@ fn slices_step(
 ) -> SlicesProgress
     requires read_invariant { ReadInvariant s.now reader state values.old }
     requires store_fits { StoreFits g store.old }
-    requires decoding_tables { DecodingTables tables.now }
     ensures { RefinesSlicesStep g (matrices_in tables.now) s.now reader begun state values.old store.old
         result values.new store.new }
 {
@@ -106,7 +104,6 @@ pub fn read_slices(
 ) -> SlicesProgress
     requires read_invariant { ReadInvariant s.now reader start values.old }
     requires store_fits { StoreFits g store.old }
-    requires decoding_tables { DecodingTables tables.now }
     ensures { RefinesSlices (slices g (matrices_in tables.now) (picture_state_of g before start values.old store.old))
         g s.now reader result values.new store.new }
 {

@@ -58,12 +58,6 @@ fn picture_of(g: Context, stores: Stores, t: SlicesProgress) -> PictureProgress
     }
 }
 
-// Says that a matrix is 64 bytes: that is known of one by value, and not of one behind a reference. The copy for it is not made in compiled code.
-fn has_bytes(matrix: [u8; 64])
-    ensures matrix_len { length matrix ≡ 64 }
-    ensures by_index { (k : ℕ) → get_or matrix k 0 < 256 }
-{}
-
 // The slices, with the turn of the stores. The tables are made here, once a picture.
 pub fn read_slices_in_roles(
     s: &[u8],
@@ -82,10 +76,6 @@ pub fn read_slices_in_roles(
     ensures { RefinesPicture (slices_in_roles sizes (matrices intra.now other.now) (picture_state p values.old store.old))
         s.now reader result values.new store.new }
 {
-    let intra_bytes = *intra;
-    has_bytes(intra_bytes);
-    let other_bytes = *other;
-    has_bytes(other_bytes);
     let tables = tables_with(intra, other);
     let roles = roles_of(p.picture_type, p.stores);
     let g = Context {

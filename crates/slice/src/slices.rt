@@ -1,7 +1,6 @@
 // RULES 7.5, 7.6: a slice.
 ghost use Rattle.std.specs.Prelude.{◌≡◌, true, ◌≤◌};
 ghost use Rattle.bits.specs.Runs.{ReaderInBounds, RunsInBounds};
-ghost use Rattle.codes.specs.DecodingTables.{DecodingTables};
 ghost use Rattle.picture_state.specs.State.{slice_state};
 ghost use Rattle.picture_state.specs.Stop.{stop_number};
 ghost use Rattle.slice.specs.Slices.{extra, slice_start, slice};
@@ -76,7 +75,6 @@ fn read_macroblocks(
     before: Slice,
 ) -> Progress
     requires increment_invariant { IncrementInvariant g s.now reader true before values.old store.old }
-    requires decoding_tables { DecodingTables tables.now }
     ensures { RefinesMacroblocks (λ w₀. macroblocks g (matrices_in tables.now) w₀ (slice_state before values.old store.old))
         g s.now reader result values.new store.new }
 {
@@ -107,7 +105,6 @@ pub fn read_slice(
 ) -> Progress
     requires read_invariant { ReadInvariant s.now reader state values.old }
     requires store_fits { StoreFits g store.old }
-    requires decoding_tables { DecodingTables tables.now }
     requires le_number { (1 ≤ number) × (number ≤ 175) }
     ensures { RefinesInSlice (slice g (matrices_in tables.now) number (slice_state state values.old store.old))
         g s.now reader result values.new store.new }

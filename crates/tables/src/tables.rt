@@ -45,7 +45,7 @@ fn put_codes(tables: &mut [u16], at: usize, index: &[i32], value: &[i32], first:
 
 // The code tables of increments, types and patterns. A long one is laid in parts: the compiler makes constants of a loop of up to some 25 turns.
 // With all 224 coefficients in one part it copied the constant arrays at each call, and kept the loop.
-fn put_macroblock_codes(t: &mut Tables)
+fn put_macroblock_codes(t: &mut [u16; LENGTH])
     ensures { t.new ≡ paste t.old 0 macroblock_codes (length macroblock_codes) }
 {
     let index = &MACROBLOCK_ADDRESS_INCREMENT_INDEX[..];
@@ -74,7 +74,7 @@ fn put_macroblock_codes(t: &mut Tables)
 }
 
 // The code tables of vectors, DC sizes and coefficients, the zig-zag order and the premultipliers.
-fn put_block_codes(t: &mut Tables)
+fn put_block_codes(t: &mut [u16; LENGTH])
     ensures { t.new ≡ paste t.old (length macroblock_codes) block_codes (length block_codes) }
 {
     let index = &MOTION_INDEX[..];
@@ -113,5 +113,5 @@ pub fn tables_with(intra_matrix: &[u8; 64], other_matrix: &[u8; 64]) -> Tables
     put_block_codes(&mut tables);
     put_bytes(&mut tables, INTRA_MATRIX, intra_matrix);
     put_bytes(&mut tables, NON_INTRA_MATRIX, other_matrix);
-    tables
+    Tables::new(tables)
 }

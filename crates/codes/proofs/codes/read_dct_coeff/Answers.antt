@@ -6,13 +6,13 @@ use Rattle.codes.proofs.Parts.{places, natural-table, natural-code}
 use Rattle.codes.proofs.codes.read_dct_coeff.Goals as goal
 
 pub read_natural_from-requires-clause-valid_merged_table : goal.read_natural_from-requires-clause-valid_merged_table
-read_natural_from-requires-clause-valid_merged_table c = (natural-table c.requires.decoding_tables places.coefficient).1
+read_natural_from-requires-clause-valid_merged_table c = (natural-table c.entries.ensures.decoding_tables places.coefficient).1
 
 pub returns-then-x-lt4 : goal.returns-then-x-lt4
 returns-then-x-lt4 c =
     let two = leb-true _ _ (sym c.has_eight.ensures ∙ c.if-has_eight.true) in
-    further-code c.requires.reader_in_bounds (coefficient-agrees _ _ two c.next_eight-x.ensures refl) places.coefficient c.requires.decoding_tables
-    c.advanced_by.ensures c.read_natural_from.ensures (coefficient-further _ (omega (arith, c.if-x-lt4.true)))
+    further-code c.requires.reader_in_bounds (coefficient-agrees _ _ two c.next_eight-x.ensures refl) places.coefficient c.entries.ensures.decoding_tables
+    c.advanced_by-rest.ensures c.read_natural_from.ensures (coefficient-further _ (omega (arith, c.if-x-lt4.true)))
 
 pub lookup_dct_coeff-requires : goal.lookup_dct_coeff-requires
 lookup_dct_coeff-requires c = below _ _ c.next_eight-x.ensures
@@ -25,7 +25,7 @@ returns-then-has_eight c =
     looked-code c.requires.reader_in_bounds (coefficient-agrees _ _ two c.next_eight-x.ensures e) (rw e some) c.found.ensures.0 c.found.ensures.1
 
 pub read_natural-requires-clause-valid_merged_table : goal.read_natural-requires-clause-valid_merged_table
-read_natural-requires-clause-valid_merged_table c = (natural-table c.requires.decoding_tables places.coefficient).1
+read_natural-requires-clause-valid_merged_table c = (natural-table c.entries-2.ensures.decoding_tables places.coefficient).1
 
 pub returns : goal.returns
-returns c = natural-code c.requires.decoding_tables places.coefficient c.read_natural.ensures
+returns c = natural-code c.entries-2.ensures.decoding_tables places.coefficient c.read_natural.ensures

@@ -13,8 +13,8 @@ unfolding motion_index motion_value
 here l = record { is = lent-part l 246 68 (omega arith) places.vector; places = tt; values = tt }
 
 pub read_vlc-requires-clause-valid_merged_table : goal.read_vlc-requires-clause-valid_merged_table
-read_vlc-requires-clause-valid_merged_table c = joined_leading (here c.requires.decoding_tables) good-motion
+read_vlc-requires-clause-valid_merged_table c = joined_leading (here c.entries.ensures.decoding_tables) good-motion
 
 pub returns : goal.returns
 unfolding motion motion_value
-returns c = c.read_vlc.ensures motion_index motion_value (here c.requires.decoding_tables) tt
+returns c = c.read_vlc.ensures motion_index motion_value (here c.entries.ensures.decoding_tables) tt

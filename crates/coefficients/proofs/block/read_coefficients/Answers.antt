@@ -25,10 +25,10 @@ returns-then-at-ge64 c =
     reading c.requires.reader_in_bounds
     (pair-dropped c.loop-run.invariant.placed (rw c.in-RunLevel.is at c.read_coefficient-read.ensures.runs) c.if-at-ge64.true)
 
-pub premultiplied-requires-clause-level_bound : goal.premultiplied-requires-clause-level_bound
-premultiplied-requires-clause-level_bound c =
+pub premultiplied-requires : goal.premultiplied-requires
+premultiplied-requires c =
     let small = given_by (coefficient-small c.loop-run.n) (rw c.in-RunLevel.is at c.read_coefficient-read.ensures.runs) in
-    (rw (rd w32 (num small.1) tt).is small.1, c.requires.first_bound.1, rw c.zig_zag_position-position.ensures (zig_zag-inside _))
+    record { level_bound = (rw (rd w32 (num small.1) tt).is small.1, c.requires.first_bound.1, rw c.zig_zag_position-position.ensures (zig_zag-inside _)) }
 
 pub bounds-values-position : goal.bounds-values-position
 bounds-values-position c = rw c.zig_zag_position-position.ensures (zig_zag-inside _)

@@ -17,10 +17,7 @@ pub body-requires : goal.body-requires
 body-requires c =
     let k = c.requires.advance_invariant in
     let e = c.address_plus-here.ensures in
-    record {
-      macroblock_invariant = first-ready k e (outside_read k e c.is_outside.ensures) c.if-is_outside.false;
-      decoding_tables = c.requires.decoding_tables;
-    }
+    record { macroblock_invariant = first-ready k e (outside_read k e c.is_outside.ensures) c.if-is_outside.false }
 
 pub returns : goal.returns
 returns c =

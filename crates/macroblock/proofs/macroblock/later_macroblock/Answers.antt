@@ -17,11 +17,13 @@ returns-then-is_some c =
     later-stop k (sym (rw (address_read k.reads.slice) at c.past.ensures) ∙ c.if-past.false) c.advance-here.ensures c.advance-here.auto.store
     (matrices_in c.args.tables.now) refl (some-is-stop _ (sym c.is_some.ensures ∙ c.if-is_some.true))
 
-pub body-requires-clause-macroblock_invariant : goal.body-requires-clause-macroblock_invariant
-body-requires-clause-macroblock_invariant c =
+pub body-requires : goal.body-requires
+body-requires c =
     let k = c.requires.later_invariant in
-    later-ready k (sym (rw (address_read k.reads.slice) at c.past.ensures) ∙ c.if-past.false) c.advance-here.ensures c.advance-here.auto.store
-    (none-goes-on _ (sym c.is_some.ensures ∙ c.if-is_some.false))
+    record {
+      macroblock_invariant = later-ready k (sym (rw (address_read k.reads.slice) at c.past.ensures) ∙ c.if-past.false) c.advance-here.ensures
+          c.advance-here.auto.store (none-goes-on _ (sym c.is_some.ensures ∙ c.if-is_some.false));
+    }
 
 pub returns : goal.returns
 returns c =

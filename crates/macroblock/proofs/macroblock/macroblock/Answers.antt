@@ -11,8 +11,8 @@ pub returns : goal.returns
 returns c =
     macroblock-later c.requires.increment_invariant c.read_increment-n.ensures (matrices_in c.args.tables.now) c.if-first.false c.later_macroblock.ensures
 
-pub first_macroblock-requires-clause-advance_invariant : goal.first_macroblock-requires-clause-advance_invariant
-first_macroblock-requires-clause-advance_invariant c = begun c.requires.increment_invariant c.read_increment-n.ensures c.if-first.true
+pub first_macroblock-requires : goal.first_macroblock-requires
+first_macroblock-requires c = record { advance_invariant = begun c.requires.increment_invariant c.read_increment-n.ensures c.if-first.true }
 
-pub later_macroblock-requires-clause-later_invariant : goal.later_macroblock-requires-clause-later_invariant
-later_macroblock-requires-clause-later_invariant c = between c.requires.increment_invariant c.read_increment-n.ensures c.if-first.false
+pub later_macroblock-requires : goal.later_macroblock-requires
+later_macroblock-requires c = record { later_invariant = between c.requires.increment_invariant c.read_increment-n.ensures c.if-first.false }

@@ -6,18 +6,9 @@ use Rattle.picture.proofs.roles.read_slices_in_roles.Goals as goal
 pub returns : goal.returns
 returns c =
     let a = c.args in
-    let i = c.has_bytes.ensures in
-    let o = c.has_bytes-2.ensures in
-    let lent = made (record { long = i.matrix_len; bytes = i.by_index }) (record { long = o.matrix_len; bytes = o.by_index }) c.tables_with-tables.ensures in
+    let lent = made (record { long = c.told-intra; bytes = c.fits-intra }) (record { long = c.told-other; bytes = c.fits-other }) c.tables_with-tables.ensures in
     coded-of a.sizes lent a.p a.values.now a.store.now c.read_slices-t.result c.roles_of-roles.ensures.during_value
     c.roles_of-roles.ensures.afterwards_value (start-read c.requires.possible_picture) c.picture_of.ensures c.read_slices-t.ensures
 
 pub read_slices-t-requires-clause-store_fits : goal.read_slices-t-requires-clause-store_fits
 read_slices-t-requires-clause-store_fits c = held-during c.args.p c.args.sizes c.roles_of-roles.ensures.during_value c.requires.store_fits
-
-pub read_slices-t-requires-clause-decoding_tables : goal.read_slices-t-requires-clause-decoding_tables
-read_slices-t-requires-clause-decoding_tables c =
-    let i = c.has_bytes.ensures in
-    let o = c.has_bytes-2.ensures in
-    let lent = made (record { long = i.matrix_len; bytes = i.by_index }) (record { long = o.matrix_len; bytes = o.by_index }) c.tables_with-tables.ensures in
-    lent.lent

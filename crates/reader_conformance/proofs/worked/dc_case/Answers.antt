@@ -3,13 +3,9 @@ use Rattle.std.proofs.Common.{◌≡◌, ◌≤◌, ◌∙◌, ap, arith, to_z-o
 use Rattle.laws.proofs.Ints.{reread, v, lit, ◌⊕◌, abs-of, fits_by}
 use Rattle.laws.proofs.Nums.{num, rd}
 use Rattle.bits.proofs.Gives.{given_by}
-use Rattle.tables.proofs.Made.{lent_default}
 use Rattle.coefficients.proofs.Sizes.{difference-small}
 use Rattle.reader_conformance.proofs.WorkedCases.{value-at}
 use Rattle.reader_conformance.proofs.worked.dc_case.Goals as goal
-
-pub read_dc_difference-requires-clause-decoding_tables : goal.read_dc_difference-requires-clause-decoding_tables
-read_dc_difference-requires-clause-decoding_tables c = rw c.default_tables-tables.ensures lent_default
 
 back : (d : ℤ) → nat_abs d ≤ 255 → reread w32 d ≡ d
 back d small = (rd w32 (num small) tt).is

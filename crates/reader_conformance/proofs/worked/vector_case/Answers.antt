@@ -1,10 +1,6 @@
 use Rattle.std.proofs.Common.{◌≡◌, ◌∙◌, of_z, rules, to_z, to_z-of_z, w32}
-use Rattle.tables.proofs.Made.{lent_default}
 use Rattle.reader_conformance.proofs.WorkedCases.{value-at}
 use Rattle.reader_conformance.proofs.worked.vector_case.Goals as goal
-
-pub decode_motion_vector-requires-clause-decoding_tables : goal.decode_motion_vector-requires-clause-decoding_tables
-decode_motion_vector-requires-clause-decoding_tables c = rw c.default_tables-tables.ensures lent_default
 
 pub returns : goal.returns
 returns c =

@@ -16,7 +16,11 @@ returns c =
       store_fits = w.store_fits;
     }
 
-pub read_macroblocks-requires-clause-increment_invariant : goal.read_macroblocks-requires-clause-increment_invariant
-read_macroblocks-requires-clause-increment_invariant c =
+pub read_macroblocks-requires : goal.read_macroblocks-requires
+read_macroblocks-requires c =
     let r = c.requires in
-    rw c.slice_start-start.ensures (start-awaits r.read_invariant r.store_fits c.args.number r.le_number.1 c.read-q.ensures c.skip_extra-from.ensures)
+    record {
+      increment_invariant =
+          rw c.slice_start-start.ensures
+          (start-awaits r.read_invariant r.store_fits c.args.number r.le_number.1 c.read-q.ensures c.skip_extra-from.ensures);
+    }

@@ -1,6 +1,0 @@
-use Rattle.std.proofs.Common.{◌∙◌}
-use Rattle.codes.proofs.Parts.{position_at}
-use Rattle.codes.proofs.lent.zig_zag_position.Goals as goal
-
-pub returns : goal.returns
-returns c = c.from.ensures ∙ position_at c.requires.decoding_tables c.args.n c.requires.n_bound
