@@ -51,7 +51,7 @@ pub fn body(
     let flags = t.value;
     let h = read_head(s, t.reader, tables, g.picture_type, flags, before);
     let from = h.reader;
-    let state = h.state;
+    let state = h.value;
     let Ok(()) = predict_unless_intra(store, g, flags, state) else {
         return Progress {
             reader: from,

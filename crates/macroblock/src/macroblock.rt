@@ -89,7 +89,7 @@ pub fn macroblock(
 {
     let n = read_increment(s, reader, tables);
     if first {
-        return first_macroblock(s, n.reader, store, values, tables, g, n.sum, state);
+        return first_macroblock(s, n.reader, store, values, tables, g, n.value, state);
     }
-    later_macroblock(s, n.reader, store, values, tables, g, n.sum, state)
+    later_macroblock(s, n.reader, store, values, tables, g, n.value, state)
 }

@@ -17,18 +17,6 @@ use motion::vector::decode_motion_vector;
 use picture_state::flags::flag;
 use picture_state::types::{Motion, Slice};
 
-#[derive(Clone, Copy)]
-pub struct HeadRead {
-    pub reader: Reader,
-    pub state: Slice,
-}
-
-#[derive(Clone, Copy)]
-struct MotionRead {
-    pub reader: Reader,
-    pub motion: Motion,
-}
-
 // RULES 7.13: the macroblock type, by the table of the picture's type.
 pub fn read_macroblock_type(
     s: &[u8],
@@ -60,16 +48,16 @@ pub fn is_set_as(m: Motion, is: bool) -> Motion
 }
 
 // RULES 5.7: a vector, the horizontal component first.
-fn read_vector(s: &[u8], reader: Reader, tables: &Tables, m: Motion) -> MotionRead
+fn read_vector(s: &[u8], reader: Reader, tables: &Tables, m: Motion) -> Read<Motion>
     requires reader_in_bounds { ReaderInBounds s.now reader }
     requires possible_motion { PossibleMotion m }
-    ensures { RunsInBounds (vector m) s.now reader result.motion result.reader }
+    ensures { RunsInBounds (vector m) s.now reader result.value result.reader }
 {
     let h = decode_motion_vector(s, reader, tables, m.r_size, m.h);
     let v = decode_motion_vector(s, h.reader, tables, m.r_size, m.v);
-    MotionRead {
+    Read {
         reader: v.reader,
-        motion: Motion {
+        value: Motion {
             h: h.value,
             v: v.value,
             ..m
@@ -78,22 +66,22 @@ fn read_vector(s: &[u8], reader: Reader, tables: &Tables, m: Motion) -> MotionRe
 }
 
 // RULES 7.15: a direction's vector, read with its flag set; without it, it goes back to 0 where `resets` says so.
-fn read_motion(s: &[u8], reader: Reader, tables: &Tables, resets: bool, m: Motion) -> MotionRead
+fn read_motion(s: &[u8], reader: Reader, tables: &Tables, resets: bool, m: Motion) -> Read<Motion>
     requires reader_in_bounds { ReaderInBounds s.now reader }
     requires possible_motion { PossibleMotion m }
     ensures { RunsInBounds (when m.is_set then vector m else when resets then done (zeroed m) else done m)
-        s.now reader result.motion result.reader }
+        s.now reader result.value result.reader }
 {
     if m.is_set {
         return read_vector(s, reader, tables, m);
     }
     if resets {
-        return MotionRead {
+        return Read {
             reader,
-            motion: zeroed(m),
+            value: zeroed(m),
         };
     }
-    MotionRead { reader, motion: m }
+    Read { reader, value: m }
 }
 
 // The forward vector first: in a P picture it goes back to 0 without its flag. Here and in `read_scale` `..before` gets no proof: the address that it
@@ -104,37 +92,37 @@ fn read_vectors(
     tables: &Tables,
     picture_type: u32,
     mut before: Slice,
-) -> HeadRead
+) -> Read<Slice>
     requires reader_in_bounds { ReaderInBounds s.now reader }
     requires possible_motions { PossibleMotions before }
-    ensures { RunsInBounds (vectors picture_type before) s.now reader result.state result.reader }
+    ensures { RunsInBounds (vectors picture_type before) s.now reader result.value result.reader }
 {
     let f = read_motion(s, reader, tables, picture_type == 2, before.motion_forward);
     let b = read_motion(s, f.reader, tables, false, before.motion_backward);
-    before.motion_forward = f.motion;
-    before.motion_backward = b.motion;
-    HeadRead {
+    before.motion_forward = f.value;
+    before.motion_backward = b.value;
+    Read {
         reader: b.reader,
-        state: before,
+        value: before,
     }
 }
 
 // RULES 7.13: 5 bits of scale with flag 16.
-fn read_scale(s: &[u8], reader: Reader, t: u32, mut before: Slice) -> HeadRead
+fn read_scale(s: &[u8], reader: Reader, t: u32, mut before: Slice) -> Read<Slice>
     requires { ReaderInBounds s.now reader }
-    ensures { RunsInBounds (scale t before) s.now reader result.state result.reader }
+    ensures { RunsInBounds (scale t before) s.now reader result.value result.reader }
 {
     if flag(t, 16) {
         let q = reader.read(s, 5);
         before.quantizer_scale = q.value;
-        return HeadRead {
+        return Read {
             reader: q.reader,
-            state: before,
+            value: before,
         };
     }
-    HeadRead {
+    Read {
         reader,
-        state: before,
+        value: before,
     }
 }
 
@@ -178,19 +166,19 @@ pub fn read_head(
     picture_type: u32,
     t: u32,
     before: Slice,
-) -> HeadRead
+) -> Read<Slice>
     requires reader_in_bounds { ReaderInBounds s.now reader }
     requires possible_slice { PossibleSlice before }
-    ensures { RunsInBounds (head picture_type t before) s.now reader result.state result.reader }
+    ensures { RunsInBounds (head picture_type t before) s.now reader result.value result.reader }
 {
     let q = read_scale(s, reader, t, flagged(t, before));
     if flag(t, 1) {
-        return HeadRead {
+        return Read {
             reader: q.reader,
-            state: vectors_reset(q.state),
+            value: vectors_reset(q.value),
         };
     }
-    read_vectors(s, q.reader, tables, picture_type, reset(q.state))
+    read_vectors(s, q.reader, tables, picture_type, reset(q.value))
 }
 
 // RULES 7.16: read with flag 2; else 63 for an intra macroblock, and 0 for any other.
