@@ -23,8 +23,9 @@ read_natural_from-requires-then-x-gt2-clause-valid_merged_table c = (natural-tab
 pub returns-then-x-gt2 : goal.returns-then-x-gt2
 returns-then-x-gt2 c =
     let two = leb-true _ _ (sym c.has_eight.ensures ∙ c.if-has_eight.true) in
-    further-code c.requires.reader_in_bounds (increment-agrees _ _ two c.next_eight-x.ensures refl) places.increment c.entries-then-x-gt2.ensures.decoding_tables
-    c.advanced_by-then-x-gt2.ensures c.read_natural_from-then-x-gt2.ensures (increment-further _ c.if-x-gt2.true c.if-x-lt6.true)
+    further-code c.requires.reader_in_bounds (increment-agrees _ _ two c.next_eight-x.ensures refl) places.increment
+    c.entries-then-x-gt2.ensures.decoding_tables c.advanced_by-then-x-gt2.ensures
+    c.read_natural_from-then-x-gt2.ensures (increment-further _ c.if-x-gt2.true c.if-x-lt6.true)
 
 pub lookup_macroblock_address_increment-requires : goal.lookup_macroblock_address_increment-requires
 lookup_macroblock_address_increment-requires c = below _ _ c.next_eight-x.ensures
