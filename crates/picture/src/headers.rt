@@ -4,19 +4,13 @@ ghost use Rattle.bits.specs.Runs.{ReaderInBounds, RunsInBounds};
 ghost use Rattle.picture.specs.Pictures.{direction, has_zero_fcode, picture_header};
 ghost use Rattle.picture.specs.CodeResults.{direction_of, header_of};
 
-use bits::reader::Reader;
+use bits::reader::{Read, Reader};
 
 // Full-pel flag and f code of one direction.
 #[derive(Clone, Copy)]
 pub struct Direction {
     pub full_pel_vector: bool,
     pub f_code: u32,
-}
-
-#[derive(Clone, Copy)]
-struct DirectionRead {
-    pub reader: Reader,
-    pub direction: Option<Direction>,
 }
 
 #[derive(Clone, Copy)]
@@ -37,21 +31,21 @@ pub fn is_zero(d: Option<Direction>) -> bool
 }
 
 // One bit and three, if the header has them.
-fn read_direction(s: &[u8], reader: Reader, present: bool) -> DirectionRead
+fn read_direction(s: &[u8], reader: Reader, present: bool) -> Read<Option<Direction>>
     requires { ReaderInBounds s.now reader }
-    ensures { RunsInBounds (direction present) s.now reader (direction_of result.direction) result.reader }
+    ensures { RunsInBounds (direction present) s.now reader (direction_of result.value) result.reader }
 {
     if !present {
-        return DirectionRead {
+        return Read {
             reader,
-            direction: None,
+            value: None,
         };
     }
     let full = reader.read_bit(s);
     let f = full.reader.read(s, 3);
-    DirectionRead {
+    Read {
         reader: f.reader,
-        direction: Some(Direction {
+        value: Some(Direction {
             full_pel_vector: full.value != 0,
             f_code: f.value,
         }),
@@ -69,9 +63,9 @@ pub fn read_picture_header(s: &[u8], reader: Reader) -> HeaderRead
     let picture_coding_type = t.value;
     let is_b = picture_coding_type == 3;
     let f = read_direction(s, delay.reader, (picture_coding_type == 2) | is_b);
-    let forward = f.direction;
+    let forward = f.value;
     let b = read_direction(s, f.reader, is_b & !is_zero(forward));
-    let backward = b.direction;
+    let backward = b.value;
     HeaderRead {
         reader: b.reader,
         temporal_reference: temporal.value,
