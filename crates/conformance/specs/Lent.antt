@@ -3,4 +3,4 @@ use Rattle.memory.specs.Memory as Host
 use Rattle.conformance.specs.declared.records.Memory.{Memory}
 
 abbrev pub memory_of : Memory → Host.Memory
-memory_of m = Host.memory m.numbers m.integers m.matrices m.clock
+memory_of m = Host.memory m.numbers.now m.integers.now m.matrices.now m.clock.now

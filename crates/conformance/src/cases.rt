@@ -1,5 +1,5 @@
 // A case: six numbers (bytes of the store, store converted, width and height of the output, length of the area, hand-outs) and a record.
-use crate::records::Memory;
+use crate::records::{Memory, clock_in, integers_in, matrices_in, numbers_in};
 use crate::show::{decode, show_conversion};
 use answer_lists::bytes::part;
 use answer_lists::noise::fill;
@@ -11,7 +11,7 @@ fn convert<R: Print>(
     rt: &R,
     case: &[u8],
     store: &[u8],
-    lent: &Memory,
+    lent: &Memory<'_>,
     length: usize,
 ) -> Result<()> {
     let mut area = [7u32; 16384];
@@ -26,7 +26,13 @@ fn convert<R: Print>(
 
 // A conversion, then hand-outs.
 fn run<R: Print>(rt: &R, stream: &[u8], case: &[u8], store: &mut [u8]) -> Result<()> {
-    let mut lent = Memory::read(part(case, 24, case.len()));
+    let record = part(case, 24, case.len());
+    let mut lent = Memory {
+        numbers: &mut numbers_in(record),
+        integers: &mut integers_in(record),
+        matrices: &mut matrices_in(record),
+        clock: &mut clock_in(record),
+    };
     fill(store, 7);
     let length = number_at(case, 16) as usize;
     convert(rt, case, store, &lent, length)?;

@@ -1,10 +1,8 @@
 // The memory that the calls are lent: records made by hand, in its order.
 ghost use Rattle.std.specs.Prelude.{◌≡◌, ◌+◌, ◌<◌};
-ghost use Rattle.memory.specs.Memory.{memory};
 ghost use Rattle.conformance.specs.Records.{numbers_in, integers_in, matrices_in, clock_in};
 ghost use Rattle.answer_lists.specs.Numbers.{number_at};
 ghost use Rattle.conformance.specs.Floats.{fraction};
-ghost use Rattle.conformance.specs.Lent.{memory_of};
 
 use crate::floats::fraction;
 use answer_lists::bytes::byte_at;
@@ -19,11 +17,11 @@ const MATRICES_AT: usize = 4 * (NUMBERS + INTEGERS);
 const CLOCK_AT: usize = MATRICES_AT + MATRICES;
 
 #[derive(Drop)]
-pub struct Memory {
-    pub numbers: [usize; NUMBERS],
-    pub integers: [i32; INTEGERS],
-    pub matrices: [u8; MATRICES],
-    pub clock: [f64; CLOCK],
+pub struct Memory<'a> {
+    pub numbers: &'a mut [usize],
+    pub integers: &'a mut [i32],
+    pub matrices: &'a mut [u8],
+    pub clock: &'a mut [f64],
 }
 
 pub fn numbers_in(list: &[u8]) -> [usize; NUMBERS]
@@ -55,28 +53,4 @@ pub fn clock_in(list: &[u8]) -> [f64; CLOCK]
     ensures { result ≡ clock_in list.now }
 {
     array::from_fn(|k| float_at(list, CLOCK_AT + 8 * k))
-}
-
-impl Memory {
-    pub fn new() -> Memory {
-        Memory {
-            numbers: [0; NUMBERS],
-            integers: [0; INTEGERS],
-            matrices: [0; MATRICES],
-            clock: [0.0; CLOCK],
-        }
-    }
-
-    // The record that a text holds.
-    pub fn read(list: &[u8]) -> Memory
-        ensures { memory_of result
-            ≡ memory (numbers_in list.now) (integers_in list.now) (matrices_in list.now) (clock_in list.now) }
-    {
-        Memory {
-            numbers: numbers_in(list),
-            integers: integers_in(list),
-            matrices: matrices_in(list),
-            clock: clock_in(list),
-        }
-    }
 }

@@ -28,14 +28,14 @@ pub fn show_name<R: Print>(rt: &R, name: &[u8]) -> Result<()> {
 }
 
 // The answer, 0 where it is no refusal, and what the call has left.
-fn show_state<R: Print>(rt: &R, answer: u32, store: &[u8], lent: &Memory) -> Result<()> {
+fn show_state<R: Print>(rt: &R, answer: u32, store: &[u8], lent: &Memory<'_>) -> Result<()> {
     print!(rt; "{answer}")?;
     show_sum(rt, sum_record(lent))?;
     show_sum(rt, sum(1, store))
 }
 
 // An opening, and its line. Where the line is not written, what the call has left stands all the same.
-pub fn open<R: Print>(rt: &R, stream: &[u8], store: &mut [u8], lent: &mut Memory) -> Result<u32>
+pub fn open<R: Print>(rt: &R, stream: &[u8], store: &mut [u8], lent: &mut Memory<'_>) -> Result<u32>
     ensures ok { IfOk result
         (λ answer. host_result answer store.new (memory_of lent.new)
         ≡ host_open stream.now store.old
@@ -48,10 +48,10 @@ pub fn open<R: Print>(rt: &R, stream: &[u8], store: &mut [u8], lent: &mut Memory
     let answer = mpeg1_open(
         stream,
         store,
-        &mut lent.numbers,
-        &mut lent.integers,
-        &mut lent.matrices,
-        &mut lent.clock,
+        lent.numbers,
+        lent.integers,
+        lent.matrices,
+        lent.clock,
     );
     show_state(rt, answer, store, lent)?;
     end_line(rt)?;
@@ -74,7 +74,7 @@ fn show_plane<R: Print>(
 pub fn show_conversion<R: Print>(
     rt: &R,
     store: &[u8],
-    lent: &Memory,
+    lent: &Memory<'_>,
     k: usize,
     area: &mut [u32],
     w: usize,
@@ -82,9 +82,9 @@ pub fn show_conversion<R: Print>(
 ) -> Result<()> {
     let answer = mpeg1_write_rgb_scaled(
         store,
-        &lent.numbers,
-        &lent.integers,
-        &lent.matrices,
+        lent.numbers,
+        lent.integers,
+        lent.matrices,
         k,
         area,
         w,
@@ -95,11 +95,11 @@ pub fn show_conversion<R: Print>(
     end_line(rt)
 }
 
-fn show_picture<R: Print>(rt: &R, store: &[u8], lent: &Memory, k: usize, time: f64) -> Result<()> {
+fn show_picture<R: Print>(rt: &R, store: &[u8], lent: &Memory<'_>, k: usize, time: f64) -> Result<()> {
     let time_bits = bits(time);
     print!(rt; " {k} {time_bits:016x}")?;
     for plane in 0..3 {
-        show_plane(rt, store, &lent.numbers, k, plane)?;
+        show_plane(rt, store, lent.numbers, k, plane)?;
     }
     print!(rt; " ")?;
     let mut area = [0u32; 1073];
@@ -107,7 +107,7 @@ fn show_picture<R: Print>(rt: &R, store: &[u8], lent: &Memory, k: usize, time: f
 }
 
 // A hand-out, and its line. Where the line is not written, what the call has left stands all the same.
-pub fn decode<R: Print>(rt: &R, stream: &[u8], store: &mut [u8], lent: &mut Memory) -> Result<u32>
+pub fn decode<R: Print>(rt: &R, stream: &[u8], store: &mut [u8], lent: &mut Memory<'_>) -> Result<u32>
     ensures ok { IfOk result
         (λ answer. host_result answer store.new (memory_of lent.new)
         ≡ (host_decode stream.now store.old
@@ -125,10 +125,10 @@ pub fn decode<R: Print>(rt: &R, stream: &[u8], store: &mut [u8], lent: &mut Memo
     let answer = mpeg1_decode(
         stream,
         store,
-        &mut lent.numbers,
-        &mut lent.integers,
-        &mut lent.matrices,
-        &mut lent.clock,
+        lent.numbers,
+        lent.integers,
+        lent.matrices,
+        lent.clock,
         &mut picture,
         &mut time,
     );

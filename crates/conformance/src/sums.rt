@@ -87,9 +87,9 @@ pub fn sum<T: Summed + Copy>(before: u64, part: &[T]) -> u64
 }
 
 // A record, as it lies in memory.
-pub fn sum_record(lent: &Memory) -> u64
-    ensures { result ≡ record_sum lent.now.numbers lent.now.integers lent.now.matrices lent.now.clock }
+pub fn sum_record(lent: &Memory<'_>) -> u64
+    ensures { result ≡ record_sum lent.now.numbers.now lent.now.integers.now lent.now.matrices.now lent.now.clock.now }
 {
-    let heads = sum(sum(1, &lent.numbers), &lent.integers);
-    sum(sum(heads, &lent.matrices), &lent.clock)
+    let heads = sum(sum(1, lent.numbers), lent.integers);
+    sum(sum(heads, lent.matrices), lent.clock)
 }

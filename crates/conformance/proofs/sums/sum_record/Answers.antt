@@ -7,6 +7,6 @@ pub returns : goal.returns
 returns c =
     let m = c.args.lent.now in
     c.sum-3.ensures.0
-    ∙ ap (λ k. summed k (words float_words m.clock))
+    ∙ ap (λ k. summed k (words float_words m.clock.now))
     (c.sum-2.ensures.0
-    ∙ ap₂ summed (c.sum-heads.ensures.0 ∙ ap (λ k. summed k (words signed_word m.integers)) c.sum.ensures.0) (words-single m.matrices))
+    ∙ ap₂ summed (c.sum-heads.ensures.0 ∙ ap (λ k. summed k (words signed_word m.integers.now)) c.sum.ensures.0) (words-single m.matrices.now))
