@@ -2,6 +2,8 @@
 ghost use Rattle.std.specs.Prelude.{◌≡◌};
 ghost use Rattle.answer_lists.specs.Tallies.{none, counted};
 
+use std::fmt;
+
 // first: the number of the first case that does not agree, counted from 1; none where all do.
 #[derive(Clone, Copy)]
 pub struct Tally {
@@ -38,5 +40,18 @@ impl Tally {
             first: self.first.or(Some(cases)),
             ..self
         }
+    }
+}
+
+// The line of a list, but for its name.
+impl fmt::Display for Tally {
+    fn fmt<W: fmt::Write>(&self, f: &mut fmt::Formatter<W>) -> fmt::Result {
+        let agreed = self.agreed;
+        let cases = self.cases;
+        write!(f, "{agreed} of {cases} agree")?;
+        if let Some(first) = self.first {
+            write!(f, ", the first that does not is {first}")?;
+        }
+        Ok(())
     }
 }
