@@ -6,6 +6,7 @@ use decoder::answers::{Opening, decode_error_code, opening_error_code};
 use decoder::record::Decoder;
 use playback::outcome::Outcome;
 
+// The number that C is given, and how many pictures were handed out before it.
 #[derive(Clone, Copy)]
 struct Count {
     answer: u32,

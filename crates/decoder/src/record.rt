@@ -7,7 +7,8 @@ use header::state::{Sequence, fresh_sequence};
 use playback::state::{State, fresh_state};
 use prediction::planes::MACROBLOCK_STORES;
 
-// `state`: what hand-outs change. `block_data` are the left-over coefficients, `stop` is the stop mark: 0, 8 or 9.
+// `state`: what hand-outs change. `block_data` are the left-over coefficients, `stop` is the stop mark: 0, 8 or 9. It is a number:
+// the host's memory may hold any, and question 2 is asked of the others.
 #[derive(Clone, Copy)]
 pub struct Decoder {
     pub sequence: Sequence,

@@ -4,7 +4,8 @@ ghost use Rattle.picture_state.specs.Stop.{mark_number};
 
 use bits::reader::Reader;
 
-// A vector of one direction, with the flags and the size that its reading needs.
+// A vector of one direction, with the flags and the size that its reading needs. Here and below the fields are the record's: plain numbers, of which question 2
+// (`decode` answers 2) finds the impossible ones.
 #[derive(Clone, Copy, Default)]
 pub struct Motion {
     pub full_px: bool,
@@ -56,7 +57,8 @@ pub struct Picture {
     pub slice: Slice,
 }
 
-// What stays the same while the slices of a picture are read. The two matrices are among the tables that are lent.
+// What stays the same while the slices of a picture are read. The two matrices are among the tables that are lent. `picture_type` is the record's number: the
+// clauses of slices and macroblocks hold for any, and an enum of the three types would ask more of callers.
 #[derive(Clone, Copy)]
 pub struct Context {
     pub picture_type: u32,

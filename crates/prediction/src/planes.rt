@@ -5,7 +5,7 @@ ghost use Rattle.prediction.specs.Planes.{block_size, plane_of, plane_length, pl
 // Bytes of a macroblock in the three stores.
 pub const MACROBLOCK_STORES: usize = 1152;
 
-#[derive(Clone, Copy)]
+#[derive(Clone, Copy, Debug, PartialEq, Eq)]
 pub enum Plane {
     Y,
     Cr,
