@@ -16,6 +16,7 @@ const MATRICES_AT: usize = 4 * (NUMBERS + INTEGERS);
 // Behind the matrices.
 const CLOCK_AT: usize = MATRICES_AT + MATRICES;
 
+// What a call is lent, at any length, as the calls take it.
 #[derive(Drop)]
 pub struct Memory<'a> {
     pub numbers: &'a mut [usize],

@@ -3,7 +3,7 @@ ghost use Rattle.std.specs.Prelude.{◌≡◌, replicate, IfOk, OnErr};
 ghost use Rattle.std.specs.Float.{binary64};
 ghost use Rattle.std.specs.Float.Ieee.{of_bits};
 ghost use Rattle.mpeg1.specs.Calls.{host_result, host_open, picture_count, host_decode};
-ghost use Rattle.conformance.specs.Lent.{memory_of};
+ghost use Rattle.conformance.specs.Lent.{memory_of, same_references};
 
 use crate::floats::bits;
 use crate::records::Memory;
@@ -36,6 +36,7 @@ fn show_state<R: Print>(rt: &R, answer: u32, store: &[u8], lent: &Memory<'_>) ->
 
 // An opening, and its line. Where the line is not written, what the call has left stands all the same.
 pub fn open<R: Print>(rt: &R, stream: &[u8], store: &mut [u8], lent: &mut Memory<'_>) -> Result<u32>
+    ensures same { same_references lent.old lent.new }
     ensures ok { IfOk result
         (λ answer. host_result answer store.new (memory_of lent.new)
         ≡ host_open stream.now store.old
@@ -95,7 +96,13 @@ pub fn show_conversion<R: Print>(
     end_line(rt)
 }
 
-fn show_picture<R: Print>(rt: &R, store: &[u8], lent: &Memory<'_>, k: usize, time: f64) -> Result<()> {
+fn show_picture<R: Print>(
+    rt: &R,
+    store: &[u8],
+    lent: &Memory<'_>,
+    k: usize,
+    time: f64,
+) -> Result<()> {
     let time_bits = bits(time);
     print!(rt; " {k} {time_bits:016x}")?;
     for plane in 0..3 {
@@ -107,7 +114,13 @@ fn show_picture<R: Print>(rt: &R, store: &[u8], lent: &Memory<'_>, k: usize, tim
 }
 
 // A hand-out, and its line. Where the line is not written, what the call has left stands all the same.
-pub fn decode<R: Print>(rt: &R, stream: &[u8], store: &mut [u8], lent: &mut Memory<'_>) -> Result<u32>
+pub fn decode<R: Print>(
+    rt: &R,
+    stream: &[u8],
+    store: &mut [u8],
+    lent: &mut Memory<'_>,
+) -> Result<u32>
+    ensures same { same_references lent.old lent.new }
     ensures ok { IfOk result
         (λ answer. host_result answer store.new (memory_of lent.new)
         ≡ (host_decode stream.now store.old
