@@ -19,7 +19,18 @@ fn convert<R: Print>(
         let k = number_at(case, 4) as usize;
         let w = number_at(case, 8) as usize;
         let h = number_at(case, 12) as usize;
-        return show_conversion(rt, store, lent, k, &mut area[..length], w, h);
+        let area = &mut area[..length];
+        return show_conversion(
+            rt,
+            store,
+            lent.numbers,
+            lent.integers,
+            lent.matrices,
+            k,
+            area,
+            w,
+            h,
+        );
     }
     Ok(())
 }

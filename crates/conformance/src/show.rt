@@ -30,7 +30,10 @@ pub fn show_name<R: Print>(rt: &R, name: &[u8]) -> Result<()> {
 // The answer, 0 where it is no refusal, and what the call has left.
 fn show_state<R: Print>(rt: &R, answer: u32, store: &[u8], lent: &Memory<'_>) -> Result<()> {
     print!(rt; "{answer}")?;
-    show_sum(rt, sum_record(lent))?;
+    show_sum(
+        rt,
+        sum_record(lent.numbers, lent.integers, lent.matrices, lent.clock),
+    )?;
     show_sum(rt, sum(1, store))
 }
 
@@ -71,26 +74,19 @@ fn show_plane<R: Print>(
     show_sum(rt, sum(1, part(store, start, bytes)))
 }
 
-// A conversion to an area, and its line.
+// A conversion to an area, and its line; the parts stay apart, since a `Memory` takes a clock and the right to write, which a caller may not have.
 pub fn show_conversion<R: Print>(
     rt: &R,
     store: &[u8],
-    lent: &Memory<'_>,
+    numbers: &[usize],
+    integers: &[i32],
+    matrices: &[u8],
     k: usize,
     area: &mut [u32],
     w: usize,
     h: usize,
 ) -> Result<()> {
-    let answer = mpeg1_write_rgb_scaled(
-        store,
-        lent.numbers,
-        lent.integers,
-        lent.matrices,
-        k,
-        area,
-        w,
-        h,
-    );
+    let answer = mpeg1_write_rgb_scaled(store, numbers, integers, matrices, k, area, w, h);
     print!(rt; "{answer}")?;
     show_sum(rt, sum(1, area))?;
     end_line(rt)
@@ -110,7 +106,17 @@ fn show_picture<R: Print>(
     }
     print!(rt; " ")?;
     let mut area = [0u32; 1073];
-    show_conversion(rt, store, lent, k, &mut area, 37, 29)
+    show_conversion(
+        rt,
+        store,
+        lent.numbers,
+        lent.integers,
+        lent.matrices,
+        k,
+        &mut area,
+        37,
+        29,
+    )
 }
 
 // A hand-out, and its line. Where the line is not written, what the call has left stands all the same.

@@ -5,7 +5,6 @@ ghost use Rattle.std.specs.Prelude.{◌≡◌, ◌<◌, List, ℕ};
 ghost use Rattle.conformance.specs.Sums.{mixed, summed, words, single, halves, signed_word, float_words, record_sum};
 
 use crate::floats::bits;
-use crate::records::Memory;
 use answer_lists::numbers::twos_complement;
 
 pub fn mixed(sum: u64, n: u32) -> u64
@@ -86,10 +85,10 @@ pub fn sum<T: Summed + Copy>(before: u64, part: &[T]) -> u64
     sum
 }
 
-// A record, as it lies in memory.
-pub fn sum_record(lent: &Memory<'_>) -> u64
-    ensures { result ≡ record_sum lent.now.numbers.now lent.now.integers.now lent.now.matrices.now lent.now.clock.now }
+// A record, as it lies in memory; the four stay apart, since a `Memory` takes the right to write, which a caller may not have.
+pub fn sum_record(numbers: &[usize], integers: &[i32], matrices: &[u8], clock: &[f64]) -> u64
+    ensures { result ≡ record_sum numbers.now integers.now matrices.now clock.now }
 {
-    let heads = sum(sum(1, lent.numbers), lent.integers);
-    sum(sum(heads, lent.matrices), lent.clock)
+    let heads = sum(sum(1, numbers), integers);
+    sum(sum(heads, matrices), clock)
 }

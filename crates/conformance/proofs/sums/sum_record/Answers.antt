@@ -5,7 +5,7 @@ use Rattle.conformance.proofs.sums.sum_record.Goals as goal
 
 pub returns : goal.returns
 returns c =
-    let m = c.args.lent.now in
+    let m = c.args in
     c.sum-3.ensures.0
     ∙ ap (λ k. summed k (words float_words m.clock.now))
     (c.sum-2.ensures.0
