@@ -7,8 +7,8 @@ pub returns : goal.returns
 returns c =
     let a = c.args in
     let lent =
-        made (record { long = c.told-intra; bytes = c.fits-intra }) (record { long = c.told-other; bytes = c.fits-other })
-        c.tables_with-tables.ensures in
+    made (record { long = c.told-intra; bytes = c.fits-intra }) (record { long = c.told-other; bytes = c.fits-other })
+    c.tables_with-tables.ensures in
     coded-of a.sizes lent a.p a.values.now a.store.now c.read_slices-t.result c.roles_of-roles.ensures.during_value
     c.roles_of-roles.ensures.afterwards_value (start-read c.requires.possible_picture) c.picture_of.ensures c.read_slices-t.ensures
 
