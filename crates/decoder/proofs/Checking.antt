@@ -12,7 +12,9 @@ use Rattle.bits.specs.Bits.{has}
 use Rattle.bits.specs.Programs.{RunResult, eq_z}
 use Rattle.bits.specs.Runs.{Runs, position_of, reader_at}
 use Rattle.bits.specs.declared.reader.Reader.{Reader}
-use Rattle.header.specs.Sequences.{Size, Rest, size, rest}
+use Rattle.header.specs.declared.sequences.Size.{Size}
+use Rattle.header.specs.declared.sequences.Rest.{Rest}
+use Rattle.header.specs.Sequences.{size, rest}
 use Rattle.decoder.specs.declared.record.Decoder.{Decoder}
 use Rattle.decoder.specs.Record.{position, start_code, store_bytes}
 use Rattle.decoder.specs.Headers.{refused, passed, with_size_read, accepted, find_sequence, check_size, check_header, check_store}

@@ -16,7 +16,8 @@ use Rattle.codes.proofs.Bounds.{bounded_of}
 use Rattle.picture_state.specs.Possible.{possible_picture}
 use Rattle.picture_state.proofs.Possible.{picture-of}
 use Rattle.header.specs.Possible.{possible_sequence}
-use Rattle.header.specs.Sequences.{Size, Rest}
+use Rattle.header.specs.declared.sequences.Size.{Size}
+use Rattle.header.specs.declared.sequences.Rest.{Rest}
 use Rattle.header.proofs.Sizing.{sized_of, possible-sized}
 use Rattle.playback.specs.State.{fresh_state, possible_display}
 use Rattle.playback.proofs.Displays.{timed-possible}

@@ -4,7 +4,9 @@ use Rattle.bits.specs.Bits.{has}
 use Rattle.bits.specs.Programs.{RunResult, run, eq_z, when◌then◌else◌}
 use Rattle.picture_state.specs.State.{with_stores, first_stores}
 use Rattle.header.specs.Possible.{sizes_of}
-use Rattle.header.specs.Sequences.{Size, Rest, size, rest, aspect_of, rate_of}
+use Rattle.header.specs.declared.sequences.Size.{Size}
+use Rattle.header.specs.declared.sequences.Rest.{Rest}
+use Rattle.header.specs.Sequences.{size, rest, aspect_of, rate_of}
 use Rattle.decoder.specs.declared.record.Decoder.{Decoder}
 use Rattle.playback.specs.State.{next_time, shown_time, timed_as}
 use Rattle.playback.specs.Search.{ensure_start_code}

@@ -5,12 +5,11 @@ ghost use Rattle.decoder.specs.Fit.{Fit};
 ghost use Rattle.decoder.specs.Checking.{refusal_number, check_result, RefinesCheckStore};
 ghost use Rattle.bits.specs.Bounds.{longest_stream};
 ghost use Rattle.bits.specs.Runs.{position_of};
-ghost use Rattle.header.specs.Sequences.{rest_of};
 
 use crate::record::{Decoder, store_bytes};
-use bits::reader::Reader;
+use bits::reader::{Read, Reader};
 use header::possible::sizes_of;
-use header::sequences::{RestRead, aspect_of, rate_of, read_rest, read_size};
+use header::sequences::{Rest, aspect_of, rate_of, read_rest, read_size};
 use picture_state::types::Stores;
 use playback::search::{has_code, next_code};
 
@@ -54,16 +53,16 @@ fn find_sequence(s: &[u8], mut d: Decoder) -> Decoder
 }
 
 // RULES O.3, O.4: what accepting a header sets.
-fn accepted(rest: RestRead, mut d: Decoder) -> Decoder
+fn accepted(rest: Read<Rest>, mut d: Decoder) -> Decoder
     requires fit { Fit d }
-    requires picture_rate_bound { rest.picture_rate < 16 }
-    ensures { result ≡ Headers.accepted (record { value = rest_of rest; at = position_of rest.reader }) d }
+    requires picture_rate_bound { rest.value.picture_rate < 16 }
+    ensures { result ≡ Headers.accepted (record { value = rest.value; at = position_of rest.reader }) d }
 {
     d.sequence.has_sequence_header = true;
     d.sequence.sizes = sizes_of(d.sequence.width, d.sequence.height);
-    d.sequence.matrices = rest.matrices;
-    d.state.display.clock.framerate = rate_of(rest.picture_rate);
-    d.state.display.clock.pixel_aspect_ratio = aspect_of(rest.pel_aspect_ratio);
+    d.sequence.matrices = rest.value.matrices;
+    d.state.display.clock.framerate = rate_of(rest.value.picture_rate);
+    d.state.display.clock.pixel_aspect_ratio = aspect_of(rest.value.pel_aspect_ratio);
     d.state.picture.stores = Stores {
         cur: 0,
         fwd: 1,
@@ -82,9 +81,9 @@ fn check_size(s: &[u8], mut d: Decoder) -> CheckResult
 {
     let size = read_size(s, Reader::from_position(d.state.position));
     d.state.position = size.reader.position();
-    d.sequence.width = size.width;
-    d.sequence.height = size.height;
-    if (size.width == 0) | (size.height == 0) {
+    d.sequence.width = size.value.width;
+    d.sequence.height = size.value.height;
+    if (size.value.width == 0) | (size.value.height == 0) {
         return CheckResult {
             decoder: d,
             refusal: Some(HeaderRefusal::EmptySize),

@@ -12,7 +12,8 @@ use Rattle.laws.proofs.Loops.{steps-again, steps-stop}
 use Rattle.laws.proofs.Tests.{both}
 use Rattle.bits.specs.Programs.{RunResult, run, eq_z}
 use Rattle.header.specs.Store.{cleared}
-use Rattle.header.specs.Sequences.{Size, size}
+use Rattle.header.specs.declared.sequences.Size.{Size}
+use Rattle.header.specs.Sequences.{size}
 use Rattle.picture_state.specs.declared.types.{Matrices.Matrices, Sizes.Sizes}
 use Rattle.picture_state.specs.Result.{error}
 use Rattle.picture_state.specs.Stop.{Stop, error_code}

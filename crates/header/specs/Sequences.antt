@@ -3,8 +3,8 @@ use Rattle.std.specs.Prelude.{List, ℕ, min, ◌-◌, eqb, Float, get_or, set, 
 use Rattle.bits.specs.Programs.{Prog, done, bits, for_below, ◌>>=◌, when◌then◌else◌}
 use Rattle.codes.specs.Matrices.{zig_zag, intra_quant_matrix, non_intra_quant_matrix}
 use Rattle.codes.specs.Rates.{pixel_aspect_ratio, picture_rate}
-use Rattle.picture_state.specs.declared.types.Matrices.{Matrices}
-use Rattle.header.specs.declared.sequences.RestRead.{RestRead}
+use Rattle.header.specs.declared.sequences.Size.{Size}
+use Rattle.header.specs.declared.sequences.Rest.{Rest}
 use Rattle.header.specs.State.{zero_float}
 
 -- 8 bits: the entry of a matrix with this number in zig-zag order
@@ -24,10 +24,6 @@ matrix default = do
   when eqb loaded 0 then done default else entries
 
 -- RULES O.3: 12 bits of width, 12 bits of height
-pub record Size : Type 0 where
-  pub width : ℕ
-  pub height : ℕ
-
 unfoldable pub size : Prog Size
 size = do
   width ← bits 12
@@ -35,15 +31,6 @@ size = do
   done (record { width = width; height = height })
 
 -- 11172-2, 2.4.2.3: what follows the size, in the standard's names and order, with the two matrices in one field
-pub record Rest : Type 0 where
-  pub pel_aspect_ratio : ℕ
-  pub picture_rate : ℕ
-  pub bit_rate : ℕ
-  pub marker_bit : ℕ
-  pub vbv_buffer_size : ℕ
-  pub constrained_parameters_flag : ℕ
-  pub matrices : Matrices
-
 -- RULES O.3, Q4: a call reads this with 1,088 bits left before the size, so that no read of it is refused
 unfoldable pub rest : Prog Rest
 rest = do
@@ -64,18 +51,6 @@ rest = do
     constrained_parameters_flag = constrained;
     matrices = record { intra_quant_matrix = intra; non_intra_quant_matrix = other };
   })
-
--- RULES O.3: the fields of a header as the code has read them, without the reader behind them
-abbrev pub rest_of : RestRead → Rest
-rest_of r = record {
-  pel_aspect_ratio = r.pel_aspect_ratio;
-  picture_rate = r.picture_rate;
-  bit_rate = r.bit_rate;
-  marker_bit = r.marker_bit;
-  vbv_buffer_size = r.vbv_buffer_size;
-  constrained_parameters_flag = r.constrained_parameters_flag;
-  matrices = r.matrices;
-}
 
 -- RULES 2.8: code 0 gives what 1 gives, and 15 what 14 gives
 abbrev pub aspect_of : ℕ → Float

@@ -3,28 +3,20 @@ ghost use Rattle.std.specs.Prelude.{◌≡◌, ◌≤◌, ◌<◌};
 ghost use Rattle.bits.specs.Runs.{ReaderInBounds, RunsInBounds};
 ghost use Rattle.header.specs.Sequences as Header;
 
-use bits::reader::Reader;
+use bits::reader::{Read, Reader};
 use codes::matrices::{intra_quant_matrix, non_intra_quant_matrix, zig_zag};
 use codes::rates::{picture_rate, pixel_aspect_ratio};
 use picture_state::types::Matrices;
 
 #[derive(Clone, Copy)]
-pub struct MatrixRead {
-    pub reader: Reader,
-    pub matrix: [u8; 64],
-}
-
-#[derive(Clone, Copy)]
-pub struct SizeRead {
-    pub reader: Reader,
+pub struct Size {
     pub width: usize,
     pub height: usize,
 }
 
 // The fields behind the size; the decoder uses the two codes of aspect and rate, and the matrices.
 #[derive(Clone, Copy)]
-pub struct RestRead {
-    pub reader: Reader,
+pub struct Rest {
     pub pel_aspect_ratio: usize,
     pub picture_rate: usize,
     pub bit_rate: u32,
@@ -35,88 +27,83 @@ pub struct RestRead {
 }
 
 // 64 bytes in zig-zag order.
-fn read_entries(s: &[u8], reader: Reader) -> MatrixRead
+fn read_entries(s: &[u8], reader: Reader) -> Read<[u8; 64]>
     requires { ReaderInBounds s.now reader }
-    ensures { RunsInBounds Header.entries s.now reader result.matrix result.reader }
+    ensures { RunsInBounds Header.entries s.now reader result.value result.reader }
 {
-    let order = zig_zag();
-    let mut matrix = [0u8; 64];
-    let mut at = reader;
-    let mut i: usize = 0;
-    while i < 64 {
-        let entry = at.read(s, 8);
-        at = entry.reader;
-        let position = order[i] as usize;
-        matrix[position] = entry.value as u8;
-        i += 1;
+    let mut read = Read {
+        reader,
+        value: [0u8; 64],
+    };
+    for position in zig_zag() {
+        let entry = read.reader.read(s, 8);
+        read.reader = entry.reader;
+        read.value[usize::from(position)] = entry.value as u8;
     }
-    MatrixRead { reader: at, matrix }
+    read
 }
 
 // One bit: if 1, a matrix of 64 bytes, else the default one.
-fn read_matrix(s: &[u8], reader: Reader, default: [u8; 64]) -> MatrixRead
+fn read_matrix(s: &[u8], reader: Reader, default: [u8; 64]) -> Read<[u8; 64]>
     requires { ReaderInBounds s.now reader }
-    ensures { RunsInBounds (Header.matrix default) s.now reader result.matrix result.reader }
+    ensures { RunsInBounds (Header.matrix default) s.now reader result.value result.reader }
 {
     let loaded = reader.read_bit(s);
-    let after = loaded.reader;
     if loaded.value == 0 {
-        return MatrixRead {
-            reader: after,
-            matrix: default,
+        return Read {
+            reader: loaded.reader,
+            value: default,
         };
     }
-    read_entries(s, after)
+    read_entries(s, loaded.reader)
 }
 
-pub fn read_size(s: &[u8], reader: Reader) -> SizeRead
+pub fn read_size(s: &[u8], reader: Reader) -> Read<Size>
     requires { ReaderInBounds s.now reader }
-    ensures runs_in_bounds { RunsInBounds Header.size s.now reader (record { width = result.width; height = result.height }) result.reader }
-    ensures width_bound { (result.width ≤ 4095) × (result.height ≤ 4095) }
+    ensures runs_in_bounds { RunsInBounds Header.size s.now reader result.value result.reader }
+    ensures width_bound { (result.value.width ≤ 4095) × (result.value.height ≤ 4095) }
 {
-    let first = reader.read(s, 12);
-    let second = first.reader.read(s, 12);
-    let after = second.reader;
-    let width = first.value as usize;
-    let height = second.value as usize;
-    SizeRead {
-        reader: after,
-        width,
-        height,
+    let width = reader.read(s, 12);
+    let height = width.reader.read(s, 12);
+    Read {
+        reader: height.reader,
+        value: Size {
+            width: width.value as usize,
+            height: height.value as usize,
+        },
     }
 }
 
-pub fn read_rest(s: &[u8], reader: Reader) -> RestRead
+pub fn read_rest(s: &[u8], reader: Reader) -> Read<Rest>
     requires { ReaderInBounds s.now reader }
-    ensures runs_in_bounds { RunsInBounds Header.rest s.now reader (Header.rest_of result) result.reader }
-    ensures picture_rate_bound { result.picture_rate < 16 }
+    ensures runs_in_bounds { RunsInBounds Header.rest s.now reader result.value result.reader }
+    ensures picture_rate_bound { result.value.picture_rate < 16 }
 {
-    let first = reader.read(s, 4);
-    let second = first.reader.read(s, 4);
-    let bit_rate = second.reader.read(s, 18);
+    let aspect = reader.read(s, 4);
+    let rate = aspect.reader.read(s, 4);
+    let bit_rate = rate.reader.read(s, 18);
     let marker = bit_rate.reader.read_bit(s);
     let buffer = marker.reader.read(s, 10);
     let constrained = buffer.reader.read_bit(s);
     let intra = read_matrix(s, constrained.reader, intra_quant_matrix());
     let other = read_matrix(s, intra.reader, non_intra_quant_matrix());
-    let after = other.reader;
-    let intra_matrix = intra.matrix;
-    let other_matrix = other.matrix;
-    let matrices = Matrices {
-        intra_quant_matrix: intra_matrix,
-        non_intra_quant_matrix: other_matrix,
-    };
-    let pel_aspect_ratio = first.value as usize;
-    let picture_rate = second.value as usize;
-    RestRead {
-        reader: after,
-        pel_aspect_ratio,
-        picture_rate,
-        bit_rate: bit_rate.value,
-        marker_bit: marker.value,
-        vbv_buffer_size: buffer.value,
-        constrained_parameters_flag: constrained.value,
-        matrices,
+    // The borrow checker takes an array into a literal from a local only.
+    let intra_quant_matrix = intra.value;
+    let non_intra_quant_matrix = other.value;
+    Read {
+        reader: other.reader,
+        value: Rest {
+            pel_aspect_ratio: aspect.value as usize,
+            picture_rate: rate.value as usize,
+            bit_rate: bit_rate.value,
+            marker_bit: marker.value,
+            vbv_buffer_size: buffer.value,
+            constrained_parameters_flag: constrained.value,
+            matrices: Matrices {
+                intra_quant_matrix,
+                non_intra_quant_matrix,
+            },
+        },
     }
 }
 
