@@ -4,7 +4,8 @@
 ghost use Rattle.std.specs.Prelude.{◌≡◌, ◌<◌, get_or};
 ghost use Rattle.code_lookup.specs.ByteTables.{dct_coeff_lookup, macroblock_address_increment_lookup};
 
-// A code of DCT_COEFF. Its Proof.antt stays, as that of the next function: with no proof file the check of the two had not ended after four minutes.
+// A code of DCT_COEFF.
+#[tactic(auto, unfolding(crate::specs::ByteTables::dct_coeff_lookup))]
 pub fn lookup_dct_coeff(x: u32) -> u32
     requires { x < 256 }
     ensures { result ≡ get_or dct_coeff_lookup x 0 }
@@ -143,6 +144,7 @@ pub fn lookup_dct_coeff(x: u32) -> u32
 }
 
 // A code of MACROBLOCK_ADDRESS_INCREMENT.
+#[tactic(auto, unfolding(crate::specs::ByteTables::macroblock_address_increment_lookup))]
 pub fn lookup_macroblock_address_increment(x: u32) -> u32
     requires { x < 256 }
     ensures { result ≡ get_or macroblock_address_increment_lookup x 0 }
