@@ -1,5 +1,5 @@
 // Start codes: 00 00 01 and the code. What is found is the byte behind 00 00 01, or -1 and no Option: the record keeps it as -1..255 (RULES Q2),
-// and each caller stores it there at once.
+// and what is found is stored there, or compared with what was sought, which may be any number.
 ghost use Rattle.std.specs.Prelude.{◌≡◌, ◌+◌, ◌≤◌, length, nat_abs};
 ghost use Rattle.bits.specs.Bits.{code_prefix};
 ghost use Rattle.bits.specs.Programs.{next_start_code, find_start_code, run};

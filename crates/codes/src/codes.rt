@@ -98,7 +98,8 @@ pub fn read_macroblock_address_increment(s: &[u8], reader: Reader, tables: &Tabl
     read_natural(s, reader, tables.entries(), INCREMENT, TYPE_I)
 }
 
-// The readers from here on differ in their table alone, and each is one call: a function for each, since its clause is its table's program.
+// The readers of the types, the pattern and the DC sizes differ in their table alone, and each is one call: a function for each, since its clause is its
+// table's program.
 // The type of a macroblock of an I picture, as flags.
 pub fn read_macroblock_type_intra(s: &[u8], reader: Reader, tables: &Tables) -> Read<u32>
     requires reader_in_bounds { ReaderInBounds s.now reader }

@@ -74,7 +74,8 @@ fn show_plane<R: Print>(
     show_sum(rt, sum(1, part(store, start, bytes)))
 }
 
-// A conversion to an area, and its line; the parts stay apart, since a `Memory` takes a clock and the right to write, which a caller may not have.
+// A conversion to an area, and its line; the parts stay apart, since a `Memory` would ask for a clock and the right to write, which a conversion
+// does not need.
 pub fn show_conversion<R: Print>(
     rt: &R,
     store: &[u8],

@@ -85,7 +85,7 @@ pub fn sum<T: Summed + Copy>(before: u64, part: &[T]) -> u64
     sum
 }
 
-// A record, as it lies in memory; the four stay apart, since a `Memory` takes the right to write, which a caller may not have.
+// A record, as it lies in memory; the four stay apart, since a `Memory` would ask for the right to write, which a checksum does not need.
 pub fn sum_record(numbers: &[usize], integers: &[i32], matrices: &[u8], clock: &[f64]) -> u64
     ensures { result ≡ record_sum numbers.now integers.now matrices.now clock.now }
 {

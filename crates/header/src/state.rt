@@ -13,7 +13,7 @@ pub struct Sequence {
     pub matrices: Matrices,
 }
 
-// RULES O.1.
+// RULES O.1. Written out: of an array a derived `Default` says that each entry is 0, which is longer to lead to the clause than these lines.
 pub fn fresh_sequence() -> Sequence
     ensures { result ≡ fresh_sequence }
 {

@@ -84,8 +84,8 @@ fn read_motion(s: &[u8], reader: Reader, tables: &Tables, resets: bool, m: Motio
     Read { reader, value: m }
 }
 
-// The forward vector first: in a P picture it goes back to 0 without its flag. Here and in `read_scale` `..before` gets no proof: the address that it
-// copies comes back as a cast of itself, and no clause says that it fits.
+// The forward vector first: in a P picture it goes back to 0 without its flag. Here and in `read_scale` `..before` gets no proof, as it does in
+// `flagged`, whose clause is on a value: the state of a run is read back, and of the address, a cast of itself, no clause says that it fits.
 fn read_vectors(
     s: &[u8],
     reader: Reader,

@@ -4,6 +4,7 @@ ghost use Rattle.picture_state.specs.State.{fresh_picture};
 
 use crate::types::{Motion, Picture, Slice, Stores};
 
+// No `Default`: the stores have their numbers, and the predictors begin at 128.
 pub fn fresh_picture() -> Picture
     ensures { result ≡ fresh_picture }
 {

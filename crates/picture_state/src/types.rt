@@ -93,7 +93,7 @@ pub struct Progress {
 }
 
 // Where a turn over the slices of a picture ended. `continues`: another start code follows. `begun`: a slice has been read. Code, state and reader are of
-// use on each way, and `stop` beyond the last turn: an enum of the ways would have to hold all four in each variant.
+// use on each way: of an enum beside them only `stop` would stand in a variant, and what follows asks for each flag by itself.
 #[derive(Clone, Copy)]
 pub struct SlicesProgress {
     pub reader: Reader,

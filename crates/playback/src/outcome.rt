@@ -20,7 +20,7 @@ pub fn shown_picture(d: State, k: usize) -> Shown
     Shown { store: k, time }
 }
 
-// The refusal's number, and not an enum of the refusals: callers and the C interface are given the number (docs/DECISIONS.md bits.3, RULES C.3).
+// A picture with store and time, or a refusal with its number (RULES F.12), which callers and C are given as it is (C.3).
 #[derive(Clone, Copy)]
 pub enum Outcome {
     Picture(Shown),

@@ -96,7 +96,7 @@ fn peeked(bytes: Option<&[u8]>) -> Option<u32>
     }
 }
 
-// Ours, on the stream s: its answer as the list holds it, and the reader after it. There is none where the list names no operation, or an argument that
+// Ours, on the stream s: its answer as the list holds it, and the reader after it. A `match`, since each arm takes and gives something else. There is none where the list names no operation, or an argument that
 // the operation does not take.
 #[tactic(auto, unfolding(crate::specs::Operations::outcome))]
 pub fn operate(s: &[u8], reader: Reader, op: Operation, argument: u32) -> Read<Option<u32>>
