@@ -10,7 +10,7 @@ use blocks::blocks::{CodedBlocks, read_blocks};
 use codes::lent::Tables;
 use macroblock_head::heads::{read_head, read_macroblock_type, read_pattern};
 use macroblock_head::predictions::predict;
-use picture_state::flags::flag;
+use picture_state::flags::MacroblockType;
 use picture_state::types::{Context, Progress, Slice, StopMark};
 use prediction::position::HalfSampleOutside;
 
@@ -18,15 +18,15 @@ use prediction::position::HalfSampleOutside;
 fn predict_unless_intra(
     store: &mut [u8],
     g: Context,
-    t: u32,
+    t: MacroblockType,
     state: Slice,
 ) -> Result<(), HalfSampleOutside>
     requires store_fits { StoreFits g store.old }
     requires address_in_picture { AddressInPicture g state.macroblock_address }
     requires possible_slice { PossibleSlice state }
-    ensures { RefinesPrediction (predict_unless_intra g t state store.old) result store.new }
+    ensures { RefinesPrediction (predict_unless_intra g t.0 state store.old) result store.new }
 {
-    if flag(t, 1) {
+    if t.is_intra() {
         return Ok(());
     }
     let address = state.macroblock_address as usize;
@@ -48,7 +48,7 @@ pub fn body(
         g s.now reader result values.new store.new }
 {
     let t = read_macroblock_type(s, reader, tables, g.picture_type);
-    let flags = t.value;
+    let flags = MacroblockType(t.value);
     let h = read_head(s, t.reader, tables, g.picture_type, flags, before);
     let from = h.reader;
     let state = h.value;
@@ -60,7 +60,7 @@ pub fn body(
         };
     };
     let p = read_pattern(s, from, tables, flags);
-    let intra = flag(flags, 1);
+    let intra = flags.is_intra();
     let pattern = p.value;
     let coded = CodedBlocks {
         context: g,

@@ -14,7 +14,7 @@ use codes::codes::{
 };
 use codes::lent::Tables;
 use motion::vector::decode_motion_vector;
-use picture_state::flags::flag;
+use picture_state::flags::MacroblockType;
 use picture_state::types::{Motion, Slice};
 
 // RULES 7.13: the macroblock type, by the table of the picture's type.
@@ -108,11 +108,11 @@ fn read_vectors(
 }
 
 // RULES 7.13: 5 bits of scale with flag 16.
-fn read_scale(s: &[u8], reader: Reader, t: u32, mut before: Slice) -> Read<Slice>
+fn read_scale(s: &[u8], reader: Reader, t: MacroblockType, mut before: Slice) -> Read<Slice>
     requires { ReaderInBounds s.now reader }
-    ensures { RunsInBounds (scale t before) s.now reader result.value result.reader }
+    ensures { RunsInBounds (scale t.0 before) s.now reader result.value result.reader }
 {
-    if flag(t, 16) {
+    if t.has_scale() {
         let q = reader.read(s, 5);
         before.quantizer_scale = q.value;
         return Read {
@@ -127,12 +127,12 @@ fn read_scale(s: &[u8], reader: Reader, t: u32, mut before: Slice) -> Read<Slice
 }
 
 // RULES 7.13: the flags "forward vector" and "backward vector".
-fn flagged(t: u32, before: Slice) -> Slice
-    ensures { result ≡ flagged t before }
+fn flagged(t: MacroblockType, before: Slice) -> Slice
+    ensures { result ≡ flagged t.0 before }
 {
     Slice {
-        motion_forward: is_set_as(before.motion_forward, flag(t, 8)),
-        motion_backward: is_set_as(before.motion_backward, flag(t, 4)),
+        motion_forward: is_set_as(before.motion_forward, t.has_forward()),
+        motion_backward: is_set_as(before.motion_backward, t.has_backward()),
         ..before
     }
 }
@@ -164,15 +164,15 @@ pub fn read_head(
     reader: Reader,
     tables: &Tables,
     picture_type: u32,
-    t: u32,
+    t: MacroblockType,
     before: Slice,
 ) -> Read<Slice>
     requires reader_in_bounds { ReaderInBounds s.now reader }
     requires possible_slice { PossibleSlice before }
-    ensures { RunsInBounds (head picture_type t before) s.now reader result.value result.reader }
+    ensures { RunsInBounds (head picture_type t.0 before) s.now reader result.value result.reader }
 {
     let q = read_scale(s, reader, t, flagged(t, before));
-    if flag(t, 1) {
+    if t.is_intra() {
         return Read {
             reader: q.reader,
             value: vectors_reset(q.value),
@@ -182,14 +182,14 @@ pub fn read_head(
 }
 
 // RULES 7.16: read with flag 2; else 63 for an intra macroblock, and 0 for any other.
-pub fn read_pattern(s: &[u8], reader: Reader, tables: &Tables, t: u32) -> Read<u32>
+pub fn read_pattern(s: &[u8], reader: Reader, tables: &Tables, t: MacroblockType) -> Read<u32>
     requires reader_in_bounds { ReaderInBounds s.now reader }
-    ensures { RunsInBounds (pattern t) s.now reader result.value result.reader }
+    ensures { RunsInBounds (pattern t.0) s.now reader result.value result.reader }
 {
-    if flag(t, 2) {
+    if t.has_pattern() {
         return read_code_block_pattern(s, reader, tables);
     }
-    if flag(t, 1) {
+    if t.is_intra() {
         return Read { reader, value: 63 };
     }
     Read { reader, value: 0 }

@@ -27,4 +27,4 @@ pub returns : goal.returns
 returns c =
     body-on c.requires.macroblock_invariant c.read_macroblock_type-t.ensures c.read_head-h.ensures c.predict_unless_intra.ensures
     c.predict_unless_intra.auto.store c.read_pattern-p.ensures (matrices_in c.args.tables.now) c.in-Ok.is
-    (rw c.flag-intra.ensures at c.read_blocks.ensures)
+    (rw c.is_intra-intra.ensures at c.read_blocks.ensures)

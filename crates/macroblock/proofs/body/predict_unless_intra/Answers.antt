@@ -4,11 +4,11 @@ use Rattle.picture_state.proofs.Signed.{address_read}
 use Rattle.macroblock.proofs.Bodies.{unless_intra, unless-predicted}
 use Rattle.macroblock.proofs.body.predict_unless_intra.Goals as goal
 
-pub returns-then-flag : goal.returns-then-flag
-returns-then-flag c = let a = c.args in unless_intra a.g a.t a.state a.store.now (sym c.flag.ensures ∙ c.if-flag.true)
+pub returns-then-is_intra : goal.returns-then-is_intra
+returns-then-is_intra c = let a = c.args in unless_intra a.g a.t.0 a.state a.store.now (sym c.is_intra.ensures ∙ c.if-is_intra.true)
 
 pub returns : goal.returns
 returns c =
     let a = c.args in
-    unless-predicted a.g a.t a.state a.store.now (sym c.flag.ensures ∙ c.if-flag.false) _ (ap nat_abs (address_read c.requires.possible_slice))
+    unless-predicted a.g a.t.0 a.state a.store.now (sym c.is_intra.ensures ∙ c.if-is_intra.false) _ (ap nat_abs (address_read c.requires.possible_slice))
     c.predict.ensures

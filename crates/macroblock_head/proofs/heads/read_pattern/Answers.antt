@@ -3,17 +3,17 @@ use Rattle.bits.proofs.Rules.{r-yes, r-no, r-done}
 use Rattle.macroblock_head.specs.Heads.{pattern}
 use Rattle.macroblock_head.proofs.heads.read_pattern.Goals as goal
 
-pub returns-then-flag : goal.returns-then-flag
+pub returns-then-has_pattern : goal.returns-then-has_pattern
 unfolding pattern
-returns-then-flag c =
+returns-then-has_pattern c =
     let r = c.read_code_block_pattern.ensures in
-    record { runs = r-yes _ (sym c.flag.ensures ∙ c.if-flag.true) r.runs; inside = r.inside }
+    record { runs = r-yes _ (sym c.has_pattern.ensures ∙ c.if-has_pattern.true) r.runs; inside = r.inside }
 
-pub returns-then-flag-2 : goal.returns-then-flag-2
+pub returns-then-is_intra : goal.returns-then-is_intra
 unfolding pattern
-returns-then-flag-2 c =
+returns-then-is_intra c =
     record {
-      runs = r-no _ (sym c.flag.ensures ∙ c.if-flag.false) (r-yes _ (sym c.flag-2.ensures ∙ c.if-flag-2.true) r-done);
+      runs = r-no _ (sym c.has_pattern.ensures ∙ c.if-has_pattern.false) (r-yes _ (sym c.is_intra.ensures ∙ c.if-is_intra.true) r-done);
       inside = c.requires.reader_in_bounds;
     }
 
@@ -21,6 +21,6 @@ pub returns : goal.returns
 unfolding pattern
 returns c =
     record {
-      runs = r-no _ (sym c.flag.ensures ∙ c.if-flag.false) (r-no _ (sym c.flag-2.ensures ∙ c.if-flag-2.false) r-done);
+      runs = r-no _ (sym c.has_pattern.ensures ∙ c.if-has_pattern.false) (r-no _ (sym c.is_intra.ensures ∙ c.if-is_intra.false) r-done);
       inside = c.requires.reader_in_bounds;
     }
