@@ -60,15 +60,12 @@ fn decode_pictures(s: &[u8], store: &mut [u8], before: Decoder, d: Decoder) -> D
         ≡ Out.call_result_of before d (Steps.pictures s.now d.sequence.sizes d.sequence.matrices (Record.decoding_state_of d store.old)) }
 {
     let mut values = d.block_data;
-    let intra = d.sequence.matrices.intra_quant_matrix;
-    let other = d.sequence.matrices.non_intra_quant_matrix;
     let t = pictures(
         s,
         store,
         &mut values,
         d.sequence.sizes,
-        &intra,
-        &other,
+        &d.sequence.matrices,
         d.state,
     );
     call_result_of(before, d, t, values)

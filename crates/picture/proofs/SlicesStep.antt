@@ -5,10 +5,11 @@ use mathlib.Core.List.{List}
 use Prim.Native.Nat.{ℕ, zero, suc}
 use lib.Dec.{eqb}
 use lib.IntN.{ℤ}
+use lib.ListN.{length}
 use Rattle.bits.specs.declared.reader.Reader.{Reader}
 use Rattle.bits.specs.Programs.{Prog, when◌then◌else◌}
-use Rattle.codes.specs.DecodingTables.{DecodingTables, tables_with}
-use Rattle.tables.proofs.Made.{Bytes64, lent_with, matrix_with}
+use Rattle.codes.specs.DecodingTables.{tables_with}
+use Rattle.tables.proofs.Made.{matrix_with}
 use Rattle.picture_state.specs.declared.types.{Matrices.Matrices, Picture.Picture, PictureProgress.PictureProgress, Sizes.Sizes, SlicesProgress.SlicesProgress}
 use Rattle.picture_state.specs.declared.types.Stores.{Stores}
 use Rattle.picture_state.specs.State.{with_stores}
@@ -52,14 +53,12 @@ held-during p z {store} {t} e k = go (eqb p.picture_type 3) e
 
 -- ---- the tables
 
--- the matrices are those among the tables t
-pub record Made (m : Matrices) (t : List ℕ) : Type 0 where
-  pub lent : DecodingTables t
-  pub is : matrices_in t ≡ m
-
-pub made : {a b t : List ℕ} → Bytes64 a → Bytes64 b → t ≡ tables_with a b → Made (matrices a b) t
-made {a} {b} i o e =
-    rw e (record { lent = lent_with a b i o; is = λ k. matrices (matrix_with a b i o true k) (matrix_with a b i o false k) })
+-- the matrices among the tables that are made with them
+pub made : (m : Matrices) {t : List ℕ} → length m.intra_quant_matrix ≡ 64 → length m.non_intra_quant_matrix ≡ 64
+    → t ≡ tables_with m.intra_quant_matrix m.non_intra_quant_matrix → matrices_in t ≡ m
+made m i o e =
+    let with_them = matrix_with m.intra_quant_matrix m.non_intra_quant_matrix i o in
+    rw e (λ k. matrices (with_them true k) (with_them false k))
 
 -- ---- the picture
 
@@ -98,19 +97,19 @@ module _ (z : Sizes) (m : Matrices) (p : Picture) (left : List ℤ) (store : Lis
     inside = c.inside;
   }
 
-pub coded-of : (z : Sizes) {m : Matrices} {tables : List ℕ} → Made m tables → (p : Picture) (left : List ℤ) (store : List ℕ) {s : List ℕ}
+pub coded-of : (z : Sizes) {m : Matrices} (tables : List ℕ) → matrices_in tables ≡ m → (p : Picture) (left : List ℤ) (store : List ℕ) {s : List ℕ}
     {from : Reader} (r : SlicesProgress) {left₁ : List ℤ} {store₁ : List ℕ} {before after : Stores} {first : ℤ} {q : PictureProgress}
     → let g = P.context_of z (with_stores before p) in
     before ≡ (when eqb p.picture_type 3 then p.stores else P.roles_while_reading p.stores)
     → after ≡ (when eqb p.picture_type 3 then p.stores else P.roles_after_reading p.stores) → first ≡ p.start_code → q ≡ progress_of g after r
     → RefinesSlices (P.slices g (matrices_in tables) (picture_state_of g first p.slice left store)) g s from r left₁ store₁
     → RefinesPicture (P.slices_in_roles z m (P.picture_state p left store)) s from q left₁ store₁
-coded-of z {m} {tables} k p left store {s} {from} r {left₁} {store₁} {before} {after} d a f h w =
+coded-of z {m} tables k p left store {s} {from} r {left₁} {store₁} {before} {after} d a f h w =
     rw h (go (eqb p.picture_type 3) refl d a)
   where
     read : RefinesPicture (P.slices (P.context_of z (with_stores before p)) m (during before p left store)) s from
         (progress_of (P.context_of z (with_stores before p)) before r) left₁ store₁
-    read = coded_with p z before m left store r f (rw k.is at w)
+    read = coded_with p z before m left store r f (rw k at w)
 
     go : (b : Bool) → eqb p.picture_type 3 ≡ b → before ≡ (when b then p.stores else P.roles_while_reading p.stores)
         → after ≡ (when b then p.stores else P.roles_after_reading p.stores)

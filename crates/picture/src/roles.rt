@@ -5,13 +5,15 @@ ghost use Rattle.bits.specs.Runs.{ReaderInBounds};
 ghost use Rattle.codes.specs.Matrices.{Bounded};
 ghost use Rattle.picture_state.specs.Possible.{PossiblePicture};
 ghost use Rattle.picture.specs.Pictures.{picture_state, context_of, roles_while_reading, roles_after_reading, slices_in_roles};
-ghost use Rattle.picture_state.specs.Promises.{matrices, StoreFits};
+ghost use Rattle.picture_state.specs.Promises.{StoreFits};
 ghost use Rattle.picture.specs.Promises.{RefinesPicture};
 ghost use Rattle.picture.specs.CodeResults.{progress_of};
 
 use crate::pictures::read_slices;
 use bits::reader::Reader;
-use picture_state::types::{Context, Picture, PictureProgress, Sizes, SlicesProgress, Stores};
+use picture_state::types::{
+    Context, Matrices, Picture, PictureProgress, Sizes, SlicesProgress, Stores,
+};
 use tables::tables::tables_with;
 
 // The roles of the stores while the slices of a picture are read, and after them.
@@ -65,18 +67,20 @@ pub fn read_slices_in_roles(
     store: &mut [u8],
     values: &mut [i32; 64],
     sizes: Sizes,
-    intra: &[u8; 64],
-    other: &[u8; 64],
+    matrices: &Matrices,
     p: Picture,
 ) -> PictureProgress
     requires reader_in_bounds { ReaderInBounds s.now reader }
     requires possible_picture { PossiblePicture p }
     requires bounded { Bounded values.old }
     requires store_fits { StoreFits (context_of sizes p) store.old }
-    ensures { RefinesPicture (slices_in_roles sizes (matrices intra.now other.now) (picture_state p values.old store.old))
+    ensures { RefinesPicture (slices_in_roles sizes matrices.now (picture_state p values.old store.old))
         s.now reader result values.new store.new }
 {
-    let tables = tables_with(intra, other);
+    let tables = tables_with(
+        &matrices.intra_quant_matrix,
+        &matrices.non_intra_quant_matrix,
+    );
     let roles = roles_of(p.picture_type, p.stores);
     let g = Context {
         picture_type: p.picture_type,

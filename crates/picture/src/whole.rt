@@ -4,14 +4,14 @@ ghost use Rattle.bits.specs.Runs.{ReaderInBounds};
 ghost use Rattle.codes.specs.Matrices.{Bounded};
 ghost use Rattle.picture_state.specs.Possible.{PossiblePicture};
 ghost use Rattle.picture.specs.Pictures.{picture_state, context_of, is_decoded, motion_by, with_picture_header, picture};
-ghost use Rattle.picture_state.specs.Promises.{matrices, StoreFits};
+ghost use Rattle.picture_state.specs.Promises.{StoreFits};
 ghost use Rattle.picture.specs.Promises.{RefinesPicture};
 ghost use Rattle.picture.specs.CodeResults.{direction_of, header_of};
 
 use crate::headers::{Direction, HeaderRead, is_zero, read_picture_header};
 use crate::roles::read_slices_in_roles;
 use bits::reader::Reader;
-use picture_state::types::{Motion, Picture, PictureProgress, Sizes};
+use picture_state::types::{Matrices, Motion, Picture, PictureProgress, Sizes};
 
 // Flag and r of a motion, from its direction in the header; an f code of 0 leaves r as it was.
 fn with_direction(mut m: Motion, d: Option<Direction>) -> Motion
@@ -51,21 +51,20 @@ pub fn read_picture(
     store: &mut [u8],
     values: &mut [i32; 64],
     sizes: Sizes,
-    intra: &[u8; 64],
-    other: &[u8; 64],
+    matrices: &Matrices,
     p: Picture,
 ) -> PictureProgress
     requires reader_in_bounds { ReaderInBounds s.now reader }
     requires possible_picture { PossiblePicture p }
     requires bounded { Bounded values.old }
     requires store_fits { StoreFits (context_of sizes p) store.old }
-    ensures { RefinesPicture (picture sizes (matrices intra.now other.now) (picture_state p values.old store.old))
+    ensures { RefinesPicture (picture sizes matrices.now (picture_state p values.old store.old))
         s.now reader result values.new store.new }
 {
     let h = read_picture_header(s, reader);
     let headed = with_header(p, h);
     if is_decoded(h) {
-        return read_slices_in_roles(s, h.reader, store, values, sizes, intra, other, headed);
+        return read_slices_in_roles(s, h.reader, store, values, sizes, matrices, headed);
     }
     PictureProgress {
         reader: h.reader,

@@ -180,7 +180,7 @@ bytes_in [] m f g j = g j
 bytes_in (x ∷ l) m f g zero = f 0
 bytes_in (x ∷ l) m f g (suc j) = bytes_in l m (λ k. f (suc k)) g j
 
-module _ (intra other : List ℕ) (i : Bytes64 intra) (o : Bytes64 other) where
+module _ (intra other : List ℕ) where
   split : tables_with intra other ≡ fixed_tables ++ (intra ++ other)
   split = append_assoc fixed_tables intra other
 
@@ -189,23 +189,23 @@ module _ (intra other : List ℕ) (i : Bytes64 intra) (o : Bytes64 other) where
       let e : k ≡ length fixed_tables + (k - intra_matrix_at) = omega (arith, fixed-length) in
       ap (λ (n : ℕ). get_or (fixed_tables ++ (intra ++ other)) n 0) e ∙ get_or-append-add fixed_tables (intra ++ other) (k - intra_matrix_at) 0
 
-  pub lent_with : DecodingTables (tables_with intra other)
-  lent_with =
+  pub lent_with : Bytes64 intra → Bytes64 other → DecodingTables (tables_with intra other)
+  lent_with i o =
       rw split
       (record {
         fixed = take_at fixed_tables (intra ++ other) intra_matrix_at fixed-length;
         bytes = λ k h. rw (behind k h) (bytes_in intra other i.bytes o.bytes (k - intra_matrix_at));
       })
 
-  pub matrix_with : (b : Bool) → matrix_of (tables_with intra other) b ≡ cond b intra other
+  pub matrix_with : length intra ≡ 64 → length other ≡ 64 → (b : Bool) → matrix_of (tables_with intra other) b ≡ cond b intra other
   unfolding matrix_of
-  matrix_with true =
+  matrix_with i o true =
       ap (λ (l : List ℕ). take 64 (drop intra_matrix_at l)) split
       ∙ ap (take 64) (drop_at fixed_tables (intra ++ other) intra_matrix_at fixed-length)
-      ∙ take_at intra other 64 i.long
-  matrix_with false =
-      let front : length (fixed_tables ++ intra) ≡ non_intra_matrix_at = omega (arith, length-append fixed_tables intra, fixed-length, i.long) in
-      ap (take 64) (drop_at (fixed_tables ++ intra) other non_intra_matrix_at front) ∙ take_all 64 other (omega (arith, o.long))
+      ∙ take_at intra other 64 i
+  matrix_with i o false =
+      let front : length (fixed_tables ++ intra) ≡ non_intra_matrix_at = omega (arith, length-append fixed_tables intra, fixed-length, i) in
+      ap (take 64) (drop_at (fixed_tables ++ intra) other non_intra_matrix_at front) ∙ take_all 64 other (omega (arith, o))
 
 -- RULES 2.7: the default matrices, and the tables with them
 pub intra-bytes : Bytes64 intra_quant_matrix
