@@ -3,13 +3,10 @@ use mathlib.Core.Path.{◌≡◌, refl, ap, ◌∙◌}
 use mathlib.Core.Bool.{Bool, true, false}
 use mathlib.Core.Logic.{inl, inr}
 use mathlib.Core.List.{List}
-use Prim.Native.Nat.{ℕ, ◌≤◌}
+use Prim.Native.Nat.{ℕ}
 use borrow.Author.Tests.{eq-eqb, ne_eqb}
 use lib.Dec.{eqb}
-use lib.IntN.{ℤ, nat_abs}
-use mir.Syntax.{w32}
-use mir.Val.{to_z, of_z}
-use Rattle.laws.proofs.Nums.{num, rd}
+use lib.IntN.{ℤ}
 use Rattle.laws.proofs.Tests.{if_yes}
 use Rattle.bits.proofs.Rules.{and_yes, and_no}
 use Rattle.std.specs.Prelude.{Ok, Err, IsErr}
@@ -25,10 +22,6 @@ use Rattle.picture_state.specs.Promises.{numbered}
 use Rattle.picture_state.proofs.Results.{numbered-ok, numbered_then}
 use Rattle.macroblock_head.specs.Predictions.{unless_refused, predict_from, predict_both, predict}
 use Rattle.macroblock_head.specs.Promises.{prediction_result, RefinesPrediction}
-
--- a component in half samples, as the code reads it
-pub half-read : (z : ℤ) → nat_abs z ≤ 2048 → to_z w32 (of_z w32 z) ≡ z
-half-read z h = (rd w32 (num {s = z} h) tt).is
 
 pub foretold : (address : ℕ) (o : PlaneAfter) {r : Predicted} {store : List ℕ} → r ≡ o.answer → store ≡ o.store
     → RefinesPrediction (unless_refused address o) r store

@@ -10,6 +10,7 @@ ghost use Rattle.macroblock_head.specs.Promises.{PossibleMotions, RefinesPredict
 use picture_state::types::{Context, Motion, Slice};
 use prediction::position::{HalfSampleOutside, macroblock_at};
 use prediction::predict::predict_macroblock_planes;
+use prediction::vector::Vector;
 
 // RULES 6.2: in half samples.
 fn in_halves(full: bool, x: i32) -> i32
@@ -36,10 +37,12 @@ fn predict_from(
     requires possible_motion { PossibleMotion m }
     ensures { RefinesPrediction (predict_from g address k m interpolate store.old) result store.new }
 {
-    let h = in_halves(m.full_px, m.h);
-    let v = in_halves(m.full_px, m.v);
+    let vector = Vector {
+        h: in_halves(m.full_px, m.h),
+        v: in_halves(m.full_px, m.v),
+    };
     let position = macroblock_at(g.sizes.mb_width, g.sizes.mb_height, address);
-    predict_macroblock_planes(store, position, k, g.stores.cur, h, v, interpolate)
+    predict_macroblock_planes(store, position, k, g.stores.cur, vector, interpolate)
 }
 
 // Both directions of a B picture, where the forward flag is set.

@@ -10,10 +10,10 @@ use lib.IntN.{ℤ, pos, negsuc, nat_abs}
 use lib.Signed.{lt_z, mag}
 use mir.Facts.{to_z-of_z}
 use mir.Syntax.{w32}
-use mir.Val.{SFits}
 use Rattle.std.specs.Int.{FitsUnsignedBits}
 use Rattle.std.specs.Prelude.{Some, None, Ok, Err}
 use Rattle.laws.proofs.Ints.{reread}
+use Rattle.laws.proofs.Nums.{num, rd}
 use Rattle.prediction.specs.declared.position.BlockPosition.{BlockPosition}
 use Rattle.prediction.specs.Predict.{PredictionSource, half_sample_outside, start, max_address, reach, prediction_source}
 
@@ -36,24 +36,25 @@ natural : (z : ℤ) {a : ℕ} → FitsUnsignedBits 64 z × (a ≡ nat_abs z) →
 natural (pos n) fits = ap pos fits.1
 natural (negsuc n) fits = absurd fits.0
 
-module _ (p : BlockPosition) (h v : ℤ) where
-  -- a start that was found for a vector of 32 bits, and is read back from them
-  module _ (fits_h : SFits w32 h) (fits_v : SFits w32 v) {z : ℤ} (most : mag z < 2147483648) (is : z ≡ start p (reread w32 h) (reread w32 v)) where
-    start_is : z ≡ start p h v
-    start_is = is ∙ ap₂ (start p) (to_z-of_z fits_h) (to_z-of_z fits_v)
+-- a component, as the code reads it
+vector_read : {z : ℤ} → nat_abs z ≤ 2048 → reread w32 z ≡ z
+vector_read most = (rd w32 (num most) tt).is
 
+module _ (p : BlockPosition) (h v : ℤ) where
+  -- a start that was found, and is read back from 32 bits
+  module _ {z : ℤ} (most : mag z < 2147483648) (is : z ≡ start p h v) where
     read_back : reread w32 z ≡ z
     read_back = to_z-of_z (sfits_of {w = w32} most)
 
     pub below : (FitsUnsignedBits 64 (reread w32 z) → ⊥) → outside ≡ prediction_source p h v
     unfolding prediction_source
-    below h = rw (← start_is, no-natural z most (rw read_back at h))
+    below h = rw (← is, no-natural z most (rw read_back at h))
 
     pub starts_at : {a : ℕ} → FitsUnsignedBits 64 (reread w32 z) × (a ≡ nat_abs (reread w32 z)) → pos a ≡ start p h v
-    starts_at h = natural z (rw read_back at h) ∙ start_is
+    starts_at h = natural z (rw read_back at h) ∙ is
 
-  pub reach_read : {n : ℕ} → SFits w32 h → SFits w32 v → n ≡ reach p (reread w32 h) (reread w32 v) → n ≡ reach p h v
-  reach_read fits_h fits_v e = e ∙ ap₂ (reach p) (to_z-of_z fits_h) (to_z-of_z fits_v)
+  pub reach_read : {n : ℕ} → (nat_abs h ≤ 2048) × (nat_abs v ≤ 2048) → n ≡ reach p (reread w32 h) (reread w32 v) → n ≡ reach p h v
+  reach_read near e = e ∙ ap₂ (reach p) (vector_read near.0) (vector_read near.1)
 
   module _ {a most : ℕ} (starts : pos a ≡ start p h v) (most_is : most ≡ max_address p) where
     pub beyond : most < a → outside ≡ prediction_source p h v

@@ -7,4 +7,5 @@ pub mod position;
 pub mod predict;
 pub mod rows;
 pub mod samples;
+pub mod vector;
 pub mod writers;

@@ -1,8 +1,10 @@
 // Places in a plane: of a block, and of the block that a vector leads to (RULES 6.3 to 6.6, 6.9).
-ghost use Rattle.std.specs.Prelude.{◌≡◌, ◌+◌, ◌*◌, ◌≤◌, ◌<◌, eqb, nat_abs};
+ghost use Rattle.std.specs.Prelude.{◌≡◌, ◌+◌, ◌*◌, ◌≤◌, ◌<◌, eqb};
 ghost use Rattle.laws.specs.Signed.{odd};
 ghost use Rattle.prediction.specs.Predict.{MacroblockInPicture, BlockInPlane, macroblock_at, block_position_of, width, address, start, max_address, reach};
 ghost use Rattle.prediction.specs.Predict.{prediction_source};
+
+use crate::vector::Vector;
 
 // A block of a plane: the block's size in samples, how many blocks the plane has across and down, and the block's row and column among them.
 #[derive(Clone, Copy)]
@@ -83,15 +85,14 @@ impl BlockPosition {
     }
 
     // The address that a vector of half samples leads to (RULES 6.4).
-    fn start(self, h: i32, v: i32) -> i32
+    fn start(self, vector: Vector) -> i32
         requires block_in_plane { BlockInPlane self }
-        requires h_bound { (nat_abs h ≤ 2048) × (nat_abs v ≤ 2048) }
-        ensures { result ≡ start self h v }
+        ensures { result ≡ start self vector.h vector.v }
     {
         let dw = self.width() as i32;
         let row = (self.row * self.size) as i32;
         let column = (self.column * self.size) as i32;
-        (row + (v >> 1)) * dw + column + (h >> 1)
+        (row + (vector.v >> 1)) * dw + column + (vector.h >> 1)
     }
 
     // RULES 6.5.
@@ -111,19 +112,18 @@ impl BlockPosition {
     }
 
     // RULES 6.6, 6.9: the address from which samples are copied, or none where the source lies outside and the block is left alone.
-    pub fn prediction_source(self, h: i32, v: i32) -> Result<Option<usize>, HalfSampleOutside>
+    pub fn prediction_source(self, vector: Vector) -> Result<Option<usize>, HalfSampleOutside>
         requires block_in_plane { BlockInPlane self }
-        requires h_bound { (nat_abs h ≤ 2048) × (nat_abs v ≤ 2048) }
-        ensures { result ≡ prediction_source self h v }
+        ensures { result ≡ prediction_source self vector.h vector.v }
     {
-        let Ok(at) = usize::try_from(self.start(h, v)) else {
+        let Ok(at) = usize::try_from(self.start(vector)) else {
             return Ok(None);
         };
         let max = self.max_address();
         if max < at {
             return Ok(None);
         }
-        if max < at + self.reach(h, v) {
+        if max < at + self.reach(vector.h, vector.v) {
             return Err(HalfSampleOutside);
         }
         Ok(Some(at))

@@ -1,5 +1,5 @@
 // Blocks of one plane predicted from another, and a macroblock's three planes from another store.
-ghost use Rattle.std.specs.Prelude.{◌≡◌, ◌⊎◌, ◌+◌, ◌*◌, ◌≤◌, ◌<◌, nat_abs, length};
+ghost use Rattle.std.specs.Prelude.{◌≡◌, ◌⊎◌, ◌+◌, ◌*◌, ◌≤◌, ◌<◌, length};
 ghost use borrow.Rule.Slice.PartMut.{mid_of, put_mid};
 ghost use Rattle.prediction.specs.Planes.{macroblocks, predict_plane, predict_plane_from_store, predicted_planes, stores_bytes};
 ghost use Rattle.prediction.specs.Predict.{MacroblockInPicture, BlockInPlane, bytes, max_address, reach, predicted};
@@ -7,6 +7,7 @@ ghost use Rattle.prediction.specs.Predict.{MacroblockInPicture, BlockInPlane, by
 use crate::apart::predict_disjoint;
 use crate::planes::{Plane, block_size, plane_start};
 use crate::position::{BlockPosition, HalfSampleOutside, Macroblock, half_sample};
+use crate::vector::Vector;
 use laws::half;
 
 // The block that begins at `at` in its plane, row by row. The planes begin at `from` and `to`, and are apart.
@@ -51,18 +52,16 @@ pub fn predict_plane(
     from: usize,
     to: usize,
     p: BlockPosition,
-    h: i32,
-    v: i32,
+    vector: Vector,
     interpolate: bool,
 ) -> Result<(), HalfSampleOutside>
     requires block_in_plane { BlockInPlane p }
-    requires h_bound { (nat_abs h ≤ 2048) × (nat_abs v ≤ 2048) }
     requires p_in_bounds { (from + bytes p ≤ length store.old) × (to + bytes p ≤ length store.old) × ((from + bytes p ≤ to) ⊎ (to + bytes p ≤ from)) }
-    ensures answer { result ≡ (predict_plane p from to h v interpolate store.old).answer }
-    ensures store { store.new ≡ (predict_plane p from to h v interpolate store.old).store }
+    ensures answer { result ≡ (predict_plane p from to vector.h vector.v interpolate store.old).answer }
+    ensures store { store.new ≡ (predict_plane p from to vector.h vector.v interpolate store.old).store }
 {
-    if let Some(at) = p.prediction_source(h, v)? {
-        copy_block(store, from, to, p, h, v, interpolate, at);
+    if let Some(at) = p.prediction_source(vector)? {
+        copy_block(store, from, to, p, vector.h, vector.v, interpolate, at);
     }
     Ok(())
 }
@@ -75,22 +74,20 @@ fn predict_one_plane(
     from: usize,
     to: usize,
     q: Plane,
-    h: i32,
-    v: i32,
+    vector: Vector,
     interpolate: bool,
 ) -> Result<(), HalfSampleOutside>
     requires macroblock_in_picture { MacroblockInPicture m }
     requires from_bound { (from < 3) × (to < 3) × (to ≡ from → ⊥) }
-    requires h_bound { (nat_abs h ≤ 2048) × (nat_abs v ≤ 2048) }
     requires m_in_bounds { stores_bytes (macroblocks m) ≤ length store.old }
-    ensures answer { result ≡ (predict_plane_from_store m from to interpolate q h v store.old).answer }
-    ensures store { store.new ≡ (predict_plane_from_store m from to interpolate q h v store.old).store }
+    ensures answer { result ≡ (predict_plane_from_store m from to interpolate q vector.h vector.v store.old).answer }
+    ensures store { store.new ≡ (predict_plane_from_store m from to interpolate q vector.h vector.v store.old).store }
 {
     let n = m.across * m.down;
     let source = plane_start(from, q, n);
     let target = plane_start(to, q, n);
     let p = m.block(block_size(q));
-    predict_plane(store, source, target, p, h, v, interpolate)
+    predict_plane(store, source, target, p, vector, interpolate)
 }
 
 // The Rust's copy_or_interpolate_macroblock. The vector is in half samples. The planes go Y, Cr, Cb; a refusal ends it, with that
@@ -101,20 +98,20 @@ pub fn predict_macroblock_planes(
     m: Macroblock,
     from: usize,
     to: usize,
-    h: i32,
-    v: i32,
+    vector: Vector,
     interpolate: bool,
 ) -> Result<(), HalfSampleOutside>
     requires macroblock_in_picture { MacroblockInPicture m }
     requires from_bound { (from < 3) × (to < 3) × (to ≡ from → ⊥) }
-    requires h_bound { (nat_abs h ≤ 2048) × (nat_abs v ≤ 2048) }
     requires m_in_bounds { stores_bytes (macroblocks m) ≤ length store.old }
-    ensures answer { result ≡ (predicted_planes m from to h v interpolate store.old).answer }
-    ensures store { store.new ≡ (predicted_planes m from to h v interpolate store.old).store }
+    ensures answer { result ≡ (predicted_planes m from to vector.h vector.v interpolate store.old).answer }
+    ensures store { store.new ≡ (predicted_planes m from to vector.h vector.v interpolate store.old).store }
 {
-    predict_one_plane(store, m, from, to, Plane::Y, h, v, interpolate)?;
-    let ch = half(h);
-    let cv = half(v);
-    predict_one_plane(store, m, from, to, Plane::Cr, ch, cv, interpolate)?;
-    predict_one_plane(store, m, from, to, Plane::Cb, ch, cv, interpolate)
+    predict_one_plane(store, m, from, to, Plane::Y, vector, interpolate)?;
+    let halved = Vector {
+        h: half(vector.h),
+        v: half(vector.v),
+    };
+    predict_one_plane(store, m, from, to, Plane::Cr, halved, interpolate)?;
+    predict_one_plane(store, m, from, to, Plane::Cb, halved, interpolate)
 }

@@ -25,16 +25,16 @@ inputs {p} k h v small w is =
     ∷ []
 
 pub overflow_mul-result : goal.overflow_mul-result
-overflow_mul-result c = need (inputs c.requires.block_in_plane c.args.h c.args.v c.requires.h_bound _ c.width-dw.ensures) product tt
+overflow_mul-result c = need (inputs c.requires.block_in_plane c.args.vector.h c.args.vector.v c.args.vector.in_reach _ c.width-dw.ensures) product tt
 
 pub overflow_add-result-2 : goal.overflow_add-result-2
-overflow_add-result-2 c = need (inputs c.requires.block_in_plane c.args.h c.args.v c.requires.h_bound _ c.width-dw.ensures) (product ⊹ var 3) tt
+overflow_add-result-2 c = need (inputs c.requires.block_in_plane c.args.vector.h c.args.vector.v c.args.vector.in_reach _ c.width-dw.ensures) (product ⊹ var 3) tt
 
 pub overflow_add-result-3 : goal.overflow_add-result-3
-overflow_add-result-3 c = need (inputs c.requires.block_in_plane c.args.h c.args.v c.requires.h_bound _ c.width-dw.ensures) sum tt
+overflow_add-result-3 c = need (inputs c.requires.block_in_plane c.args.vector.h c.args.vector.v c.args.vector.in_reach _ c.width-dw.ensures) sum tt
 
 pub returns : goal.returns
 returns c =
     let a = c.args in
-    value (inputs c.requires.block_in_plane a.h a.v c.requires.h_bound _ c.width-dw.ensures) sum tt
-    ∙ ap (λ (w : ℕ). (pos (a.self.row * a.self.size) +ℤ shr_z a.v 2) *ℤ pos w +ℤ pos (a.self.column * a.self.size) +ℤ shr_z a.h 2) c.width-dw.ensures
+    value (inputs c.requires.block_in_plane a.vector.h a.vector.v c.args.vector.in_reach _ c.width-dw.ensures) sum tt
+    ∙ ap (λ (w : ℕ). (pos (a.self.row * a.self.size) +ℤ shr_z a.vector.v 2) *ℤ pos w +ℤ pos (a.self.column * a.self.size) +ℤ shr_z a.vector.h 2) c.width-dw.ensures
