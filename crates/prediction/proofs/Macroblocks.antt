@@ -65,13 +65,13 @@ module _ {m : Macroblock} (i : MacroblockInPicture m) (number : ℕ) where
       go false true = chroma_in i
       go false false = chroma_in i
 
-  -- the width of a plane of Cr or Cb
-  pub chroma-width : 4 ≤ number → block_width m number ≡ m.across * 8
-  chroma-width h = rw (le-ltb number 4 h) (go (eqb number 4))
-    where
-      go : (cb : Bool) → m.across * block_size (cond cb Cb Cr) ≡ m.across * 8
-      go true = refl
-      go false = refl
+-- the width of a plane of Cr or Cb
+pub chroma-width : (m : Macroblock) (number : ℕ) → 4 ≤ number → block_width m number ≡ m.across * 8
+chroma-width m number h = rw (le-ltb number 4 h) (go (eqb number 4))
+  where
+    go : (cb : Bool) → m.across * block_size (cond cb Cb Cr) ≡ m.across * 8
+    go true = refl
+    go false = refl
 
 pub plane_in : (m : Macroblock) (q : Plane) (k : ℕ) → k < 3
     → plane_start k q (macroblocks m) + bytes (block_position_of m (block_size q)) ≤ stores_bytes (macroblocks m)

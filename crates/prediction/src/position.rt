@@ -5,6 +5,7 @@ ghost use Rattle.prediction.specs.Predict.{MacroblockInPicture, BlockInPlane, ma
 ghost use Rattle.prediction.specs.Predict.{prediction_source};
 
 use crate::vector::Vector;
+use std::marker::Model;
 
 // A block of a plane: the block's size in samples, how many blocks the plane has across and down, and the block's row and column among them.
 #[derive(Clone, Copy)]
@@ -16,13 +17,33 @@ pub struct BlockPosition {
     pub column: usize,
 }
 
-// A macroblock: how many of them the picture has across and down, and its row and column among them.
+// The place of a macroblock: how many of them the picture has across and down, and its row and column among them.
 #[derive(Clone, Copy)]
-pub struct Macroblock {
+pub struct MacroblockPlace {
     pub across: usize,
     pub down: usize,
     pub row: usize,
     pub column: usize,
+}
+
+#[derive(Clone, Copy)]
+pub struct Macroblock {
+    pub place: MacroblockPlace,
+}
+
+// A clause sees the place. That it is in the picture is true of every macroblock, so that no reader asks for it.
+impl Model for Macroblock {
+    ghost use Rattle.prediction.specs.declared.position.MacroblockPlace.{MacroblockPlace};
+
+    ghost Value = { MacroblockPlace };
+
+    ghost use Rattle.prediction.specs.Predict.{MacroblockInPicture};
+
+    ghost view = { λ m. m.place };
+
+    ghost invariant = { λ m. MacroblockInPicture m.place };
+
+    ghost inverse = { λ p. record { place = p } };
 }
 
 // A prediction is refused, since its half samples reach past max_address (RULES 6.9, Q9: number 9).
@@ -45,14 +66,16 @@ pub fn macroblock_at(across: usize, down: usize, address: usize) -> Macroblock
     ensures inside { MacroblockInPicture result }
 {
     Macroblock {
-        across,
-        down,
-        row: address / across,
-        column: address % across,
+        place: MacroblockPlace {
+            across,
+            down,
+            row: address / across,
+            column: address % across,
+        },
     }
 }
 
-impl Macroblock {
+impl MacroblockPlace {
     // The macroblock's block in a plane of this block size.
     pub fn block(self, size: usize) -> BlockPosition
         ensures { result ≡ block_position_of self size }

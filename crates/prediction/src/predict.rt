@@ -2,7 +2,7 @@
 ghost use Rattle.std.specs.Prelude.{◌≡◌, ◌⊎◌, ◌+◌, ◌*◌, ◌≤◌, ◌<◌, length};
 ghost use borrow.Rule.Slice.PartMut.{mid_of, put_mid};
 ghost use Rattle.prediction.specs.Planes.{macroblocks, predict_plane, predict_plane_from_store, predicted_planes, stores_bytes};
-ghost use Rattle.prediction.specs.Predict.{MacroblockInPicture, BlockInPlane, bytes, max_address, reach, predicted};
+ghost use Rattle.prediction.specs.Predict.{BlockInPlane, bytes, max_address, reach, predicted};
 
 use crate::apart::predict_disjoint;
 use crate::planes::{Plane, block_size, plane_start};
@@ -77,16 +77,15 @@ fn predict_one_plane(
     vector: Vector,
     interpolate: bool,
 ) -> Result<(), HalfSampleOutside>
-    requires macroblock_in_picture { MacroblockInPicture m }
     requires from_bound { (from < 3) × (to < 3) × (to ≡ from → ⊥) }
     requires m_in_bounds { stores_bytes (macroblocks m) ≤ length store.old }
     ensures answer { result ≡ (predict_plane_from_store m from to interpolate q vector.h vector.v store.old).answer }
     ensures store { store.new ≡ (predict_plane_from_store m from to interpolate q vector.h vector.v store.old).store }
 {
-    let n = m.across * m.down;
+    let n = m.place.across * m.place.down;
     let source = plane_start(from, q, n);
     let target = plane_start(to, q, n);
-    let p = m.block(block_size(q));
+    let p = m.place.block(block_size(q));
     predict_plane(store, source, target, p, vector, interpolate)
 }
 
@@ -101,7 +100,6 @@ pub fn predict_macroblock_planes(
     vector: Vector,
     interpolate: bool,
 ) -> Result<(), HalfSampleOutside>
-    requires macroblock_in_picture { MacroblockInPicture m }
     requires from_bound { (from < 3) × (to < 3) × (to ≡ from → ⊥) }
     requires m_in_bounds { stores_bytes (macroblocks m) ≤ length store.old }
     ensures answer { result ≡ (predicted_planes m from to vector.h vector.v interpolate store.old).answer }

@@ -1,7 +1,6 @@
 // The results of a block, and the place in its plane at which they are written (RULES 6.12, 6.13).
 ghost use Rattle.std.specs.Prelude.{◌≡◌, ℕ, ◌+◌, ◌*◌, ◌≤◌, ◌<◌, nat_abs, length};
 ghost use Rattle.prediction.specs.Planes.{macroblocks, plane_of, plane_length};
-ghost use Rattle.prediction.specs.Predict.{MacroblockInPicture};
 ghost use Rattle.laws.specs.Sizes.{ResultsInBounds};
 ghost use Rattle.prediction.specs.Writers.{luma_address, chroma_address, block_width, block_address};
 ghost use Rattle.prediction.specs.Writers.{Gives, made_block, set_const, overwrite, add_const, add_block};
@@ -69,37 +68,33 @@ pub fn block_set_add(d: &mut [u8], di: usize, dw: usize, s: &[i32; 64])
 
 // The place of block 0, 1, 2 or 3 in the plane Y.
 fn luma_address(m: Macroblock, block: usize) -> usize
-    requires macroblock_in_picture { MacroblockInPicture m }
     requires block_bound { block < 4 }
     ensures is { result ≡ luma_address (m.across * 16) m.row m.column block }
     ensures inside { result + 7 * (m.across * 16) + 8 ≤ 256 * macroblocks m }
 {
-    let dw = m.across * 16;
-    (m.row * 16 + block / 2 % 2 * 8) * dw + m.column * 16 + block % 2 * 8
+    let dw = m.place.across * 16;
+    (m.place.row * 16 + block / 2 % 2 * 8) * dw + m.place.column * 16 + block % 2 * 8
 }
 
 // The place of block 4 in the plane Cb and of block 5 in the plane Cr.
 pub fn chroma_address(m: Macroblock) -> usize
-    requires { MacroblockInPicture m }
     ensures is { result ≡ chroma_address (m.across * 8) m.row m.column }
     ensures inside { result + 7 * (m.across * 8) + 8 ≤ 64 * macroblocks m }
 {
-    let dw = m.across * 8;
-    m.row * 8 * dw + m.column * 8
+    let dw = m.place.across * 8;
+    m.place.row * 8 * dw + m.place.column * 8
 }
 
 // The width of the plane of block 0 to 5.
 pub fn block_width(m: Macroblock, number: usize) -> usize
-    requires { MacroblockInPicture m }
     ensures is { result ≡ block_width m number }
     ensures wide { 8 ≤ result }
 {
-    m.across * block_size(plane_of(number))
+    m.place.across * block_size(plane_of(number))
 }
 
 // The place of block 0 to 5 in its plane.
 pub fn block_address(m: Macroblock, number: usize) -> usize
-    requires { MacroblockInPicture m }
     ensures is { result ≡ block_address m number }
     ensures inside { result + 7 * block_width m number + 8 ≤ plane_length (plane_of number) (macroblocks m) }
 {

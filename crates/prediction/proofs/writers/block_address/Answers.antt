@@ -12,4 +12,4 @@ pub returns-clause-is : goal.returns-clause-is
 unfolding block_address
 returns-clause-is c =
     let h = c.if-number-lt4.false in
-    c.chroma_address.ensures.is ∙ rw (chroma-width c.requires c.args.number h, le-ltb c.args.number 4 h)
+    c.chroma_address.ensures.is ∙ rw (chroma-width c.args.m c.args.number h, le-ltb c.args.number 4 h)
