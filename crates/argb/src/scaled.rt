@@ -13,6 +13,16 @@ pub struct DisplaySize {
     pub luma_width: usize,
 }
 
+// The planes of a picture, which hold samples for all of the size that is shown.
+#[derive(Clone, Copy)]
+pub struct Planes<'a> {
+    pub y: &'a [u8],
+    pub cr: &'a [u8],
+    pub cb: &'a [u8],
+    pub size: DisplaySize,
+    pub ghost fit: { PlanesFit (picture size.width size.height size.luma_width y.now cr.now cb.now) },
+}
+
 // The column of the samples that a column of the output shows, and what is left of the division that gives it.
 #[derive(Clone, Copy)]
 struct Column {
@@ -38,26 +48,19 @@ fn further(c: Column, dst_w: usize, step: usize, part: usize) -> Column
 }
 
 // The row sy of the samples, scaled to dst_w pixels from `to` on.
-fn write_row(
-    y: &[u8],
-    cr: &[u8],
-    cb: &[u8],
-    size: DisplaySize,
-    sy: usize,
-    dst: &mut [u32],
-    dst_w: usize,
-    to: usize,
-)
-    requires planes_fit { PlanesFit (picture size.width size.height size.luma_width y.now cr.now cb.now) }
-    requires sy_lt_height { (sy < size.height) × (1 ≤ dst_w) × (dst_w ≤ 4096) }
+fn write_row(planes: &Planes, sy: usize, dst: &mut [u32], dst_w: usize, to: usize)
+    requires sy_lt_height { (sy < planes.now.size.height) × (1 ≤ dst_w) × (dst_w ≤ 4096) }
     requires dst_w_in_bounds { to + dst_w ≤ length dst.old }
-    ensures { dst.new ≡ store_row dst.old to
-        (λ x. sample_pixel (picture size.width size.height size.luma_width y.now cr.now cb.now)
-        (x * size.width / dst_w) sy)
+    ensures { let p = planes.now in dst.new ≡ store_row dst.old to
+        (λ x. sample_pixel (picture p.size.width p.size.height p.size.luma_width p.y.now p.cr.now p.cb.now)
+        (x * p.size.width / dst_w) sy)
         dst_w }
 {
-    let width = size.width;
-    let luma_width = size.luma_width;
+    let y = planes.y;
+    let cr = planes.cr;
+    let cb = planes.cb;
+    let width = planes.size.width;
+    let luma_width = planes.size.luma_width;
     let y_row = sy * luma_width;
     let c_row = sy / 2 * (luma_width / 2);
     let step = width / dst_w;
@@ -72,14 +75,16 @@ fn write_row(
 }
 
 // The colours of the row sy of the samples, two for each place of Cr and Cb: vectors, since nothing is scaled yet.
-fn colour_row(y: &[u8], cr: &[u8], cb: &[u8], size: DisplaySize, sy: usize, row: &mut [u32; 4096])
-    requires planes_fit { PlanesFit (picture size.width size.height size.luma_width y.now cr.now cb.now) }
-    requires sy_lt_height { sy < size.height }
-    ensures { row.new ≡ store_row row.old 0
-        (λ x. sample_pixel (picture size.width size.height size.luma_width y.now cr.now cb.now) x sy)
-        size.luma_width }
+fn colour_row(planes: &Planes, sy: usize, row: &mut [u32; 4096])
+    requires sy_lt_height { sy < planes.now.size.height }
+    ensures { let p = planes.now in row.new ≡ store_row row.old 0
+        (λ x. sample_pixel (picture p.size.width p.size.height p.size.luma_width p.y.now p.cr.now p.cb.now) x sy)
+        p.size.luma_width }
 {
-    let luma_width = size.luma_width;
+    let y = planes.y;
+    let cr = planes.cr;
+    let cb = planes.cb;
+    let luma_width = planes.size.luma_width;
     let pairs = luma_width / 2;
     let y_row = sy * luma_width;
     let c_row = sy / 2 * pairs;
@@ -110,27 +115,18 @@ fn spread_row(row: &[u32; 4096], width: usize, dst: &mut [u32], dst_w: usize, to
 
 // Writes the picture, scaled to dst_w times dst_h, to the beginning of dst. A row that shows the same row of samples as the one before it is copied; where
 // the output is not narrower than the picture, each colour is made once and then spread. `shown` is what the row before shows: at first what none shows.
-pub fn write_rgb_scaled(
-    y: &[u8],
-    cr: &[u8],
-    cb: &[u8],
-    size: DisplaySize,
-    dst: &mut [u32],
-    dst_w: usize,
-    dst_h: usize,
-)
-    requires planes_fit { PlanesFit (picture size.width size.height size.luma_width y.now cr.now cb.now) }
+pub fn write_rgb_scaled(planes: &Planes, dst: &mut [u32], dst_w: usize, dst_h: usize)
     requires dst_w_bound { (dst_w ≤ 4096) × (dst_h ≤ 4096) }
     requires dst_h_in_bounds { dst_w * dst_h ≤ length dst.old }
-    ensures { dst.new ≡ scaled
-        (picture size.width size.height size.luma_width y.now cr.now cb.now)
+    ensures { let p = planes.now in dst.new ≡ scaled
+        (picture p.size.width p.size.height p.size.luma_width p.y.now p.cr.now p.cb.now)
         dst_w dst_h dst.old }
 {
     if dst_w == 0 {
         return;
     }
-    let width = size.width;
-    let height = size.height;
+    let width = planes.size.width;
+    let height = planes.size.height;
     let mut row = [0u32; 4096];
     let mut shown = height;
     for ty in 0..dst_h {
@@ -139,10 +135,10 @@ pub fn write_rgb_scaled(
         if sy == shown {
             dst.copy_within(to - dst_w..to, to);
         } else if width <= dst_w {
-            colour_row(y, cr, cb, size, sy, &mut row);
+            colour_row(planes, sy, &mut row);
             spread_row(&row, width, dst, dst_w, to);
         } else {
-            write_row(y, cr, cb, size, sy, dst, dst_w, to);
+            write_row(planes, sy, dst, dst_w, to);
         }
         shown = sy;
     }

@@ -6,7 +6,7 @@ ghost use Rattle.argb.specs.Scaled.{scaled};
 ghost use Rattle.conversion.specs.Pictures.{picture_in};
 ghost use Rattle.conversion.specs.HasHeader.{HasHeader};
 
-use argb::scaled::{DisplaySize, write_rgb_scaled};
+use argb::scaled::{DisplaySize, Planes, write_rgb_scaled};
 use header::state::Sequence;
 use prediction::planes::{Plane, plane_length, plane_start};
 
@@ -43,5 +43,6 @@ pub fn write_picture(q: Sequence, store: &[u8], index: usize, area: &mut [u32], 
         height: q.height,
         luma_width: q.sizes.mb_width * 16,
     };
-    write_rgb_scaled(y, cr, cb, size, area, w, h);
+    let planes = Planes { y, cr, cb, size };
+    write_rgb_scaled(&planes, area, w, h);
 }

@@ -11,13 +11,14 @@ use Rattle.argb.proofs.scaled.write_rgb_scaled.Goals.{then-sy-shown, else-sy-sho
 pub returns-then-dst_w-eq0 : goal.returns-then-dst_w-eq0
 returns-then-dst_w-eq0 c =
     let a = c.args in
-    sym (scaled-none (picture a.size.width a.size.height a.size.luma_width a.y.now a.cr.now a.cb.now) a.dst_w a.dst_h a.dst.now (inl c.if-dst_w-eq0.true))
+    let q = a.planes.now in
+    sym (scaled-none (picture q.size.width q.size.height q.size.luma_width q.y.now q.cr.now q.cb.now) a.dst_w a.dst_h a.dst.now (inl c.if-dst_w-eq0.true))
 
 pub loop-ty-init : goal.loop-ty-init
 loop-ty-init c = none_written refl
 
 pub overflow_mul-sy : goal.overflow_mul-sy
-overflow_mul-sy c = omega (arith, product-most c.loop-ty.ty c.args.size.height (omega arith) (omega arith))
+overflow_mul-sy c = omega (arith, product-most c.loop-ty.ty c.args.planes.now.size.height (omega arith) (omega arith))
 
 pub overflow_mul-to : goal.overflow_mul-to
 overflow_mul-to c = omega (arith, product-most c.loop-ty.ty c.args.dst_w (omega arith) (omega arith))
@@ -25,8 +26,9 @@ overflow_mul-to c = omega (arith, product-most c.loop-ty.ty c.args.dst_w (omega 
 pub loop-ty-preserved : goal.loop-ty-preserved
 loop-ty-preserved c =
     let a = c.args in
-    let p : Picture = picture a.size.width a.size.height a.size.luma_width a.y.now a.cr.now a.cb.now in
-    let whole = c.requires.planes_fit in
+    let q = a.planes.now in
+    let p : Picture = picture q.size.width q.size.height q.size.luma_width q.y.now q.cr.now q.cb.now in
+    let whole = c.args.planes.now.fit in
     let i = c.loop-ty.invariant in
     let y = c.loop-ty.ty in
     let before = c.loop-ty.dst in
@@ -47,7 +49,7 @@ loop-ty-preserved c =
       | then-sy-shown w ↦ ap length w.row-is ∙ i.colours
       | else-sy-shown+then-width-dst_w w ↦
           ap length w.row-is
-          ∙ still-long row (λ x. sample_pixel p x (y * p.height / a.dst_h)) a.size.luma_width w.colour_row.ensures i.colours
+          ∙ still-long row (λ x. sample_pixel p x (y * p.height / a.dst_h)) q.size.luma_width w.colour_row.ensures i.colours
       | else-sy-shown+else-width-dst_w w ↦ ap length w.row-is ∙ i.colours
     ] in
     written_on i c.loop-ty-test.true made long

@@ -5,4 +5,5 @@ use Rattle.argb.proofs.scaled.write_rgb_scaled.Given as goal
 
 abbrev pub invariant-loop-ty : goal.invariant-loop-ty
 invariant-loop-ty l =
-    Written (picture l.size.width l.size.height l.size.luma_width l.y l.cr l.cb) l.dst_w l.dst_h l.initial.dst l.row l.dst l.shown l.ty
+    let q = l.planes in
+    Written (picture q.size.width q.size.height q.size.luma_width q.y.now q.cr.now q.cb.now) l.dst_w l.dst_h l.initial.dst l.row l.dst l.shown l.ty

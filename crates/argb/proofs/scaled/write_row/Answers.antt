@@ -11,36 +11,37 @@ inside : {p : Picture} {w x sx rest : ℕ} (sy : ℕ) → PlanesFit p → Shows 
 inside {sx = sx} sy whole s h r = sample-inside whole sx sy (omega (arith, column-below s h whole.wide.0, whole.wide)) r
 
 pub overflow_mul-y_row : goal.overflow_mul-y_row
-overflow_mul-y_row c = omega (arith, product-most c.args.sy c.args.size.luma_width (omega arith) (omega arith))
+overflow_mul-y_row c = omega (arith, product-most c.args.sy c.args.planes.now.size.luma_width (omega arith) (omega arith))
 
 pub overflow_mul-c_row : goal.overflow_mul-c_row
-overflow_mul-c_row c = omega (arith, product-most (c.args.sy / 2) (c.args.size.luma_width / 2) (omega arith) (omega arith))
+overflow_mul-c_row c = omega (arith, product-most (c.args.sy / 2) (c.args.planes.now.size.luma_width / 2) (omega arith) (omega arith))
 
 pub loop-tx-init : goal.loop-tx-init
 loop-tx-init c = record { pixels = none-stored; next = shows_first (omega arith) }
 
 pub bounds-y-y_row : goal.bounds-y-y_row
 bounds-y-y_row c =
-    omega (arith, inside c.args.sy c.requires.planes_fit c.loop-tx.invariant.next c.loop-tx-test.true c.requires.sy_lt_height.0)
+    omega (arith, inside c.args.sy c.args.planes.now.fit c.loop-tx.invariant.next c.loop-tx-test.true c.requires.sy_lt_height.0)
 
 pub bounds-cr-ci : goal.bounds-cr-ci
-bounds-cr-ci c = omega (arith, inside c.args.sy c.requires.planes_fit c.loop-tx.invariant.next c.loop-tx-test.true c.requires.sy_lt_height.0)
+bounds-cr-ci c = omega (arith, inside c.args.sy c.args.planes.now.fit c.loop-tx.invariant.next c.loop-tx-test.true c.requires.sy_lt_height.0)
 
 pub bounds-cb-ci : goal.bounds-cb-ci
-bounds-cb-ci c = omega (arith, inside c.args.sy c.requires.planes_fit c.loop-tx.invariant.next c.loop-tx-test.true c.requires.sy_lt_height.0)
+bounds-cb-ci c = omega (arith, inside c.args.sy c.args.planes.now.fit c.loop-tx.invariant.next c.loop-tx-test.true c.requires.sy_lt_height.0)
 
 pub further-c-requires : goal.further-c-requires
 further-c-requires c =
-    let asks = further-asks c.loop-tx.invariant.next c.loop-tx-test.true (c.requires.planes_fit.wide.0, omega arith) (omega arith) in
+    let asks = further-asks c.loop-tx.invariant.next c.loop-tx-test.true (c.args.planes.now.fit.wide.0, omega arith) (omega arith) in
     record { rest_lt_dst_w = asks.0; sx_bound = asks.1 }
 
 -- what a turn stores is the pixel of the rule
-stored : (c : goal.After-further-c) → let a = c.args in
-    c.pixel.result ≡ sample_pixel (picture a.size.width 0 a.size.luma_width a.y.now a.cr.now a.cb.now) (c.loop-tx.tx * a.size.width / a.dst_w) a.sy
+stored : (c : goal.After-further-c) → let a = c.args in let p = a.planes.now in
+    c.pixel.result ≡ sample_pixel (picture p.size.width 0 p.size.luma_width p.y.now p.cr.now p.cb.now) (c.loop-tx.tx * p.size.width / a.dst_w) a.sy
 unfolding sample_pixel
 stored c =
     let a = c.args in
-    let p = picture a.size.width a.size.height a.size.luma_width a.y.now a.cr.now a.cb.now in
+    let q = a.planes.now in
+    let p = picture q.size.width q.size.height q.size.luma_width q.y.now q.cr.now q.cb.now in
     c.pixel.ensures ∙ ap (λ (n : ℕ). sample_pixel p n a.sy) (column c.loop-tx.invariant.next)
 
 pub loop-tx-preserved : goal.loop-tx-preserved
