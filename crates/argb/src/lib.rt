@@ -2,4 +2,5 @@
 #![tactic(auto)]
 
 pub mod pixel;
+pub mod planes;
 pub mod scaled;

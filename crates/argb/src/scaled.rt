@@ -1,27 +1,11 @@
 // A picture as pixels of any size up to 4096 each way.
 ghost use Rattle.std.specs.Prelude.{◌≡◌, ◌+◌, ◌*◌, ◌/◌, ◌≤◌, ◌<◌, length, get_or};
 ghost use Rattle.laws.specs.Stores.{store_row};
-ghost use Rattle.argb.specs.Scaled.{picture, PlanesFit, sample_pixel, scaled};
+ghost use Rattle.argb.specs.Planes.{picture_of};
+ghost use Rattle.argb.specs.Scaled.{sample_pixel, scaled};
 
 use crate::pixel::pixel;
-
-// The size that is shown, and the width of plane Y.
-#[derive(Clone, Copy)]
-pub struct DisplaySize {
-    pub width: usize,
-    pub height: usize,
-    pub luma_width: usize,
-}
-
-// The planes of a picture, which hold samples for all of the size that is shown.
-#[derive(Clone, Copy)]
-pub struct Planes<'a> {
-    pub y: &'a [u8],
-    pub cr: &'a [u8],
-    pub cb: &'a [u8],
-    pub size: DisplaySize,
-    pub ghost fit: { PlanesFit (picture size.width size.height size.luma_width y.now cr.now cb.now) },
-}
+use crate::planes::Planes;
 
 // The column of the samples that a column of the output shows, and what is left of the division that gives it.
 #[derive(Clone, Copy)]
@@ -49,18 +33,15 @@ fn further(c: Column, dst_w: usize, step: usize, part: usize) -> Column
 
 // The row sy of the samples, scaled to dst_w pixels from `to` on.
 fn write_row(planes: &Planes, sy: usize, dst: &mut [u32], dst_w: usize, to: usize)
-    requires sy_lt_height { (sy < planes.now.size.height) × (1 ≤ dst_w) × (dst_w ≤ 4096) }
+    requires sy_lt_height { (sy < planes.now.height) × (1 ≤ dst_w) × (dst_w ≤ 4096) }
     requires dst_w_in_bounds { to + dst_w ≤ length dst.old }
-    ensures { let p = planes.now in dst.new ≡ store_row dst.old to
-        (λ x. sample_pixel (picture p.size.width p.size.height p.size.luma_width p.y.now p.cr.now p.cb.now)
-        (x * p.size.width / dst_w) sy)
-        dst_w }
+    ensures { dst.new ≡ store_row dst.old to (λ x. sample_pixel (picture_of planes.now) (x * planes.now.width / dst_w) sy) dst_w }
 {
     let y = planes.y;
     let cr = planes.cr;
     let cb = planes.cb;
-    let width = planes.size.width;
-    let luma_width = planes.size.luma_width;
+    let width = planes.width;
+    let luma_width = planes.luma_width;
     let y_row = sy * luma_width;
     let c_row = sy / 2 * (luma_width / 2);
     let step = width / dst_w;
@@ -76,15 +57,13 @@ fn write_row(planes: &Planes, sy: usize, dst: &mut [u32], dst_w: usize, to: usiz
 
 // The colours of the row sy of the samples, two for each place of Cr and Cb: vectors, since nothing is scaled yet.
 fn colour_row(planes: &Planes, sy: usize, row: &mut [u32; 4096])
-    requires sy_lt_height { sy < planes.now.size.height }
-    ensures { let p = planes.now in row.new ≡ store_row row.old 0
-        (λ x. sample_pixel (picture p.size.width p.size.height p.size.luma_width p.y.now p.cr.now p.cb.now) x sy)
-        p.size.luma_width }
+    requires sy_lt_height { sy < planes.now.height }
+    ensures { row.new ≡ store_row row.old 0 (λ x. sample_pixel (picture_of planes.now) x sy) planes.now.luma_width }
 {
     let y = planes.y;
     let cr = planes.cr;
     let cb = planes.cb;
-    let luma_width = planes.size.luma_width;
+    let luma_width = planes.luma_width;
     let pairs = luma_width / 2;
     let y_row = sy * luma_width;
     let c_row = sy / 2 * pairs;
@@ -118,15 +97,13 @@ fn spread_row(row: &[u32; 4096], width: usize, dst: &mut [u32], dst_w: usize, to
 pub fn write_rgb_scaled(planes: &Planes, dst: &mut [u32], dst_w: usize, dst_h: usize)
     requires dst_w_bound { (dst_w ≤ 4096) × (dst_h ≤ 4096) }
     requires dst_h_in_bounds { dst_w * dst_h ≤ length dst.old }
-    ensures { let p = planes.now in dst.new ≡ scaled
-        (picture p.size.width p.size.height p.size.luma_width p.y.now p.cr.now p.cb.now)
-        dst_w dst_h dst.old }
+    ensures { dst.new ≡ scaled (picture_of planes.now) dst_w dst_h dst.old }
 {
     if dst_w == 0 {
         return;
     }
-    let width = planes.size.width;
-    let height = planes.size.height;
+    let width = planes.width;
+    let height = planes.height;
     let mut row = [0u32; 4096];
     let mut shown = height;
     for ty in 0..dst_h {

@@ -6,7 +6,8 @@ ghost use Rattle.argb.specs.Scaled.{scaled};
 ghost use Rattle.conversion.specs.Pictures.{picture_in};
 ghost use Rattle.conversion.specs.HasHeader.{HasHeader};
 
-use argb::scaled::{DisplaySize, Planes, write_rgb_scaled};
+use argb::planes::Planes;
+use argb::scaled::write_rgb_scaled;
 use header::state::Sequence;
 use prediction::planes::{Plane, plane_length, plane_start};
 
@@ -38,11 +39,13 @@ pub fn write_picture(q: Sequence, store: &[u8], index: usize, area: &mut [u32], 
     let y = plane(store, index, Plane::Y, n);
     let cr = plane(store, index, Plane::Cr, n);
     let cb = plane(store, index, Plane::Cb, n);
-    let size = DisplaySize {
+    let planes = Planes {
         width: q.width,
         height: q.height,
         luma_width: q.sizes.mb_width * 16,
+        y,
+        cr,
+        cb,
     };
-    let planes = Planes { y, cr, cb, size };
     write_rgb_scaled(&planes, area, w, h);
 }

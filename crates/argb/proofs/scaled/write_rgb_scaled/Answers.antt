@@ -1,7 +1,8 @@
 -- One row more, in one of three ways.
 use Rattle.std.proofs.Common.{◌≡◌, ◌*◌, ◌/◌, length, refl, sym, ap, ◌∙◌, inl, arith}
 use Rattle.laws.specs.Stores.{store_row}
-use Rattle.argb.specs.Scaled.{Picture, picture, sample_pixel, output_pixel}
+use Rattle.argb.specs.Planes.{picture_of}
+use Rattle.argb.specs.Scaled.{Picture, sample_pixel, output_pixel}
 use Rattle.argb.proofs.Places.{product-most}
 use Rattle.argb.proofs.Pointwise.{scaled-none}
 use Rattle.argb.proofs.Rows.{none_written, written_on, all-written, next_in, still-long, row_made, row_spread, row_before, row-again, copied}
@@ -11,14 +12,13 @@ use Rattle.argb.proofs.scaled.write_rgb_scaled.Goals.{then-sy-shown, else-sy-sho
 pub returns-then-dst_w-eq0 : goal.returns-then-dst_w-eq0
 returns-then-dst_w-eq0 c =
     let a = c.args in
-    let q = a.planes.now in
-    sym (scaled-none (picture q.size.width q.size.height q.size.luma_width q.y.now q.cr.now q.cb.now) a.dst_w a.dst_h a.dst.now (inl c.if-dst_w-eq0.true))
+    sym (scaled-none (picture_of a.planes.now) a.dst_w a.dst_h a.dst.now (inl c.if-dst_w-eq0.true))
 
 pub loop-ty-init : goal.loop-ty-init
 loop-ty-init c = none_written refl
 
 pub overflow_mul-sy : goal.overflow_mul-sy
-overflow_mul-sy c = omega (arith, product-most c.loop-ty.ty c.args.planes.now.size.height (omega arith) (omega arith))
+overflow_mul-sy c = omega (arith, product-most c.loop-ty.ty c.args.planes.now.height (omega arith) (omega arith))
 
 pub overflow_mul-to : goal.overflow_mul-to
 overflow_mul-to c = omega (arith, product-most c.loop-ty.ty c.args.dst_w (omega arith) (omega arith))
@@ -26,8 +26,7 @@ overflow_mul-to c = omega (arith, product-most c.loop-ty.ty c.args.dst_w (omega 
 pub loop-ty-preserved : goal.loop-ty-preserved
 loop-ty-preserved c =
     let a = c.args in
-    let q = a.planes.now in
-    let p : Picture = picture q.size.width q.size.height q.size.luma_width q.y.now q.cr.now q.cb.now in
+    let p : Picture = picture_of a.planes.now in
     let whole = c.args.planes.now.fit in
     let i = c.loop-ty.invariant in
     let y = c.loop-ty.ty in
@@ -49,7 +48,7 @@ loop-ty-preserved c =
       | then-sy-shown w ↦ ap length w.row-is ∙ i.colours
       | else-sy-shown+then-width-dst_w w ↦
           ap length w.row-is
-          ∙ still-long row (λ x. sample_pixel p x (y * p.height / a.dst_h)) q.size.luma_width w.colour_row.ensures i.colours
+          ∙ still-long row (λ x. sample_pixel p x (y * p.height / a.dst_h)) p.luma_width w.colour_row.ensures i.colours
       | else-sy-shown+else-width-dst_w w ↦ ap length w.row-is ∙ i.colours
     ] in
     written_on i c.loop-ty-test.true made long

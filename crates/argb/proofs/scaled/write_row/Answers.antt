@@ -1,6 +1,7 @@
 -- One pixel more, of the sample at the column that is known.
 use Rattle.std.proofs.Common.{◌≡◌, ℕ, ◌*◌, ◌/◌, ◌<◌, ap, ◌∙◌, arith}
 use Rattle.laws.proofs.Lists.{none-stored, stored_on, all-stored}
+use Rattle.argb.specs.Planes.{picture_of}
 use Rattle.argb.specs.Scaled.{Picture, picture, PlanesFit, sample_pixel}
 use Rattle.argb.proofs.Columns.{Shows, shows_first, shows-on, column, column-below, further-asks}
 use Rattle.argb.proofs.Places.{product-most, Inside, sample-inside}
@@ -11,10 +12,10 @@ inside : {p : Picture} {w x sx rest : ℕ} (sy : ℕ) → PlanesFit p → Shows 
 inside {sx = sx} sy whole s h r = sample-inside whole sx sy (omega (arith, column-below s h whole.wide.0, whole.wide)) r
 
 pub overflow_mul-y_row : goal.overflow_mul-y_row
-overflow_mul-y_row c = omega (arith, product-most c.args.sy c.args.planes.now.size.luma_width (omega arith) (omega arith))
+overflow_mul-y_row c = omega (arith, product-most c.args.sy c.args.planes.now.luma_width (omega arith) (omega arith))
 
 pub overflow_mul-c_row : goal.overflow_mul-c_row
-overflow_mul-c_row c = omega (arith, product-most (c.args.sy / 2) (c.args.planes.now.size.luma_width / 2) (omega arith) (omega arith))
+overflow_mul-c_row c = omega (arith, product-most (c.args.sy / 2) (c.args.planes.now.luma_width / 2) (omega arith) (omega arith))
 
 pub loop-tx-init : goal.loop-tx-init
 loop-tx-init c = record { pixels = none-stored; next = shows_first (omega arith) }
@@ -36,13 +37,11 @@ further-c-requires c =
 
 -- what a turn stores is the pixel of the rule
 stored : (c : goal.After-further-c) → let a = c.args in let p = a.planes.now in
-    c.pixel.result ≡ sample_pixel (picture p.size.width 0 p.size.luma_width p.y.now p.cr.now p.cb.now) (c.loop-tx.tx * p.size.width / a.dst_w) a.sy
+    c.pixel.result ≡ sample_pixel (picture p.width 0 p.luma_width p.y.now p.cr.now p.cb.now) (c.loop-tx.tx * p.width / a.dst_w) a.sy
 unfolding sample_pixel
 stored c =
     let a = c.args in
-    let q = a.planes.now in
-    let p = picture q.size.width q.size.height q.size.luma_width q.y.now q.cr.now q.cb.now in
-    c.pixel.ensures ∙ ap (λ (n : ℕ). sample_pixel p n a.sy) (column c.loop-tx.invariant.next)
+    c.pixel.ensures ∙ ap (λ (n : ℕ). sample_pixel (picture_of a.planes.now) n a.sy) (column c.loop-tx.invariant.next)
 
 pub loop-tx-preserved : goal.loop-tx-preserved
 loop-tx-preserved c =
