@@ -7,6 +7,6 @@ invariant_of-planes c =
     let q = c.requires in
     record {
       fit =
-        rw (c.plane-y.ensures, c.plane-cr.ensures, c.plane-cb.ensures)
-        (picture-whole c.args.q c.args.store.now c.args.index q.has_header q.mb_size_in_bounds q.index_bound.0);
+          rw (c.plane-y.ensures, c.plane-cr.ensures, c.plane-cb.ensures)
+          (picture-whole c.args.q c.args.store.now c.args.index q.has_header q.mb_size_in_bounds q.index_bound.0);
     }
