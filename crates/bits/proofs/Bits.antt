@@ -49,20 +49,18 @@ byte_more s b n m e h =
     ∙ ap (λ (k : ℕ). bits_at s (b * 8) m * 256 + bits_at s k 8) (omega arith)
     ∙ ap (λ (k : ℕ). bits_at s (b * 8) m * 256 + k) (byte-bits s (b + n) h)
 
--- five bytes, as the code reads and joins them
-pub five-bytes : (s : List ℕ) (b : ℕ) {v w x y z n : ℕ} → (v ≡ get_or s b 0) × (v < 256) → (w ≡ get_or s (b + 1) 0) × (w < 256)
-    → (x ≡ get_or s (b + 2) 0) × (x < 256)
-    → (y ≡ get_or s (b + 3) 0) × (y < 256) → (z ≡ get_or s (b + 4) 0) × (z < 256) → n ≡ v * 4294967296 + w * 16777216 + x * 65536 + y * 256 + z
-    → n ≡ bits_at s (b * 8) 40
-five-bytes s b p q r t u e =
+-- five bytes joined, the first the highest
+pub five-bytes : (s : List ℕ) (b : ℕ) → ((i : ℕ) → get_or s i 0 < 256)
+    → get_or s b 0 * 4294967296 + get_or s (b + 1) 0 * 16777216 + get_or s (b + 2) 0 * 65536 + get_or s (b + 3) 0 * 256 + get_or s (b + 4) 0
+    ≡ bits_at s (b * 8) 40
+five-bytes s b h =
     omega (
       arith,
-      e,
-      byte-bits s b (omega arith),
-      byte_more s b 1 8 refl (omega arith),
-      byte_more s b 2 16 refl (omega arith),
-      byte_more s b 3 24 refl (omega arith),
-      byte_more s b 4 32 refl (omega arith),
+      byte-bits s b (h b),
+      byte_more s b 1 8 refl (h (b + 1)),
+      byte_more s b 2 16 refl (h (b + 2)),
+      byte_more s b 3 24 refl (h (b + 3)),
+      byte_more s b 4 32 refl (h (b + 4)),
     )
 
 -- c bits after the first o, and r more after them

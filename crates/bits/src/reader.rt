@@ -42,18 +42,10 @@ fn byte(s: &[u8], i: usize) -> u64
 }
 
 // A byte of the stream, and 0 past its end.
-fn byte_or_0(s: &[u8], i: usize) -> u64
-    ensures { (result ≡ get_or s.now i 0) × (result < 256) }
+fn byte_or_0(s: &[u8], i: usize) -> u8
+    ensures { result ≡ get_or s.now i 0 }
 {
-    if i < s.len() { byte(s, i) } else { 0 }
-}
-
-// Five bytes as one number, the first the highest.
-fn five_bytes(a: u64, b: u64, c: u64, d: u64, e: u64) -> u64
-    requires { (a < 256) × (b < 256) × (c < 256) × (d < 256) × (e < 256) }
-    ensures { result ≡ a * 4294967296 + b * 16777216 + c * 65536 + d * 256 + e }
-{
-    a * 4294967296 + b * 16777216 + c * 65536 + d * 256 + e
+    s.get(i).copied().unwrap_or(0)
 }
 
 // The five bytes from b on as one number: 32 bits lie within them, wherever in the first byte they begin.
@@ -62,21 +54,18 @@ fn window(s: &[u8], b: usize) -> u64
     ensures { result ≡ bits_at s.now (b * 8) 40 }
 {
     if b + 5 <= s.len() {
-        return five_bytes(
-            byte(s, b),
-            byte(s, b + 1),
-            byte(s, b + 2),
-            byte(s, b + 3),
-            byte(s, b + 4),
-        );
+        return u64::from_be_bytes([0, 0, 0, s[b], s[b + 1], s[b + 2], s[b + 3], s[b + 4]]);
     }
-    five_bytes(
+    u64::from_be_bytes([
+        0,
+        0,
+        0,
         byte_or_0(s, b),
         byte_or_0(s, b + 1),
         byte_or_0(s, b + 2),
         byte_or_0(s, b + 3),
         byte_or_0(s, b + 4),
-    )
+    ])
 }
 
 impl Reader {
