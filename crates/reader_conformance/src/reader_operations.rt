@@ -96,8 +96,8 @@ fn peeked(bytes: Option<&[u8]>) -> Option<u32>
     }
 }
 
-// Ours, on the stream s: its answer as the list holds it, and the reader after it. A `match`, since each arm takes and gives something else. There is none where the list names no operation, or an argument that
-// the operation does not take.
+// Ours, on the stream s: its answer as the list holds it, and the reader after it. There is none where the list names no operation, or an argument that
+// the operation does not take. A `match`, since each arm takes and gives something else.
 #[tactic(auto, unfolding(crate::specs::Operations::outcome))]
 pub fn operate(s: &[u8], reader: Reader, op: Operation, argument: u32) -> Read<Option<u32>>
     requires { ReaderInBounds s.now reader }

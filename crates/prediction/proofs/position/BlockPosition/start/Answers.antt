@@ -28,7 +28,8 @@ pub overflow_mul-result : goal.overflow_mul-result
 overflow_mul-result c = need (inputs c.requires.block_in_plane c.args.vector.h c.args.vector.v c.args.vector.in_reach _ c.width-dw.ensures) product tt
 
 pub overflow_add-result-2 : goal.overflow_add-result-2
-overflow_add-result-2 c = need (inputs c.requires.block_in_plane c.args.vector.h c.args.vector.v c.args.vector.in_reach _ c.width-dw.ensures) (product ⊹ var 3) tt
+overflow_add-result-2 c =
+    need (inputs c.requires.block_in_plane c.args.vector.h c.args.vector.v c.args.vector.in_reach _ c.width-dw.ensures) (product ⊹ var 3) tt
 
 pub overflow_add-result-3 : goal.overflow_add-result-3
 overflow_add-result-3 c = need (inputs c.requires.block_in_plane c.args.vector.h c.args.vector.v c.args.vector.in_reach _ c.width-dw.ensures) sum tt
@@ -37,4 +38,5 @@ pub returns : goal.returns
 returns c =
     let a = c.args in
     value (inputs c.requires.block_in_plane a.vector.h a.vector.v c.args.vector.in_reach _ c.width-dw.ensures) sum tt
-    ∙ ap (λ (w : ℕ). (pos (a.self.row * a.self.size) +ℤ shr_z a.vector.v 2) *ℤ pos w +ℤ pos (a.self.column * a.self.size) +ℤ shr_z a.vector.h 2) c.width-dw.ensures
+    ∙ ap (λ (w : ℕ). (pos (a.self.row * a.self.size) +ℤ shr_z a.vector.v 2) *ℤ pos w +ℤ pos (a.self.column * a.self.size) +ℤ shr_z a.vector.h 2)
+    c.width-dw.ensures
