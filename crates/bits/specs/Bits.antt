@@ -1,7 +1,7 @@
 -- A stream is a list of bytes, and a place in it a count of bits from its beginning. What stands at a place: the value of a string of bits,
 -- the next byte boundary, a run of equal bytes, the first start code.
 use Rattle.std.specs.Prelude.{ℕ, zero, suc, ◌+◌, ◌-◌, ◌*◌, ◌/◌, ◌%◌, ◌^◌, List, [], Bool, cond, ◌&&◌, length, get_or, take, drop, leb, eqb}
-use Rattle.std.specs.Prelude.{ℤ, pos, negsuc, Option, Some, None, unwrap_or}
+use Rattle.std.specs.Prelude.{◌≤◌, ℤ, pos, negsuc, Option, Some, None, unwrap_or}
 
 -- RULES 1.1: the bit k of s, counted from the highest bit of the first byte; 0 past the end
 unfoldable pub bit_at : List ℕ → ℕ → ℕ
@@ -58,6 +58,11 @@ has_bytes s a n = leb (a / 8 + n) (length s)
 -- RULES 1.15: those bytes, or none
 abbrev pub part_at : List ℕ → ℕ → ℕ → Option (List ℕ)
 part_at s a n = cond (has_bytes s a n) (Some (take n (drop (a / 8) s))) None
+
+-- a part that begins with the byte b ends within the first n bytes
+abbrev pub Within : Option (List ℕ) → ℕ → ℕ → Type 0
+Within (Some bytes) b n = b + length bytes ≤ n
+Within None b n = Unit {0}
 
 -- the bytes of a part
 abbrev pub bytes_of : Option (List ℕ) → List ℕ

@@ -1,7 +1,7 @@
 // Whole bytes at a place.
-ghost use Rattle.std.specs.Prelude.{◌≡◌, ◌+◌, ◌-◌, ◌*◌, length};
+ghost use Rattle.std.specs.Prelude.{◌≡◌, ◌+◌, ◌-◌, ◌*◌, ◌/◌, length};
 ghost use Rattle.std.specs.Option.{option_copied};
-ghost use Rattle.bits.specs.Bits.{boundary, equal_bytes, part_at};
+ghost use Rattle.bits.specs.Bits.{boundary, equal_bytes, part_at, Within};
 ghost use Rattle.bits.specs.Runs.{ReaderInBounds, position_of};
 
 use crate::position::{BytePosition, bit_of};
@@ -16,7 +16,9 @@ impl Reader {
         ensures reader_in_bounds { ReaderInBounds s.now result.reader }
     {
         let from = self.align().tell().value.0;
-        let count = s.iter().skip(from).take_while(|b| **b == v).count();
+        // not `skip`, which goes over the bytes before
+        let rest = &s[from.min(s.len())..];
+        let count = rest.iter().take_while(|b| **b == v).count();
         Read {
             reader: Reader {
                 at: bit_of(BytePosition(from + count)),
@@ -28,6 +30,7 @@ impl Reader {
     // The count bytes from the byte of the place on, if they lie inside.
     pub fn peek_bytes<'s>(self, s: &'s [u8], count: usize) -> Read<Option<&'s [u8]>>
         ensures part_value { (option_copied result.value ≡ part_at s.now (position_of self) count) × (result.reader ≡ self) }
+        ensures within { Within (option_copied result.value) (position_of self / 8) (length s.now) }
     {
         let from = self.tell().value.0;
         let value = match s.get(from..) {

@@ -1,9 +1,9 @@
 -- The count of the bytes that the chain takes.
-use Rattle.std.proofs.Common.{◌≡◌, refl, sym, ◌∙◌, drop, eqb, arith, rules, tests}
+use Rattle.std.proofs.Common.{◌≡◌, refl, sym, ap, ◌∙◌, drop, eqb, arith, rules, tests}
 use Rattle.std.proofs.lemmas.Iterator.{YieldsList-from_slice}
-use Rattle.std.proofs.lemmas.Iterator.Adapters.{YieldsList-from_skip}
 use Rattle.std.proofs.lemmas.Iterator.Consumers.{count_from_yields_List}
 use Rattle.std.proofs.lemmas.Iterator.Search.{YieldsList-from_take_while}
+use Rattle.std.proofs.lemmas.List.{drop_min, take_rest}
 use Rattle.std.proofs.lemmas.List.Folds.{length-prefix_len}
 use Rattle.bits.specs.Bits.{boundary}
 use Rattle.bits.proofs.WholeBytes.{equal-prefix}
@@ -15,8 +15,10 @@ returns-clause-count_value c =
     let v = c.args.v in
     let from = c.tell-from.result.value.0 in
     let at : from ≡ boundary c.args.self.at.0 = omega arith in
-    let bytes = YieldsList-from_skip from (YieldsList-from_slice s cc) cc in
+    let behind = ap (λ i. i.rest.now) c.take_while.ensures.source ∙ c.iter.ensures.rest ∙ take_rest s c.min.result
+    ∙ ap (λ m. drop m s) c.min.ensures ∙ drop_min from s in
     count_from_yields_List c.take_while.result _ c.count-count.ensures.ran
-    (YieldsList-from_take_while _ (λ b. eqb b v) bytes c.take_while.ensures.closure c.take_while.ensures.done (λ x b q k. search (rules, tests)))
+    (YieldsList-from_take_while _ (λ b. eqb b v) (YieldsList-from_slice (drop from s) behind) c.take_while.ensures.closure c.take_while.ensures.done
+    (λ x b q k. search (rules, tests)))
     ∙ length-prefix_len (λ b. eqb b v) (drop from s)
     ∙ rw at (sym (equal-prefix s v _ _ refl))
