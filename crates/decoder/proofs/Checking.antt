@@ -55,7 +55,7 @@ module _ (s : List ℕ) (d : Decoder) {x : Decoder} (e : x ≡ find_sequence s d
 
 -- RULES Q6
 module _ (d : Decoder) (l : List ℕ) (x : Decoder) where
-  room-told : (n : ℕ) → refused n x ≡ check_store d l (refused n x)
+  pub room-told : (n : ℕ) → refused n x ≡ check_store d l (refused n x)
   unfolding check_store
   room-told n = refl
 

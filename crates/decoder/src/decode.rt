@@ -51,26 +51,6 @@ fn call_result_of(mut before: Decoder, d: Decoder, t: StepResult, left: [i32; 64
     }
 }
 
-// RULES 8.2 to 8.14: the pictures of a call that was given `before`, from the record d on.
-fn decode_pictures(s: &[u8], store: &mut [u8], before: Decoder, d: Decoder) -> DecodeResult
-    requires fit { Fit d }
-    requires s_len_bound { length s.now ≤ longest_stream }
-    requires store_bound { Record.store_bytes d ≤ length store.old }
-    ensures { Record.call_result result.outcome result.decoder store.new
-        ≡ Out.call_result_of before d (Steps.pictures s.now d.sequence.sizes d.sequence.matrices (Record.decoding_state_of d store.old)) }
-{
-    let mut values = d.block_data;
-    let t = pictures(
-        s,
-        store,
-        &mut values,
-        d.sequence.sizes,
-        &d.sequence.matrices,
-        d.state,
-    );
-    call_result_of(before, d, t, values)
-}
-
 // RULES 8.1, O.4: the first hand-out of a record without a header. The questions 3 to 6, the store becomes 0, and the pictures.
 fn with_header(s: &[u8], store: &mut [u8], before: Decoder) -> DecodeResult
     requires fit { Fit before }
@@ -83,8 +63,18 @@ fn with_header(s: &[u8], store: &mut [u8], before: Decoder) -> DecodeResult
     if let Some(refusal) = checked.refusal {
         return refused(checked.decoder, refusal.number());
     }
-    clear(store, store_bytes(checked.decoder));
-    decode_pictures(s, store, before, checked.decoder)
+    let d = checked.decoder;
+    clear(store, store_bytes(d));
+    let mut values = d.block_data;
+    let t = pictures(
+        s,
+        store,
+        &mut values,
+        d.sequence.sizes,
+        &d.sequence.matrices,
+        d.state,
+    );
+    call_result_of(before, d, t, values)
 }
 
 impl Decoder {
@@ -108,6 +98,15 @@ impl Decoder {
         if store.len() < store_bytes(self) {
             return refused(self, 6);
         }
-        decode_pictures(stream, store, self, self)
+        let mut values = self.block_data;
+        let t = pictures(
+            stream,
+            store,
+            &mut values,
+            self.sequence.sizes,
+            &self.sequence.matrices,
+            self.state,
+        );
+        call_result_of(self, self, t, values)
     }
 }

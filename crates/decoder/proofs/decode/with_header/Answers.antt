@@ -19,5 +19,5 @@ returns c =
     let h = c.requires.has_sequence_header_value in
     let asks = k.ensures.is l refl ∙ first-new a.s.now a.before l h c.check_header.ensures.decoder_value in
     go_on a.s.now a.before l k.result.decoder (rw c.in_default.is at asks)
-    (c.decode_pictures.ensures
-    ∙ played a.s.now a.before k.result.decoder l refl (begun-new a.before k.result.decoder l h c.clear.ensures c.store_bytes.ensures))
+    (c.call_result_of.ensures c.pictures-t.new.store
+    ∙ played a.s.now a.before k.result.decoder l c.pictures-t.ensures (begun-new a.before k.result.decoder l h c.clear.ensures c.store_bytes.ensures))

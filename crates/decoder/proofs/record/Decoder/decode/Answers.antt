@@ -1,6 +1,5 @@
 -- At each "no", and behind all questions.
 use Rattle.std.proofs.Common.{refl, sym, ◌∙◌}
-use borrow.Author.Tests.{not-false}
 use Rattle.decoder.proofs.Checking.{room-yes, room-no}
 use Rattle.decoder.proofs.Fits.{fit_of}
 use Rattle.decoder.proofs.Decoding.{begun_had, played, first_had, go-no, go_on, after-decode-1, after-decode-2, decode-mark, decode-on}
@@ -43,21 +42,21 @@ returns-then-store-store_bytes c =
     let l = a.store.now in
     c.refused-then-store-store_bytes.ensures l
     ∙ go-no a.stream.now a.self l a.self 6
-    (room-no a.self l a.self (rw c.store_bytes.ensures at c.if-store-store_bytes.true) ∙ first_had a.stream.now a.self l (not-false _ c.if-not-self.false))
+    (room-no a.self l a.self (rw c.store_bytes.ensures at c.if-store-store_bytes.true) ∙ first_had a.stream.now a.self l c.if-not-self.false)
     ∙ decode-on a.stream.now a.self l c.if-stream-gt-LONGEST_STREAM.false (sym c.possible_with.ensures ∙ c.if-not-possible_with.false)
     c.if-mark-ne0.false
 
-pub decode_pictures-requires-clause-fit : goal.decode_pictures-requires-clause-fit
-decode_pictures-requires-clause-fit c = fit_of (sym c.possible_with.ensures ∙ c.if-not-possible_with.false)
+pub pictures-t-requires-clause-fit_state : goal.pictures-t-requires-clause-fit_state
+pictures-t-requires-clause-fit_state c = (fit_of (sym c.possible_with.ensures ∙ c.if-not-possible_with.false)).state
 
 pub returns : goal.returns
 returns c =
     let a = c.args in
     let d = a.self in
     let l = a.store.now in
-    let h = not-false _ c.if-not-self.false in
+    let h = c.if-not-self.false in
     go_on a.stream.now d l d
     (room-yes d l d (rw c.store_bytes.ensures at c.if-store-store_bytes.false) ∙ first_had a.stream.now d l h)
-    (c.decode_pictures.ensures ∙ played a.stream.now d d l refl (begun_had d l h))
+    (c.call_result_of.ensures c.pictures-t.new.store ∙ played a.stream.now d d l c.pictures-t.ensures (begun_had d l h))
     ∙ decode-on a.stream.now a.self l c.if-stream-gt-LONGEST_STREAM.false (sym c.possible_with.ensures ∙ c.if-not-possible_with.false)
     c.if-mark-ne0.false
