@@ -2,11 +2,10 @@
 use mathlib.Core.Path.{◌≡◌, refl, sym, ap, ap₂, ◌∙◌, subst}
 use mathlib.Core.List.{List}
 use mathlib.Core.Logic.{◌⊎◌, inl, inr}
-use Prim.Native.Nat.{ℕ, zero, suc, ◌+◌, ◌*◌, ◌-◌, ◌/◌, ◌%◌, ◌≤◌, ◌<◌}
+use Prim.Native.Nat.{ℕ, ◌+◌, ◌*◌, ◌-◌, ◌/◌, ◌%◌, ◌≤◌, ◌<◌}
 use native.Mathlib.Nat.{zero-mul, mul_comm, mul-add-div_right, mul-add-mod_self_right, mod-eq_of_lt, div-eq_of_lt, mul-le-mul_right}
 use native.Mathlib.Omega.{arith}
-use lib.ListN.{length, get_or, set, drop, length-drop}
-use lib.Seq.{paste, paste-zero, paste-suc, get_or-drop}
+use lib.ListN.{length, get_or}
 use Rattle.laws.specs.Stores.{store_row}
 use Rattle.laws.proofs.Lists.{length-row, row_join, row-alike, row_in, Stored, none-stored, all-stored}
 use Rattle.argb.specs.Scaled.{Picture, PlanesFit, sample_pixel, output_pixel, pixel_at, scaled}
@@ -79,23 +78,6 @@ pub still-long : (row : List ℕ) (f : ℕ → ℕ) (n : ℕ) {now : List ℕ} �
 still-long row f n e h = ap length e ∙ length-row row 0 f n ∙ h
 
 -- ---- three ways to make row y
-
--- a copy as stores, one after the other
-copied-to : (l s : List ℕ) (at n : ℕ) → at + n ≤ length l → n ≤ length s → paste l at s n ≡ store_row l at (λ x. get_or s x 0) n
-unfolding store_row
-copied-to l s at zero h k = sym (paste-zero l at s)
-copied-to l s at (suc n) h k =
-    sym (paste-suc l at s n 0 (omega arith) (omega arith))
-    ∙ ap (λ (z : List ℕ). set z (at + n) (get_or s n 0)) (copied-to l s at n (omega arith) (omega arith))
-
--- of the w pixels that end at `to`, once more from `to` on
-pub copied : (l : List ℕ) (to w : ℕ) → w ≤ to → to + w ≤ length l
-    → paste l to (drop (to - w) l) (to - (to - w)) ≡ store_row l to (λ x. get_or l (to - w + x) 0) w
-copied l to w h k =
-    let e : to - (to - w) ≡ w = omega arith in
-    rw e
-    (copied-to l (drop (to - w) l) to w k (omega (arith, length-drop (to - w) l))
-    ∙ row-alike l to _ _ w (λ x q. get_or-drop (to - w) l x 0))
 
 -- of samples
 pub row_made : (p : Picture) (w h y : ℕ) (before : List ℕ) {now : List ℕ}

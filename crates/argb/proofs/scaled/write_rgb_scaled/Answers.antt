@@ -5,7 +5,7 @@ use Rattle.argb.specs.Planes.{picture_of}
 use Rattle.argb.specs.Scaled.{Picture, sample_pixel, output_pixel}
 use Rattle.argb.proofs.Places.{product-most}
 use Rattle.argb.proofs.Pointwise.{scaled-none}
-use Rattle.argb.proofs.Rows.{none_written, written_on, all-written, next_in, still-long, row_made, row_spread, row_before, row-again, copied}
+use Rattle.argb.proofs.Rows.{none_written, written_on, all-written, still-long, row_made, row_spread, row-again}
 use Rattle.argb.proofs.scaled.write_rgb_scaled.Goals as goal
 use Rattle.argb.proofs.scaled.write_rgb_scaled.Goals.{then-sy-shown, else-sy-shown+then-width-dst_w, else-sy-shown+else-width-dst_w}
 
@@ -35,10 +35,8 @@ loop-ty-preserved c =
     let made : c.if-sy-shown.dst ≡ store_row before (y * a.dst_w) (output_pixel p a.dst_w a.dst_h y) a.dst_w =
     elim c.if-sy-shown.branch [
       | then-sy-shown w ↦
-          let above = row_before whole a.dst_w a.dst_h y i c.loop-ty-test.true w.if-sy-shown.true in
-          let fits = next_in i c.loop-ty-test.true c.requires.dst_h_in_bounds in
           row-again whole a.dst_w a.dst_h y i c.loop-ty-test.true w.if-sy-shown.true c.requires.dst_h_in_bounds
-          (w.dst-is ∙ w.copy_within.ensures.after ∙ copied before (y * a.dst_w) a.dst_w above fits)
+          (w.dst-is ∙ w.copy_row.ensures)
       | else-sy-shown+then-width-dst_w w ↦
           row_spread whole a.dst_w a.dst_h y row before i.colours w.colour_row.ensures (w.dst-is ∙ w.spread_row.ensures)
       | else-sy-shown+else-width-dst_w w ↦ row_made p a.dst_w a.dst_h y before (w.dst-is ∙ w.write_row.ensures)
