@@ -4,13 +4,47 @@
 mod list;
 mod text;
 
+ghost use Rattle.std.specs.Prelude.{◌≡◌, length, IfOk, OnErr};
+ghost use Rattle.io.specs.Counts.{IsPrefixLen};
+
 use std::io::{Read, Result};
 
-// Of a stream that is too long it reads one byte more, by which it is known. The page has room for the longest listing.
+// Room for a stream and one byte more, by which a longer one is known. It and the page are arrays: the program asks for no memory but its stack, so that
+// nothing is refused to it on the way.
+fn input() -> [u8; 65537]
+    ensures { 65537 ≡ length result }
+{
+    [0; 65537]
+}
+
+// Room for the longest listing.
+fn page() -> [u8; 1572864]
+    ensures { 1572864 ≡ length result }
+{
+    [0; 1572864]
+}
+
+// Reads until the room is full or nothing is left, and answers how many bytes it has: `read_exact` would refuse a shorter stream. What an error of a read
+// leaves in the room is not known.
+fn read_full<R: Read>(reader: &mut R, room: &mut [u8]) -> Result<usize>
+    ensures ok { IfOk result (λ count. IsPrefixLen count room.new) }
+    ensures err { OnErr result (length room.new ≡ length room.old) }
+{
+    let mut done = 0;
+    while done < room.len() {
+        let count = reader.read(&mut room[done..])?;
+        if count == 0 {
+            break;
+        }
+        done += count;
+    }
+    Ok(done)
+}
+
 fn main(rt: HostRuntime) -> Result<()> {
-    let mut stream = Vec::new(rt.alloc());
-    rt.stdin().take(65537).read_to_end(&mut stream)?;
-    let mut page = vec![in rt.alloc(); 0u8; 1572864]?;
-    let end = list::list(&stream, &mut page);
+    let mut stream = input();
+    let mut page = page();
+    let count = read_full(&mut rt.stdin(), &mut stream)?;
+    let end = list::list(&stream[..count], &mut page);
     rt.write_all(&page[..end])
 }
