@@ -37,7 +37,7 @@ without_stop (Some k) h = absurd (h k refl)
 
 module _ (s : List ℕ) (z : Sizes) (m : Matrices) (x : DecodingState) (q : Picture) (c : List ℤ) (l : List ℕ) {to : Reader} (n : ℕ)
     (r : RunsNumbered (picture z m (picture_state_of x)) s (reader_at (position x.state)) (result_of n (picture_state q c l) l) to) where
-  decoded-out : (n ≡ 0 → ⊥) → ◌≡◌ {A = Step DecodingState LoopEnd} (finish (aborted n l)) (decoded s z m x)
+  pub decoded-out : (n ≡ 0 → ⊥) → ◌≡◌ {A = Step DecodingState LoopEnd} (finish (aborted n l)) (decoded s z m x)
   unfolding decoded after_picture
   decoded-out g = go n g r.value r.runs r.is
     where

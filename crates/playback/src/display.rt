@@ -7,7 +7,7 @@ ghost use Rattle.playback.specs.Display as Rules;
 ghost use Rattle.playback.specs.StepResults.{RefinesStep};
 
 use crate::outcome::{Outcome, StepEnd, StepResult, shown_picture};
-use crate::state::State;
+use crate::state::{Clock, State};
 use bits::reader::Reader;
 
 // RULES 8.9: the time of n pictures at a rate, rounded once.
@@ -24,11 +24,15 @@ fn counted(mut d: State) -> State
     ensures { result ≡ Rules.counted d }
 {
     let n = d.display.frames_decoded + 1;
-    let rate = d.display.clock.framerate;
+    let clock = d.display.clock;
+    let rate = clock.framerate;
     let time = time_of(n, rate);
+    d.display.clock = Clock {
+        time,
+        last_frame_time: clock.time,
+        ..clock
+    };
     d.display.frames_decoded = n;
-    d.display.clock.last_frame_time = d.display.clock.time;
-    d.display.clock.time = time;
     d
 }
 

@@ -53,8 +53,17 @@ module _ {m : Macroblock} (i : MacroblockInPicture m) where
   pub chroma_in : chroma_address (m.across * 8) m.row m.column + 7 * (m.across * 8) + 8 ≤ 64 * macroblocks m
   chroma_in = omega (arith, block_in (placed Cr))
 
+-- the side of a macroblock's block in a plane
+pub size-most : (q : Plane) → block_size q ≤ 16
+size-most Y = omega arith
+size-most Cr = omega arith
+size-most Cb = omega arith
+
 -- block 0 to 5 lies in its plane
 module _ {m : Macroblock} (i : MacroblockInPicture m) (number : ℕ) where
+  pub width-most : block_width m number ≤ 4096
+  width-most = mul-le-mul i.across (size-most (plane_of number))
+
   pub position_in : block_address m number + 7 * block_width m number + 8 ≤ plane_length (plane_of number) (macroblocks m)
   unfolding block_address
   position_in = go (ltb number 4) (eqb number 4)
