@@ -92,8 +92,8 @@ fn spread_row(row: &[u32; 4096], width: usize, dst: &mut [u32], dst_w: usize, to
     }
 }
 
-// The row of dst_w pixels that ends at `to`, once more from `to` on. By a loop, which becomes vectors: `copy_within` takes up to half as long again on rows of a
-// few pixels.
+// The row of dst_w pixels that ends at `to`, once more from `to` on. By a loop, which becomes vectors: `copy_within` takes up to half as long again on
+// rows of a few pixels.
 fn copy_row(dst: &mut [u32], dst_w: usize, to: usize)
     requires { (dst_w ≤ to) × (to + dst_w ≤ length dst.old) }
     ensures { dst.new ≡ store_row dst.old to (λ x. get_or dst.old (to - dst_w + x) 0) dst_w }

@@ -1,7 +1,6 @@
 // RULES part 8, Q: the hand-out.
 ghost use Rattle.std.specs.Prelude.{◌≡◌, false, List, ℕ, ◌≤◌, length};
 ghost use Rattle.playback.specs.declared.outcome.Outcome.TheVariants as Outcomes;
-ghost use Rattle.playback.specs.Steps as Steps;
 ghost use Rattle.playback.specs.StepResults.{end_of};
 ghost use Rattle.decoder.specs.Record as Record;
 ghost use Rattle.decoder.specs.Fit.{Fit};
@@ -63,6 +62,7 @@ fn with_header(s: &[u8], store: &mut [u8], before: Decoder) -> DecodeResult
     if let Some(refusal) = checked.refusal {
         return refused(checked.decoder, refusal.number());
     }
+    // the pictures as in `decode`, and not by one function for both, which would be given copies of the record (DECISIONS decoder.6)
     let d = checked.decoder;
     clear(store, store_bytes(d));
     let mut values = d.block_data;

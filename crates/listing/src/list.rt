@@ -49,6 +49,7 @@ fn list_lines(stream: &[u8], page: &mut [u8], at: usize) -> usize
     if 65536 < stream.len() {
         return write_line(page, at, 0, 0, 0, 1);
     }
+    // on the stack, as the program asks for no other memory
     let mut store = [0u8; 55296];
     let opened = Decoder::open(stream, &mut store);
     let opening = opened.answer;

@@ -1,5 +1,5 @@
 -- At each "no", and behind all questions.
-use Rattle.std.proofs.Common.{refl, sym, ◌∙◌}
+use Rattle.std.proofs.Common.{sym, ◌∙◌}
 use Rattle.decoder.proofs.Checking.{room-yes, room-no}
 use Rattle.decoder.proofs.Fits.{fit_of}
 use Rattle.decoder.proofs.Decoding.{begun_had, played, first_had, go-no, go_on, after-decode-1, after-decode-2, decode-mark, decode-on}
